@@ -1,0 +1,155 @@
+// Fields, numbers and runs of octets in lent slices. What has a `requires` is inner: its caller in the library shows it.
+ghost use mathlib.Core.Path.{_≡_};
+ghost use Prim.Native.Nat.{_+_, _*_, _%_, _^_, _<_, _≤_, min};
+ghost use lib.ListN.{length, replicate};
+ghost use Rattle.paper.specs.Octets.{put, octetsOf, over};
+ghost use Rattle.paper.proofs.FieldLaws.{fieldOf, withField};
+ghost use Rattle.octets.specs.Fields.{Within, FieldRead, NumberRead};
+
+fn least(a: usize, b: usize) -> usize
+    ensures { λ r. ⌜ r ≡ min a b ⌝ }
+{
+    if a < b { a } else { b }
+}
+
+// The low n bits of x.
+fn low(x: u64, n: usize) -> u64
+    requires { ⌜ n < 64 ⌝ }
+    ensures { λ r. ⌜ r ≡ x % 2 ^ n ⌝ }
+{
+    x & ((1 << n) - 1)
+}
+
+// hi, then the n bits lo.
+fn join(hi: u64, n: usize, lo: u64) -> u64
+    requires { ⌜ (n < 64) × (lo < 2 ^ n) × (hi * 2 ^ n + lo < 2 ^ 64) ⌝ }
+    ensures { λ r. ⌜ r ≡ hi * 2 ^ n + lo ⌝ }
+{
+    hi << n | lo
+}
+
+// The n bits from bit b of the octet x.
+fn field_of(x: u8, b: usize, n: usize) -> u64
+    requires { ⌜ (0 < n) × (b + n ≤ 8) ⌝ }
+    ensures { λ r. ⌜ r ≡ fieldOf x b n ⌝ }
+{
+    low(x as u64 >> (8 - (b + n)), n)
+}
+
+// The octet x with the low n bits of v from bit b.
+fn with_field(x: u8, b: usize, n: usize, v: u64) -> u8
+    requires { ⌜ b + n ≤ 8 ⌝ }
+    ensures { λ r. ⌜ r ≡ withField x b n v ⌝ }
+{
+    let y = x as u64;
+    let k = 8 - (b + n);
+    join(join(y >> (8 - b), n, low(v, n)), k, low(y, k)) as u8
+}
+
+// Inner: the field of `width` bits from bit `start`. A turn takes what one octet has of it; q and b never pass the field's end, as `start + i` might pass a usize.
+pub fn read_field(s: &[u8], start: usize, width: usize) -> u64
+    requires { ⌜ Within (now s) start width ⌝ }
+    ensures { λ r. ⌜ FieldRead (now (s .entry)) start width r ⌝ }
+{
+    let mut q = start / 8;
+    let mut b = start % 8;
+    let mut left = width;
+    let mut r: u64 = 0;
+    while 0 < left {
+        let n = least(left, 8 - b);
+        r = join(r, n, field_of(s[q], b, n));
+        left -= n;
+        q += (b + n) / 8;
+        b = (b + n) % 8;
+    }
+    r
+}
+
+// Inner: v, of which the low `width` bits count, into the field.
+pub fn write_field(s: &mut [u8], start: usize, width: usize, v: u64)
+    requires { ⌜ Within (now s) start width ⌝ }
+    ensures { λ _. ⌜ now (s .exit) ≡ put (now (s .entry)) start width v ⌝ }
+{
+    let mut q = start / 8;
+    let mut b = start % 8;
+    let mut left = width;
+    while 0 < left {
+        let n = least(left, 8 - b);
+        left -= n;
+        s[q] = with_field(s[q], b, n, v >> left);
+        q += (b + n) / 8;
+        b = (b + n) % 8;
+    }
+}
+
+pub fn wide(x: u8) -> usize
+    ensures { λ r. ⌜ (r ≡ x) × (r < 256) ⌝ }
+{
+    x as usize
+}
+
+// Inner: the number of two octets from `at` on, high octet first.
+pub fn read16(s: &[u8], at: usize) -> usize
+    requires { ⌜ at + 2 ≤ length (now s) ⌝ }
+    ensures { λ r. ⌜ NumberRead (now (s .entry)) at 2 r ⌝ }
+{
+    wide(s[at]) * 256 + wide(s[at + 1])
+}
+
+// Inner: of four.
+pub fn read32(s: &[u8], at: usize) -> u64
+    requires { ⌜ at + 4 ≤ length (now s) ⌝ }
+    ensures { λ r. ⌜ NumberRead (now (s .entry)) at 4 r ⌝ }
+{
+    read16(s, at) as u64 * 65536 + read16(s, at + 2) as u64
+}
+
+// Inner: of six.
+pub fn read48(s: &[u8], at: usize) -> u64
+    requires { ⌜ at + 6 ≤ length (now s) ⌝ }
+    ensures { λ r. ⌜ NumberRead (now (s .entry)) at 6 r ⌝ }
+{
+    read32(s, at) * 65536 + read16(s, at + 4) as u64
+}
+
+// Inner: the octets s in place of those of d from `at` on.
+pub fn copy_over(d: &mut [u8], at: usize, s: &[u8])
+    requires { ⌜ at + length (now s) ≤ length (now d) ⌝ }
+    ensures { λ _. ⌜ now (d .exit) ≡ over (now (d .entry)) at (now (s .entry)) ⌝ }
+{
+    let mut i = 0;
+    while i < s.len() {
+        d[at + i] = s[i];
+        i += 1;
+    }
+}
+
+// Inner: n zeros in place of the octets of d from `at` on.
+pub fn fill_zero(d: &mut [u8], at: usize, n: usize)
+    requires { ⌜ at + n ≤ length (now d) ⌝ }
+    ensures { λ _. ⌜ now (d .exit) ≡ over (now (d .entry)) at (replicate n 0) ⌝ }
+{
+    let mut i = 0;
+    while i < n {
+        d[at + i] = 0;
+        i += 1;
+    }
+}
+
+// Inner: v, of which the low 16 bits count, into the two octets from `at` on.
+pub fn write16(d: &mut [u8], at: usize, v: u32)
+    requires { ⌜ at + 2 ≤ length (now d) ⌝ }
+    ensures { λ _. ⌜ now (d .exit) ≡ over (now (d .entry)) at (octetsOf 2 v) ⌝ }
+{
+    d[at] = (v / 256 % 256) as u8;
+    d[at + 1] = (v % 256) as u8;
+}
+
+// Inner: v into four.
+pub fn write32(d: &mut [u8], at: usize, v: u32)
+    requires { ⌜ at + 4 ≤ length (now d) ⌝ }
+    ensures { λ _. ⌜ now (d .exit) ≡ over (now (d .entry)) at (octetsOf 4 v) ⌝ }
+{
+    write16(d, at, v / 65536);
+    write16(d, at + 2, v);
+}

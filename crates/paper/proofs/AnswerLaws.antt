@@ -1,0 +1,48 @@
+-- The laws of answers: what an answer that was put together tells of its parts, and how it is put together. Assumes nothing.
+use Prim.Native.Nat.{ℕ, _+_, _≤_}
+use native.Mathlib.Omega.{arith}
+use mathlib.Core.Path.{_≡_, refl, sym, _∙_}
+use mathlib.Core.Bool.{Bool, true, false}
+use Rattle.paper.specs.Answer.{Answer, gives, refused, refuseIf, andThen, shift}
+
+module _ {A : Type 0} where
+  -- given past a refusal's test: the test failed, and the rest gives
+  pub not-refused : (b : Bool) (n at : ℕ) (rest : Answer A) (a : A) → refuseIf b n at rest ≡ gives a → (b ≡ false) × (rest ≡ gives a)
+  unfolding refuseIf
+  not-refused true n at rest a e = let z : _≡_ {A = ℕ} 0 1 = cc in absurd (omega arith)
+  not-refused false n at rest a e = (refl, e)
+
+  -- a bound on what a refusal carries, past a refusal's test
+  pub refused-at : (b : Bool) (n at : ℕ) (rest : Answer A) (n′ at′ most : ℕ) → (b ≡ true → at ≤ most) → (rest ≡ refused n′ at′ → at′ ≤ most)
+      → refuseIf b n at rest ≡ refused n′ at′ → at′ ≤ most
+  unfolding refuseIf
+  refused-at true n at rest n′ at′ most h k e = let q : at ≡ at′ = cc in omega (arith, h refl)
+  refused-at false n at rest n′ at′ most h k e = k e
+
+  -- how a call shows each side
+  pub refuses : (b : Bool) (n at : ℕ) (rest : Answer A) → b ≡ true → refused n at ≡ refuseIf b n at rest
+  unfolding refuseIf
+  refuses b n at rest e = rw e
+
+  pub goes-past : (b : Bool) (n at : ℕ) (rest : Answer A) (a : Answer A) → b ≡ false → a ≡ rest → a ≡ refuseIf b n at rest
+  unfolding refuseIf
+  goes-past b n at rest a e q = rw e q
+
+  pub not-shifted : (b : ℕ) (x : Answer A) (a : A) → shift b x ≡ gives a → x ≡ gives a
+  not-shifted b (gives m) a e = e
+  not-shifted b (refused n at) a e = let z : _≡_ {A = ℕ} 0 1 = cc in absurd (omega arith)
+
+  pub never-both : (x : Answer A) (a : A) (n at : ℕ) → x ≡ gives a → x ≡ refused n at → ⊥
+  never-both x a n at p q = let z : _≡_ {A = ℕ} 0 1 = cc in omega arith
+
+  pub gives-one : (x : Answer A) (a b : A) → x ≡ gives a → x ≡ gives b → a ≡ b
+  gives-one x a b p q = cc
+
+-- what a whole that is given tells of its parts
+pub and-then : {A B : Type 0} (x : Answer A) (k : A → Answer B) (b : B) → andThen x k ≡ gives b → (a : A) × ((x ≡ gives a) × (k a ≡ gives b))
+and-then (gives a) k b e = (a, (refl, e))
+and-then (refused n at) k b e = let z : _≡_ {A = ℕ} 0 1 = cc in absurd (omega arith)
+
+-- how a whole is put together: what the first part gives goes on to the next
+pub goes-on : {A B : Type 0} (a : A) (x : Answer A) (k : A → Answer B) (y : Answer B) → x ≡ gives a → k a ≡ y → andThen x k ≡ y
+goes-on a x k y e q = rw e q

@@ -1,0 +1,225 @@
+-- The demands over the definitions: what is composed reads back (demand 2), and what a reader of an extending or an extended list is
+-- given (demand 3). Assumes nothing.
+use Prim.Native.Nat.{ℕ, zero, suc, _+_, _-_, _*_, _/_, _%_, _^_, _≤_, _<_}
+use mathlib.Core.Path.{_≡_, refl, sym, ap, ap₂, _∙_}
+use mathlib.Core.Logic.{_⊎_, inl, inr, ⊎-elim}
+use mathlib.Core.Bool.{Bool, true, false, not, cond, _&&_, _||_, false≢true}
+use mathlib.Core.List.{List, [], _∷_, _++_}
+use native.Mathlib.Omega.{arith}
+use native.Mathlib.Decide.{ℕ-discrete}
+use lib.ListN.{length, getD, replicate, List·getD-append}
+use lib.Dec.{ltb, leb, eqb}
+use borrow.Author.Tests.{leb-true, le-leb, le-ltb, lt-ltb, ne-eqb, eq-eqb, eqb-true, eqb-false, lt-leb}
+use Rattle.paper.specs.Octets.{octet, bit, field}
+use Rattle.paper.specs.Answer.{Answer, gives, refuseIf}
+use Rattle.paper.specs.First.{firstOf}
+use Rattle.paper.specs.Telegrams.{applicationType, telegramType, isType, versionOf, typeLength, carries, error, ok, forced, undefined, markWidth}
+use Rattle.paper.specs.SignalList.{Signal, SignalList, Counts, fieldEnd, judge, listOf}
+use Rattle.paper.specs.Extends.{version, knows, placeOf, same, extends}
+use Rattle.paper.specs.Store.{vehicles, storeOctets, Slot, slotOf, age, inTime, isStore, isVehicle}
+use Rattle.paper.specs.Reading.{Reading, heard, markOf, codeOf, hindrances, reasonOf, readingOf, readingAt, reading}
+use Rattle.paper.specs.Composing.{composed, composing, writesCheck}
+use Rattle.paper.specs.Demands.{Standing, givenMark, delivered, withheld}
+use Rattle.paper.proofs.AnswerLaws.{goes-on, gives-one}
+use Rattle.paper.proofs.FieldLaws.{field-ext}
+use Rattle.paper.proofs.ListLaws.{Kept, kept}
+use Rattle.paper.proofs.StoreLaws.{padded, stood, standing-slot, standing-whole}
+use Rattle.paper.proofs.ExtendsLaws.{Agree, agree-itself, Related, agree, only-newer, same-of}
+use Rattle.paper.proofs.ComposingLaws.{version-least, version-at, Fitting, Composes, composes, type-range, carried-within, named-written, length-composed, composed-application, composed-type, composed-version, composed-signal, composed-check}
+
+-- what stands behind makes no difference to a field
+field-front : (l m : List ℕ) (s w : ℕ) → s + w ≤ 8 * length l → field (l ++ m) s w ≡ field l s w
+unfolding bit
+field-front l m s w h =
+    field-ext (l ++ m) l s s w (λ i lt. ap (λ (x : ℕ). x / 2 ^ (7 - (s + i) % 8) % 2) (List·getD-append l m 0 ((s + i) / 8) (omega arith)))
+
+-- the place of a signal's check: none is 0, and any other lies past the head
+unplaced : (l : SignalList) (s : Signal) → s .check ≡ 0 → placeOf l s ≡ 0
+unfolding placeOf
+unplaced l s z = rw z
+
+placed-at : (l : SignalList) (s : Signal) → (s .check ≡ 0 → ⊥) → placeOf l s ≡ l .check (s .check - 1)
+unfolding placeOf
+placed-at l s n = rw (ne-eqb (s .check) 0 n)
+
+positive : {n : ℕ} → (n ≡ 0 → ⊥) → 0 < n
+positive {n} h = omega arith
+
+placed-high : (l : SignalList) → Kept l → (k : ℕ) → k < l .signals → (l .signal k .check ≡ 0 → ⊥) → 16 ≤ placeOf l (l .signal k)
+placed-high l h k lt n =
+    let q : l .signal k .check - 1 < l .checks = omega (arith, h .signal k lt .named .exists, positive n) in
+    rw (placed-at l (l .signal k) n) (h .check (l .signal k .check - 1) q .low)
+
+-- a mark ok or forced and a known code: the value as given
+as-given : (l : SignalList) (k mark value : ℕ) → (mark ≡ ok) ⊎ (mark ≡ forced) → knows l k value ≡ true
+    → delivered l k mark value ≡ record { value = value; reason = cond (eqb mark forced) 1 0 }
+as-given l k mark value (inl e) h = rw (e, h)
+as-given l k mark value (inr e) h = rw (e, h)
+
+-- ---- a telegram of the writer's list, as it stands in a slot
+
+module _ (w : SignalList) (hw : Kept w) (type : ℕ) (values marks : List ℕ) (fit : Fitting w type values marks) where
+  telegram : List ℕ
+  telegram = composed w type values marks
+
+  abbrev Sent : ℕ → Slot
+  Sent stamp = record { heard = 1; stamp = stamp; telegram = padded (composed w type values marks) }
+
+  long : 2 ≤ length (composed w type values marks)
+  long = rw (length-composed w hw type values marks fit) (by (eqb type 3))
+    where
+      by : (b : Bool) → 2 ≤ cond b 40 128
+      by true = omega arith
+      by false = omega arith
+
+  kept-field : (s u : ℕ) → s + u ≤ 8 * typeLength type → field (padded (composed w type values marks)) s u ≡ field (composed w type values marks) s u
+  kept-field s u h = field-front _ _ s u (rw (length-composed w hw type values marks fit) h)
+
+  sent-application : applicationType (padded (composed w type values marks)) ≡ 1
+  unfolding applicationType
+  sent-application = field-front (composed w type values marks) _ 0 4 (omega (arith, long)) ∙ composed-application w hw type values marks fit
+
+  sent-type : telegramType (padded (composed w type values marks)) ≡ type
+  unfolding telegramType
+  sent-type = field-front (composed w type values marks) _ 4 4 (omega (arith, long)) ∙ composed-type w hw type values marks fit
+
+  sent-version : versionOf (padded (composed w type values marks)) ≡ version w
+  unfolding versionOf
+  sent-version =
+      let e : octet (padded (composed w type values marks)) 2 ≡ version w =
+      List·getD-append (composed w type values marks) _ 0 1 (omega (arith, long)) ∙ composed-version w hw type values marks fit in
+      rw (e, ne-eqb (version w) 0 (λ z. omega (arith, version-least w)))
+
+  sent-heard : (stamp : ℕ) → heard (Sent stamp) ≡ true
+  unfolding heard
+  sent-heard stamp = rw (sent-application, sent-type) (fit .typed)
+
+  -- a reader within its time limit gets past reasons 2 and 3, and goes by the type and version that were sent
+  module _ (r : SignalList) (stamp now j : ℕ) (within : inTime (age now stamp) (r .signal j .limit) ≡ true) where
+    sent-reason : reasonOf r (Sent stamp) now j
+        ≡ firstOf 4 (
+        not (carries type (r .signal j .type))
+        ∷ ltb (version w) (r .signal j .since)
+        ∷ eqb (markOf r (r .signal j) (padded (composed w type values marks))) error
+        ∷ eqb (markOf r (r .signal j) (padded (composed w type values marks))) undefined
+        ∷ not (knows r j (codeOf (r .signal j) (padded (composed w type values marks))))
+        ∷ []
+        ) (cond (eqb (markOf r (r .signal j) (padded (composed w type values marks))) forced) 1 0)
+    unfolding reasonOf hindrances
+    sent-reason = rw (sent-heard stamp, within, sent-type, sent-version)
+
+    -- a signal that the type carries and only the reader's list has, or that the type does not carry
+    sent-withheld : (carries type (r .signal j .type) ≡ false) ⊎ (version w < r .signal j .since)
+        → readingOf r (Sent stamp) now j ≡ withheld r type j
+    unfolding readingOf
+    sent-withheld d = by (carries type (r .signal j .type)) refl d
+      where
+        by : (b : Bool) → carries type (r .signal j .type) ≡ b → (carries type (r .signal j .type) ≡ false) ⊎ (version w < r .signal j .since)
+            → _≡_ {A = Reading} (record { value = cond (leb 2 (reasonOf r (Sent stamp) now j)) (r .signal j .replacement) (codeOf (r .signal j) (padded (composed w type values marks))); reason = reasonOf r (Sent stamp) now j })
+            (record { value = r .signal j .replacement; reason = cond b 5 4 })
+        by false e d = rw (sent-reason, e)
+        by true e (inl n) = absurd (false≢true (sym n ∙ e))
+        by true e (inr lt) = rw (sent-reason, e, lt-ltb _ _ lt)
+
+    -- a signal that both lists have and the type carries
+    module _ (i : ℕ) (hi : i < w .signals) (same-one : Agree w r i j) (carried : carries type (r .signal j .type) ≡ true) where
+      carried-there : carries type (w .signal i .type) ≡ true
+      carried-there = rw (same-one .type) carried
+
+      sent-code : codeOf (r .signal j) (padded (composed w type values marks)) ≡ getD values i 0
+      unfolding codeOf
+      sent-code =
+          rw (← same-one .start, ← same-one .width)
+          (kept-field (w .signal i .start) (w .signal i .width) (carried-within w hw type values marks fit i hi carried-there .1)
+          ∙ composed-signal w hw type values marks fit i hi carried-there)
+
+      -- the mark at the place of the check, whichever index it has in either list
+      sent-mark : Kept r → j < r .signals → markOf r (r .signal j) (padded (composed w type values marks)) ≡ givenMark marks (w .signal i)
+      unfolding markOf
+      sent-mark hr hj = by (ℕ-discrete (w .signal i .check) 0) (ℕ-discrete (r .signal j .check) 0)
+        where
+          by : Dec (w .signal i .check ≡ 0) → Dec (r .signal j .check ≡ 0)
+              → cond (eqb (r .signal j .check) 0) ok (field (padded (composed w type values marks)) (placeOf r (r .signal j)) markWidth)
+              ≡ cond (eqb (w .signal i .check) 0) ok (getD marks (w .signal i .check - 1) 0)
+          by (yes a) (yes b) = rw (a, b)
+          by (yes a) (no b) = absurd (omega (arith, placed-high r hr j hj b, same-one .place, unplaced w (w .signal i) a))
+          by (no a) (yes b) = absurd (omega (arith, placed-high w hw i hi a, same-one .place, unplaced r (r .signal j) b))
+          by (no a) (no b) =
+              let q : w .signal i .check - 1 < w .checks = omega (arith, hw .signal i hi .named .exists, positive a) in
+              let named = named-written w hw type values marks fit i hi carried-there (positive a) in
+              rw (ne-eqb _ _ a, ne-eqb _ _ b, ← same-one .place, placed-at w (w .signal i) a)
+              (kept-field (w .check (w .signal i .check - 1)) 2 (leb-true _ _ named) ∙ composed-check w hw type values marks fit (w .signal i .check - 1) q named)
+
+      -- the written value with its mark, or the reader's own replacement with the named reason
+      sent-delivered : Kept r → j < r .signals → readingOf r (Sent stamp) now j ≡ delivered r j (givenMark marks (w .signal i)) (getD values i 0)
+      unfolding readingOf
+      sent-delivered hr hj =
+          let old : ltb (version w) (r .signal j .since) ≡ false = le-ltb (version w) (r .signal j .since) (rw (same-one .since) at (version-at w i hi)) in
+          rw (sent-reason, carried, old, sent-mark hr hj, sent-code)
+
+-- ---- a signal's reading, as a call gives it
+
+-- a store that keeps a telegram is read with no refusal
+called : (xs store : List ℕ) (now v k : ℕ) (n : Counts) → judge xs ≡ gives n → length store ≡ storeOctets → 1 ≤ v → v ≤ vehicles → k < n .signals
+    → reading xs store now v k ≡ gives (readingOf (listOf xs n) (slotOf store v) now k)
+unfolding reading refuseIf readingAt
+called xs store now v k n e whole first last lt =
+    goes-on n (judge xs) _ _ e (rw (eq-eqb _ _ whole, le-leb _ _ first, le-leb _ _ last, lt-ltb _ _ lt))
+
+module _ (xs : List ℕ) (type : ℕ) (values marks : List ℕ) (room : ℕ) (telegram : List ℕ) (sent : composing xs type values marks room ≡ gives telegram)
+    (m : Counts) (writer : judge xs ≡ gives m) where
+  made : Composes xs type values marks telegram
+  made = composes xs type values marks room telegram sent
+
+  -- the writer's list is the one that was judged
+  same-list : made .counts ≡ m
+  same-list = gives-one (judge xs) (made .counts) m (made .accepted) writer
+
+  fitted : Fitting (listOf xs m) type values marks
+  fitted = rw same-list at (made .fitting)
+
+  is-composed : composed (listOf xs m) type values marks ≡ telegram
+  is-composed = rw same-list at (made .is)
+
+  module _ (ys : List ℕ) (n : Counts) (reader : judge ys ≡ gives n) (v stamp now j : ℕ) (store : List ℕ) (hj : j < n .signals)
+      (stands : Standing v stamp now (listOf ys n .signal j .limit) telegram store) where
+    arrived : (given : Reading) → readingOf (listOf ys n) (record { heard = 1; stamp = stamp; telegram = padded (composed (listOf xs m) type values marks) }) now j ≡ given
+        → reading ys store now v j ≡ gives given
+    arrived given e =
+        let t = stood v stamp now _ telegram store stands in
+        called ys store now v j n reader (standing-whole v stamp now _ telegram store stands) (t .first) (t .last) hj
+        ∙ ap gives (ap (λ (s : Slot). readingOf (listOf ys n) s now j) (standing-slot v stamp now _ telegram store stands) ∙ rw (← is-composed) e)
+
+    -- DEMAND 3, a signal that both lists have and the type carries: the written value with its mark, or the reader's own replacement
+    -- with 6 or 7 exactly when the mark is error or undefined, or with 8 exactly when it is neither and the code is unknown to the reader
+    pub both-have : Related (listOf xs m) (listOf ys n) → (i : ℕ) → i < m .signals → same (listOf xs m .signal i) (listOf ys n .signal j) ≡ true
+        → carries type (listOf ys n .signal j .type) ≡ true
+        → reading ys store now v j ≡ gives (delivered (listOf ys n) j (givenMark marks (listOf xs m .signal i)) (getD values i 0))
+    both-have related i hi one carried =
+        let w = listOf xs m in
+        let r = listOf ys n in
+        let p = same-of (w .signal i) (r .signal j) one in
+        let a = agree w r (kept xs m writer) (kept ys n reader) related i j hi hj (p .0) (p .1) in
+        arrived _ (sent-delivered w (kept xs m writer) type values marks fitted r stamp now j (stands .within) i hi a carried (kept ys n reader) hj)
+
+    -- DEMAND 3, a signal that only the reader's list has, or that the type doesn't carry: its replacement, with 4 or 5
+    pub only-reader : Related (listOf xs m) (listOf ys n)
+        → (carries type (listOf ys n .signal j .type) ≡ false) ⊎ ((i : ℕ) → i < m .signals → same (listOf xs m .signal i) (listOf ys n .signal j) ≡ true → ⊥)
+        → reading ys store now v j ≡ gives (withheld (listOf ys n) type j)
+    only-reader related d =
+        let w = listOf xs m in
+        let r = listOf ys n in
+        arrived _
+        (sent-withheld w (kept xs m writer) type values marks fitted r stamp now j (stands .within) (⊎-elim (λ a. inl a) (λ a. inr (only-newer w r related j hj a)) d))
+
+  -- DEMAND 2, reading back: what is composed with a mark ok or forced, or no check, reads back within its time limit as given
+  pub read-back : (v stamp now k : ℕ) (store : List ℕ) → k < m .signals → carries type (listOf xs m .signal k .type) ≡ true
+      → (givenMark marks (listOf xs m .signal k) ≡ ok) ⊎ (givenMark marks (listOf xs m .signal k) ≡ forced)
+      → Standing v stamp now (listOf xs m .signal k .limit) telegram store
+      → reading xs store now v k ≡ gives (record { value = getD values k 0; reason = cond (eqb (givenMark marks (listOf xs m .signal k)) forced) 1 0 })
+  read-back v stamp now k store hk carried mark stands =
+      let l = listOf xs m in
+      let h = kept xs m writer in
+      arrived xs m writer v stamp now k store hk stands _
+      (sent-delivered l h type values marks fitted l stamp now k (stands .within) k hk (agree-itself l k) carried h hk
+      ∙ as-given l k (givenMark marks (l .signal k)) (getD values k 0) mark (fitted .value k hk carried .1))

@@ -1,0 +1,152 @@
+-- The laws of searching: how a loop shows what it found, and what a caller learns of the indices passed. Assumes nothing.
+use Prim.Native.Nat.{ℕ, zero, suc, _+_, _≤_, _<_, max}
+use mathlib.Core.Path.{_≡_, refl, sym, ap, _∙_}
+use mathlib.Core.Logic.{_⊎_, inl, inr}
+use mathlib.Core.Bool.{Bool, true, false, not, cond, _&&_, _||_, false≢true}
+use lib.Dec.{eqb}
+use borrow.Author.Tests.{eq-eqb, ne-eqb, eqb-true, eqb-false, not-true, not-false}
+use native.Mathlib.Nat.{eq-or-lt-of-le, lt-irrefl}
+use native.Mathlib.Omega.{arith}
+use Rattle.paper.specs.First.{stop, firstFrom, firstBad, all, some, count, greatest}
+
+module _ (ok : ℕ → Bool) where
+  stop-true : (b : Bool) (h l : ℕ) → b ≡ true → stop b h l ≡ l
+  stop-true b h l e = rw e
+
+  stop-false : (b : Bool) (h l : ℕ) → b ≡ false → stop b h l ≡ h
+  stop-false b h l e = rw e
+
+  is-from : (n i r : ℕ) → i ≤ r → r ≤ i + n → ((k : ℕ) → i ≤ k → k < r → ok k ≡ true) → (r < i + n → ok r ≡ false) → firstFrom ok n i ≡ r
+  unfolding firstFrom
+  is-from zero i r lo hi below bad = omega arith
+  is-from (suc n) i r lo hi below bad =
+      at (eq-or-lt-of-le lo) (λ l. is-from n (suc i) r l (omega arith) (λ k a b. below k (omega arith) b) (λ h. bad (omega arith)))
+    where
+      at : (i ≡ r) ⊎ (i < r) → (i < r → firstFrom ok n (suc i) ≡ r) → firstFrom ok (suc n) i ≡ r
+      at (inl e) rest = stop-false (ok i) i (firstFrom ok n (suc i)) (rw e (bad (omega arith))) ∙ e
+      at (inr l) rest = stop-true (ok i) i (firstFrom ok n (suc i)) (below i (omega arith) l) ∙ rest l
+
+  -- r is the first: the test passes at each index below, and fails at r, unless r is n
+  pub is-first : (n r : ℕ) → r ≤ n → ((k : ℕ) → k < r → ok k ≡ true) → (r < n → ok r ≡ false) → firstBad ok n ≡ r
+  unfolding firstBad
+  is-first n r hi below bad = is-from n 0 r (omega arith) (omega arith) (λ k a b. below k b) (λ h. bad (omega arith))
+
+  -- the two answers of a loop: it failed at r, or it passed them all
+  pub first-here : (n r : ℕ) → r < n → ((k : ℕ) → k < r → ok k ≡ true) → ok r ≡ false → firstBad ok n ≡ r
+  first-here n r h below e = is-first n r (omega arith) below (λ _. e)
+
+  pub first-none : (n : ℕ) → ((k : ℕ) → k < n → ok k ≡ true) → firstBad ok n ≡ n
+  first-none n below = is-first n n (omega arith) below (λ h. absurd (lt-irrefl n h))
+
+  most-from : (n i : ℕ) → firstFrom ok n i ≤ i + n
+  unfolding firstFrom
+  most-from zero i = omega arith
+  most-from (suc n) i = at (ok i) (most-from n (suc i))
+    where
+      at : (b : Bool) → firstFrom ok n (suc i) ≤ suc i + n → stop b i (firstFrom ok n (suc i)) ≤ i + suc n
+      at true h = omega arith
+      at false h = omega arith
+
+  passed-from : (n i k : ℕ) → i ≤ k → k < firstFrom ok n i → ok k ≡ true
+  unfolding firstFrom
+  passed-from zero i k lo hi = absurd (lt-irrefl k (omega arith))
+  passed-from (suc n) i k lo hi = at (ok i) refl hi (eq-or-lt-of-le lo) (λ l h. passed-from n (suc i) k l h)
+    where
+      at : (b : Bool) → ok i ≡ b → k < stop b i (firstFrom ok n (suc i)) → (i ≡ k) ⊎ (i < k) → (i < k → k < firstFrom ok n (suc i) → ok k ≡ true) → ok k ≡ true
+      at false e h w rest = absurd (lt-irrefl k (omega arith))
+      at true e h (inl q) rest = rw q at e
+      at true e h (inr l) rest = rest l h
+
+  fails-from : (n i : ℕ) → firstFrom ok n i < i + n → ok (firstFrom ok n i) ≡ false
+  unfolding firstFrom
+  fails-from zero i h = absurd (lt-irrefl i (omega arith))
+  fails-from (suc n) i h = at (ok i) refl h (λ g. fails-from n (suc i) g)
+    where
+      at : (b : Bool) → ok i ≡ b → stop b i (firstFrom ok n (suc i)) < i + suc n
+          → (firstFrom ok n (suc i) < suc i + n → ok (firstFrom ok n (suc i)) ≡ false)
+          → ok (stop b i (firstFrom ok n (suc i))) ≡ false
+      at false e h rest = e
+      at true e h rest = rest (omega arith)
+
+  -- what a caller learns: the first is at most n, each index below it passes, and it fails unless it is n
+  pub first-most : (n : ℕ) → firstBad ok n ≤ n
+  unfolding firstBad
+  first-most n = omega (arith, most-from n 0)
+
+  pub first-passed : (n k : ℕ) → k < firstBad ok n → ok k ≡ true
+  unfolding firstBad
+  first-passed n k h = passed-from n 0 k (omega arith) h
+
+  pub first-fails : (n : ℕ) → firstBad ok n < n → ok (firstBad ok n) ≡ false
+  unfolding firstBad
+  first-fails n h = fails-from n 0 (omega arith)
+
+  -- the same of `all`: both answers from a loop's facts, and each index's test from the answer
+  pub all-true : (n : ℕ) → ((k : ℕ) → k < n → ok k ≡ true) → all ok n ≡ true
+  unfolding all
+  all-true n below = eq-eqb (firstBad ok n) n (first-none n below)
+
+  pub all-false : (n r : ℕ) → r < n → ok r ≡ false → all ok n ≡ false
+  unfolding all
+  all-false n r h e = ne-eqb (firstBad ok n) n (λ q. false≢true (sym e ∙ first-passed n r (rw q h)))
+
+  pub not-all : (n : ℕ) → all ok n ≡ false → firstBad ok n < n
+  unfolding all
+  not-all n e = let d : firstBad ok n ≡ n → ⊥ = eqb-false (firstBad ok n) n e in omega (arith, first-most n)
+
+  pub all-at : (n : ℕ) → all ok n ≡ true → (k : ℕ) → k < n → ok k ≡ true
+  unfolding all
+  all-at n t k h = first-passed n k (rw (eqb-true (firstBad ok n) n t) h)
+
+-- the same of `some`
+module _ (ok : ℕ → Bool) where
+  pub some-true : (n r : ℕ) → r < n → ok r ≡ true → some ok n ≡ true
+  unfolding some
+  some-true n r h e = ap not (all-false (λ k. not (ok k)) n r h (ap not e))
+
+  pub some-false : (n : ℕ) → ((k : ℕ) → k < n → ok k ≡ false) → some ok n ≡ false
+  unfolding some
+  some-false n below = ap not (all-true (λ k. not (ok k)) n (λ k h. ap not (below k h)))
+
+  pub some-none : (n : ℕ) → some ok n ≡ false → (k : ℕ) → k < n → ok k ≡ false
+  unfolding some
+  some-none n e k h = not-true (ok k) (all-at (λ k. not (ok k)) n (not-false _ e) k h)
+
+  -- the first index at which it passes
+  pub some-at : (n : ℕ) → some ok n ≡ true → (k : ℕ) × ((k < n) × (ok k ≡ true))
+  unfolding some
+  some-at n e =
+      let k = firstBad (λ j. not (ok j)) n in
+      let h : k < n = not-all (λ j. not (ok j)) n (not-true _ e) in
+      (k, (h, not-false (ok k) (first-fails (λ j. not (ok j)) n h)))
+
+-- ---- counts and greatest numbers
+
+pub count-le : (ok : ℕ → Bool) (n : ℕ) → count ok n ≤ n
+unfolding count
+count-le ok zero = omega arith
+count-le ok (suc n) = by (ok n) (count-le ok n)
+  where
+    by : (b : Bool) → count ok n ≤ n → count ok n + cond b 1 0 ≤ suc n
+    by true h = omega arith
+    by false h = omega arith
+
+module _ (least : ℕ) (f : ℕ → ℕ) where
+  pub greatest-least : (n : ℕ) → least ≤ greatest least f n
+  unfolding greatest
+  greatest-least zero = omega arith
+  greatest-least (suc n) = omega (arith, greatest-least n)
+
+  pub greatest-at : (n k : ℕ) → k < n → f k ≤ greatest least f n
+  unfolding greatest
+  greatest-at zero k h = omega arith
+  greatest-at (suc n) k h = by (eq-or-lt-of-le h) (λ l. greatest-at n k l)
+    where
+      by : (suc k ≡ suc n) ⊎ (suc k < suc n) → (k < n → f k ≤ greatest least f n) → f k ≤ max (greatest least f n) (f n)
+      by (inl e) rest = let q : k ≡ n = omega arith in omega (arith, ap f q)
+      by (inr l) rest = omega (arith, rest (omega arith))
+
+  pub greatest-most : (n b : ℕ) → least ≤ b → ((k : ℕ) → k < n → f k ≤ b) → greatest least f n ≤ b
+  unfolding greatest
+  greatest-most zero b h below = h
+  greatest-most (suc n) b h below = omega (arith, greatest-most n b h (λ k l. below k (omega arith)), below n (omega arith))

@@ -1,0 +1,12 @@
+pub mod AnswerLaws
+pub mod FieldLaws
+pub mod FirstLaws
+pub mod NumberLaws
+pub mod PutsLaws
+pub mod ListLaws
+pub mod StoreLaws
+pub mod ReadingLaws
+pub mod MarshallingLaws
+pub mod ComposingLaws
+pub mod ExtendsLaws
+pub mod Demands

@@ -1,0 +1,418 @@
+-- What an accepted list keeps: one law per section, in numbers and orders, and what follows for two entries. Assumes nothing.
+use Prim.Native.Nat.{ℕ, zero, suc, _+_, _-_, _*_, _%_, _^_, _≤_, _<_}
+use mathlib.Core.Path.{_≡_, refl, sym, ap, subst, _∙_}
+use mathlib.Core.Logic.{_⊎_, inl, inr, ⊎-elim}
+use mathlib.Core.Bool.{Bool, true, false, not, cond, _&&_, _||_, false≢true}
+use mathlib.Core.List.{List}
+use native.Mathlib.Nat.{lt-irrefl, le-refl, add-zero, add-suc}
+use native.Mathlib.Decide.{decLt, ℕ-discrete}
+use native.Mathlib.Omega.{arith}
+use lib.ListN.{length, drop, length-drop}
+use lib.Dec.{ltb, leb, eqb}
+use borrow.Author.Tests.{ltb-true, ltb-false, leb-true, eqb-true, eqb-false, eq-eqb, ne-eqb, not-true}
+use Rattle.paper.specs.Octets.{number}
+use Rattle.paper.specs.Answer.{Answer, gives, refused, refuseIf, andThen, shift}
+use Rattle.paper.specs.First.{firstBad, all}
+use Rattle.paper.specs.SignalList.{Signal, Code, Route, fieldEnd, routeEnd, entry, rest, checkSize, signalSize, codeSize, routeSize, mostChecks, mostSignals, mostCodes, mostRoutes, widest, checkAt, signalAt, codeAt, routeAt, checkRule, widthRule, typeRule, placeRule, namedRule, valueRule, orderRule, apart, clearRule, signalRule, codeOrder, codeRule, routeRule, opening, judgeEntries, judgeSection, greatestSince, Counts, ending, fromRoutes, fromCodes, fromSignals, judge, SignalList, listOf, signalsPart, codesPart, routesPart}
+use Rattle.paper.proofs.AnswerLaws.{not-refused, and-then, not-shifted, gives-one}
+use Rattle.paper.proofs.FirstLaws.{first-passed, all-at}
+
+-- ---- a test made of tests, taken apart
+
+pub both : (a b : Bool) → (a && b) ≡ true → (a ≡ true) × (b ≡ true)
+both true b e = (refl, e)
+both false b e = absurd (false≢true e)
+
+pub either : (a b : Bool) → (a || b) ≡ true → (a ≡ true) ⊎ (b ≡ true)
+either true b e = inl refl
+either false b e = inr e
+
+pub other : (a b : Bool) → (a || b) ≡ true → a ≡ false → b ≡ true
+other true b e f = absurd (false≢true (sym f))
+other false b e f = e
+
+-- ---- a section
+
+-- a section that can be opened: its count is within the limit and its entries are present
+pub record Opened (limit size : ℕ) (xs : List ℕ) (n : ℕ) : Type 0 where
+  pub count : n ≡ number xs 0 2
+  pub within : n ≤ limit
+  pub present : entry size n ≤ length xs
+
+-- what an accepted section keeps: it could be opened, and each entry passes its test
+pub record Holds (limit size : ℕ) (rule : ℕ → Bool) (xs : List ℕ) (n : ℕ) : Type 0 where
+  pub opens : Opened limit size xs n
+  pub entries : (k : ℕ) → k < n → rule k ≡ true
+
+pub opened-of : (limit size : ℕ) (xs : List ℕ) (n : ℕ) → opening limit size xs ≡ gives n → Opened limit size xs n
+unfolding opening
+opened-of limit size xs n e =
+    let p = not-refused _ _ _ _ _ e in
+    let q = not-refused _ _ _ _ _ (p .1) in
+    let r = not-refused _ _ _ _ _ (q .1) in
+    let c : n ≡ number xs 0 2 = cc (r .1) in
+    record { count = c; within = rw c (ltb-false _ _ (q .0)); present = rw c (ltb-false _ _ (r .0)) }
+
+entries-of : (size : ℕ) (rule : ℕ → Bool) (m n : ℕ) → judgeEntries size rule m ≡ gives n → (m ≡ n) × ((k : ℕ) → k < m → rule k ≡ true)
+unfolding judgeEntries
+entries-of size rule m n e =
+    let p = not-refused _ _ _ _ _ e in
+    let le : m ≤ firstBad rule m = ltb-false _ _ (p .0) in
+    (cc (p .1), λ k h. first-passed rule m k (omega arith))
+
+pub holds-of : (limit size : ℕ) (rule : ℕ → Bool) (xs : List ℕ) (n : ℕ) → judgeSection limit size rule xs ≡ gives n → Holds limit size rule xs n
+unfolding judgeSection
+holds-of limit size rule xs n e =
+    let o = and-then (opening limit size xs) (judgeEntries size rule) n e in
+    let p = entries-of size rule (o .0) n (o .1 .1) in
+    record { opens = opened-of limit size xs n (rw (p .0) at (o .1 .0)); entries = λ k h. p .1 k (omega (arith, p .0)) }
+
+-- ---- the rule of an entry, as facts on numbers; stated over the tables, for any layout of the octets
+
+pub record CheckKept (check : ℕ → ℕ) (k : ℕ) : Type 0 where
+  pub even : check k % 2 ≡ 0
+  pub low : 16 ≤ check k
+  pub high : check k ≤ 1022
+  pub rises : 0 < k → check (k - 1) < check k
+
+positive : (k : ℕ) → 0 < k → eqb k 0 ≡ false
+positive k h = ne-eqb k 0 (λ z. lt-irrefl 0 (rw z at h))
+
+pub check-kept : (check : ℕ → ℕ) (k : ℕ) → checkRule check k ≡ true → CheckKept check k
+unfolding checkRule
+check-kept check k e =
+    let p = both _ _ e in
+    let q = both _ _ (p .0) in
+    let r = both _ _ (q .0) in
+    record {
+      even = eqb-true _ _ (r .0);
+      low = leb-true _ _ (r .1);
+      high = leb-true _ _ (q .1);
+      rises = λ h. ltb-true _ _ (other _ _ (p .1) (positive k h));
+    }
+
+-- where a signal of each type lies
+pub record Placed (s : Signal) : Type 0 where
+  pub common : s .type ≡ 0 → (16 ≤ s .start) × (fieldEnd s ≤ 320)
+  pub own : (s .type ≡ 0 → ⊥) → (320 ≤ s .start) × (fieldEnd s ≤ 1024)
+
+-- a signal with a check names one that exists, below 320 exactly if its type is 0
+pub record Named (checks : ℕ) (check : ℕ → ℕ) (s : Signal) : Type 0 where
+  pub exists : s .check ≤ checks
+  pub common : s .type ≡ 0 → 0 < s .check → check (s .check - 1) < 320
+  pub own : (s .type ≡ 0 → ⊥) → 0 < s .check → 320 ≤ check (s .check - 1)
+
+-- the signal before has a lower type, or the same and ends at or before this one's start
+abbrev pub Follows : Signal → Signal → Type 0
+Follows p s = (p .type < s .type) ⊎ ((p .type ≡ s .type) × (fieldEnd p ≤ s .start))
+
+pub record SignalKept (checks : ℕ) (check : ℕ → ℕ) (signal : ℕ → Signal) (k : ℕ) : Type 0 where
+  pub some : 1 ≤ signal k .width
+  pub wide : signal k .width ≤ widest
+  pub typed : signal k .type ≤ 2
+  pub placed : Placed (signal k)
+  pub named : Named checks check (signal k)
+  pub since : 1 ≤ signal k .since
+  pub octet : signal k .since ≤ 255
+  pub limited : signal k .limit ≤ 600000
+  pub fits : signal k .replacement < 2 ^ signal k .width
+  pub follows : 0 < k → Follows (signal (k - 1)) (signal k)
+  pub clear : (j : ℕ) → j < checks → (fieldEnd (signal k) ≤ check j) ⊎ (check j + 2 ≤ signal k .start)
+
+placed-of : (s : Signal) → placeRule s ≡ true → Placed s
+placed-of s e = by (either _ _ e)
+  where
+    by : ((eqb (s .type) 0 && leb 16 (s .start) && leb (fieldEnd s) 320) ≡ true) ⊎ ((not (eqb (s .type) 0) && leb 320 (s .start) && leb (fieldEnd s) 1024) ≡ true) → Placed s
+    by (inl h) =
+        let p = both _ _ h in
+        let q = both _ _ (p .0) in
+        record { common = λ z. (leb-true _ _ (q .1), leb-true _ _ (p .1)); own = λ n. absurd (n (eqb-true _ _ (q .0))) }
+    by (inr h) =
+        let p = both _ _ h in
+        let q = both _ _ (p .0) in
+        let n : s .type ≡ 0 → ⊥ = eqb-false _ _ (not-true _ (q .0)) in
+        record { common = λ z. absurd (n z); own = λ _. (leb-true _ _ (q .1), leb-true _ _ (p .1)) }
+
+named-of : (checks : ℕ) (check : ℕ → ℕ) (s : Signal) → namedRule checks check s ≡ true → Named checks check s
+named-of checks check s e = by (either _ _ e)
+  where
+    place : ℕ
+    place = check (s .check - 1)
+
+    by : (eqb (s .check) 0 ≡ true)
+        ⊎ ((leb (s .check) checks && (ltb place 320 && eqb (s .type) 0 || not (ltb place 320) && not (eqb (s .type) 0))) ≡ true)
+        → Named checks check s
+    by (inl h) =
+        let z : s .check ≡ 0 = eqb-true _ _ h in
+        record { exists = omega arith; common = λ _ h. absurd (lt-irrefl 0 (rw z at h)); own = λ _ h. absurd (lt-irrefl 0 (rw z at h)) }
+    by (inr h) =
+        let p = both _ _ h in
+        ⊎-elim
+        (λ a. let q = both _ _ a in record { exists = leb-true _ _ (p .0); common = λ _ _. ltb-true _ _ (q .0); own = λ n _. absurd (n (eqb-true _ _ (q .1))) })
+        (λ a. let q = both _ _ a in record {
+          exists = leb-true _ _ (p .0);
+          common = λ z _. absurd (eqb-false _ _ (not-true _ (q .1)) z);
+          own = λ _ _. ltb-false _ _ (not-true _ (q .0));
+        })
+        (either _ _ (p .1))
+
+follows-of : (p s : Signal) → orderRule p s ≡ true → Follows p s
+follows-of p s e = ⊎-elim (λ h. inl (ltb-true _ _ h)) (λ h. let q = both _ _ h in inr (eqb-true _ _ (q .0), leb-true _ _ (q .1))) (either _ _ e)
+
+apart-of : (s : Signal) (place : ℕ) → apart s place ≡ true → (fieldEnd s ≤ place) ⊎ (place + 2 ≤ s .start)
+apart-of s place e = ⊎-elim (λ h. inl (leb-true _ _ h)) (λ h. inr (leb-true _ _ h)) (either _ _ e)
+
+pub signal-kept : (checks : ℕ) (check : ℕ → ℕ) (signal : ℕ → Signal) (k : ℕ) → signalRule checks check signal k ≡ true → SignalKept checks check signal k
+unfolding signalRule
+signal-kept checks check signal k e =
+    let p = both _ _ e in
+    let q = both _ _ (p .0) in
+    let r = both _ _ (q .0) in
+    let s = both _ _ (r .0) in
+    let t = both _ _ (s .0) in
+    let u = both _ _ (t .0) in
+    let w = both _ _ (u .0) in
+    let v = both _ _ (r .1) in
+    let v′ = both _ _ (v .0) in
+    let v″ = both _ _ (v′ .0) in
+    record {
+      some = leb-true _ _ (w .0);
+      wide = leb-true _ _ (w .1);
+      typed = leb-true _ _ (u .1);
+      placed = placed-of _ (t .1);
+      named = named-of _ _ _ (s .1);
+      since = leb-true _ _ (v″ .0);
+      octet = leb-true _ _ (v″ .1);
+      limited = leb-true _ _ (v′ .1);
+      fits = ltb-true _ _ (v .1);
+      follows = λ h. follows-of (signal (k - 1)) (signal k) (other _ _ (q .1) (positive k h));
+      clear = λ j h. apart-of (signal k) (check j) (all-at (λ j. apart (signal k) (check j)) checks (p .1) j h);
+    }
+
+-- the entry before is of a lower signal, or of the same and ends two below
+abbrev pub CodeFollows : Code → Code → Type 0
+CodeFollows p c = (p .signal < c .signal) ⊎ ((p .signal ≡ c .signal) × (p .high + 2 ≤ c .low))
+
+pub record CodeKept (signals : ℕ) (signal : ℕ → Signal) (code : ℕ → Code) (k : ℕ) : Type 0 where
+  pub exists : code k .signal < signals
+  pub narrow : signal (code k .signal) .width ≤ 16
+  pub range : code k .low ≤ code k .high
+  pub fits : code k .high < 2 ^ signal (code k .signal) .width
+  pub follows : 0 < k → CodeFollows (code (k - 1)) (code k)
+
+pub code-kept : (signals : ℕ) (signal : ℕ → Signal) (code : ℕ → Code) (k : ℕ) → codeRule signals signal code k ≡ true → CodeKept signals signal code k
+unfolding codeRule
+code-kept signals signal code k e =
+    let p = both _ _ e in
+    let q = both _ _ (p .0) in
+    let r = both _ _ (q .0) in
+    let s = both _ _ (r .0) in
+    record {
+      exists = ltb-true _ _ (s .0);
+      narrow = leb-true _ _ (s .1);
+      range = leb-true _ _ (r .1);
+      fits = ltb-true _ _ (q .1);
+      follows = λ h.
+          ⊎-elim (λ a. inl (ltb-true _ _ a)) (λ a. let b = both _ _ a in inr (eqb-true _ _ (b .0), leb-true _ _ (b .1)))
+          (either _ _ (other _ _ (p .1) (positive k h)));
+    }
+
+pub record RouteKept (signals : ℕ) (signal : ℕ → Signal) (route : ℕ → Route) (k : ℕ) : Type 0 where
+  pub exists : route k .signal < signals
+  pub first : 1 ≤ route k .vehicle
+  pub last : route k .vehicle ≤ 63
+  pub null : route k .null ≡ 0
+  pub ends : routeEnd signal (route k) ≤ 2048
+  pub follows : 0 < k → routeEnd signal (route (k - 1)) ≤ route k .start
+
+pub route-kept : (signals : ℕ) (signal : ℕ → Signal) (route : ℕ → Route) (k : ℕ) → routeRule signals signal route k ≡ true → RouteKept signals signal route k
+unfolding routeRule
+route-kept signals signal route k e =
+    let p = both _ _ e in
+    let q = both _ _ (p .0) in
+    let r = both _ _ (q .0) in
+    let s = both _ _ (r .0) in
+    let t = both _ _ (s .0) in
+    record {
+      exists = ltb-true _ _ (t .0);
+      first = leb-true _ _ (t .1);
+      last = leb-true _ _ (s .1);
+      null = eqb-true _ _ (r .1);
+      ends = leb-true _ _ (q .1);
+      follows = λ h. leb-true _ _ (other _ _ (p .1) (positive k h));
+    }
+
+-- ---- the whole list
+
+-- what an accepted list keeps, apart from how its octets are laid out
+pub record Kept (l : SignalList) : Type 0 where
+  pub few-checks : l .checks ≤ mostChecks
+  pub few-signals : l .signals ≤ mostSignals
+  pub few-codes : l .codes ≤ mostCodes
+  pub few-routes : l .routes ≤ mostRoutes
+  pub check : (k : ℕ) → k < l .checks → CheckKept (l .check) k
+  pub signal : (k : ℕ) → k < l .signals → SignalKept (l .checks) (l .check) (l .signal) k
+  pub code : (k : ℕ) → k < l .codes → CodeKept (l .signals) (l .signal) (l .code) k
+  pub route : (k : ℕ) → k < l .routes → RouteKept (l .signals) (l .signal) (l .route) k
+
+-- and how they are laid out: each section's entries are present, and the list ends with the last
+pub record Laid (xs : List ℕ) (n : Counts) : Type 0 where
+  pub checks : Holds mostChecks checkSize (checkRule (checkAt xs)) xs (n .checks)
+  pub signals : Holds mostSignals signalSize (signalRule (n .checks) (checkAt xs) (signalAt (signalsPart xs n))) (signalsPart xs n) (n .signals)
+  pub codes : Holds mostCodes codeSize (codeRule (n .signals) (signalAt (signalsPart xs n)) (codeAt (codesPart xs n))) (codesPart xs n) (n .codes)
+  pub routes : Holds mostRoutes routeSize (routeRule (n .signals) (signalAt (signalsPart xs n)) (routeAt (routesPart xs n))) (routesPart xs n) (n .routes)
+  pub ends : length (routesPart xs n) ≤ entry routeSize (n .routes)
+  pub version : n .version ≡ greatestSince (n .signals) (signalAt (signalsPart xs n))
+
+-- each section in turn: what its part keeps, and what the rest gives, at the counts that the whole reports
+module _ (signals : ℕ) (signal : ℕ → Signal) (checks : ℕ) (n : Counts) where
+  from-routes : (codes : ℕ) (xs : List ℕ) → fromRoutes signals signal checks codes xs ≡ gives n
+      → (r : ℕ) × ((Holds mostRoutes routeSize (routeRule signals signal (routeAt xs)) xs r) × ((length xs ≤ entry routeSize r)
+      × (_≡_ {A = Counts} (record { checks = checks; signals = signals; codes = codes; routes = r; version = greatestSince signals signal }) n)))
+  unfolding fromRoutes ending
+  from-routes codes xs e =
+      let d = and-then (judgeSection mostRoutes routeSize (routeRule signals signal (routeAt xs)) xs) (ending signals signal checks codes xs) n e in
+      let z = not-refused _ _ _ _ n (d .1 .1) in
+      (d .0, (holds-of _ _ _ _ _ (d .1 .0), (ltb-false _ _ (z .0), sym (gives-one _ _ _ (z .1) refl))))
+
+  from-codes : (xs : List ℕ) → fromCodes signals signal checks xs ≡ gives n
+      → (Holds mostCodes codeSize (codeRule signals signal (codeAt xs)) xs (n .codes))
+      × (fromRoutes signals signal checks (n .codes) (rest codeSize (n .codes) xs) ≡ gives n)
+  unfolding fromCodes
+  from-codes xs e =
+      let c = and-then (judgeSection mostCodes codeSize (codeRule signals signal (codeAt xs)) xs)
+      (λ codes. shift (entry codeSize codes) (fromRoutes signals signal checks codes (rest codeSize codes xs))) n e in
+      let f = not-shifted _ _ n (c .1 .1) in
+      let q : c .0 ≡ n .codes = ap (λ (m : Counts). m .codes) (from-routes (c .0) _ f .1 .1 .1) in
+      (holds-of _ _ _ _ _ (rw q at (c .1 .0)), rw q at f)
+
+from-signals : (checks : ℕ) (check : ℕ → ℕ) (n : Counts) (xs : List ℕ) → fromSignals checks check xs ≡ gives n
+    → (Holds mostSignals signalSize (signalRule checks check (signalAt xs)) xs (n .signals))
+    × (fromCodes (n .signals) (signalAt xs) checks (rest signalSize (n .signals) xs) ≡ gives n)
+unfolding fromSignals
+from-signals checks check n xs e =
+    let b = and-then (judgeSection mostSignals signalSize (signalRule checks check (signalAt xs)) xs)
+    (λ signals. shift (entry signalSize signals) (fromCodes signals (signalAt xs) checks (rest signalSize signals xs))) n e in
+    let f = not-shifted _ _ n (b .1 .1) in
+    let g = from-codes (b .0) (signalAt xs) checks n _ f in
+    let q : b .0 ≡ n .signals = ap (λ (m : Counts). m .signals) (from-routes (b .0) (signalAt xs) checks n (n .codes) _ (g .1) .1 .1 .1) in
+    (holds-of _ _ _ _ _ (rw q at (b .1 .0)), rw q at f)
+
+from-checks : (n : Counts) (xs : List ℕ) → judge xs ≡ gives n
+    → (Holds mostChecks checkSize (checkRule (checkAt xs)) xs (n .checks)) × (fromSignals (n .checks) (checkAt xs) (rest checkSize (n .checks) xs) ≡ gives n)
+unfolding judge
+from-checks n xs e =
+    let a = and-then (judgeSection mostChecks checkSize (checkRule (checkAt xs)) xs)
+    (λ checks. shift (entry checkSize checks) (fromSignals checks (checkAt xs) (rest checkSize checks xs))) n e in
+    let f = not-shifted _ _ n (a .1 .1) in
+    let ys = rest checkSize (a .0) xs in
+    let g = from-signals (a .0) (checkAt xs) n ys f in
+    let h = from-codes (n .signals) (signalAt ys) (a .0) n _ (g .1) in
+    let q : a .0 ≡ n .checks = ap (λ (m : Counts). m .checks) (from-routes (n .signals) (signalAt ys) (a .0) n (n .codes) _ (h .1) .1 .1 .1) in
+    (holds-of _ _ _ _ _ (rw q at (a .1 .0)), rw q at f)
+
+pub laid : (xs : List ℕ) (n : Counts) → judge xs ≡ gives n → Laid xs n
+laid xs n e =
+    let a = from-checks n xs e in
+    let b = from-signals (n .checks) (checkAt xs) n (signalsPart xs n) (a .1) in
+    let c = from-codes (n .signals) (signalAt (signalsPart xs n)) (n .checks) n (codesPart xs n) (b .1) in
+    let d = from-routes (n .signals) (signalAt (signalsPart xs n)) (n .checks) n (n .codes) (routesPart xs n) (c .1) in
+    let q : d .0 ≡ n .routes = ap (λ (m : Counts). m .routes) (d .1 .1 .1) in
+    record {
+      checks = a .0;
+      signals = b .0;
+      codes = c .0;
+      routes = rw q at (d .1 .0);
+      ends = rw q at (d .1 .1 .0);
+      version = sym (ap (λ (m : Counts). m .version) (d .1 .1 .1));
+    }
+
+pub kept-of : (xs : List ℕ) (n : Counts) → Laid xs n → Kept (listOf xs n)
+kept-of xs n h = record {
+  few-checks = h .checks .opens .within;
+  few-signals = h .signals .opens .within;
+  few-codes = h .codes .opens .within;
+  few-routes = h .routes .opens .within;
+  check = λ k lt. check-kept _ k (h .checks .entries k lt);
+  signal = λ k lt. signal-kept _ _ _ k (h .signals .entries k lt);
+  code = λ k lt. code-kept _ _ _ k (h .codes .entries k lt);
+  route = λ k lt. route-kept _ _ _ k (h .routes .entries k lt);
+}
+
+-- accepted → each entry keeps its rule
+pub kept : (xs : List ℕ) (n : Counts) → judge xs ≡ gives n → Kept (listOf xs n)
+kept xs n e = kept-of xs n (laid xs n e)
+
+-- ---- two entries of an accepted list
+
+module _ (l : SignalList) (h : Kept l) where
+  -- one step in the order of signals
+  next-signal : (j : ℕ) → suc j < l .signals → Follows (l .signal j) (l .signal (suc j))
+  next-signal j lt = let z : suc j - 1 ≡ j = omega arith in rw z at (h .signal (suc j) lt .follows (omega arith))
+
+  -- types never fall
+  pub types-rise : (d i : ℕ) → i + d < l .signals → l .signal i .type ≤ l .signal (i + d) .type
+  types-rise zero i lt = rw add-zero (le-refl _)
+  types-rise (suc d) i lt =
+      rw add-suc (⊎-elim (λ a. omega (arith, types-rise d i (omega arith))) (λ a. omega (arith, types-rise d i (omega arith), a .0)) (next-signal (i + d) (omega arith)))
+
+  -- "within a type each start is at or past the end of the field before": of any two signals of a type
+  pub fields-rise : (d i : ℕ) → i + suc d < l .signals → l .signal i .type ≡ l .signal (i + suc d) .type → fieldEnd (l .signal i) ≤ l .signal (i + suc d) .start
+  fields-rise zero i lt e =
+      let z : i + 1 ≡ suc i = omega arith in
+      rw z (⊎-elim (λ a. omega (arith, rw z at e)) (λ a. a .1) (next-signal i (omega arith)))
+  fields-rise (suc d) i lt e =
+      let z : i + suc (suc d) ≡ suc (i + suc d) = omega arith in
+      let e′ : l .signal i .type ≡ l .signal (suc (i + suc d)) .type = rw z at e in
+      let r = types-rise (suc d) i (omega arith) in
+      rw z
+      (⊎-elim (λ a. omega arith)
+      (λ a. omega (arith, a .1, fields-rise d i (omega arith) (omega (arith, a .0)), h .signal (i + suc d) (omega arith) .some))
+      (next-signal (i + suc d) (omega arith)))
+
+  -- fields of one type don't overlap
+  pub fields-apart : (i j : ℕ) → i < l .signals → j < l .signals → l .signal i .type ≡ l .signal j .type → (i ≡ j → ⊥)
+      → (fieldEnd (l .signal i) ≤ l .signal j .start) ⊎ (fieldEnd (l .signal j) ≤ l .signal i .start)
+  fields-apart i j hi hj e ne =
+      elim (decLt i j) [
+        | yes lt ↦ let z : i + suc (j - suc i) ≡ j = omega arith in inl (rw z at (fields-rise (j - suc i) i (rw z hj) (rw z e)))
+        | no ge ↦ let z : j + suc (i - suc j) ≡ i = omega arith in inr (rw z at (fields-rise (i - suc j) j (rw z hi) (rw z (sym e))))
+      ]
+
+  -- a signal goes by its type and start
+  pub one-place : (i j : ℕ) → i < l .signals → j < l .signals → l .signal i .type ≡ l .signal j .type → l .signal i .start ≡ l .signal j .start → i ≡ j
+  one-place i j hi hj e s =
+      elim (ℕ-discrete i j) [
+        | yes q ↦ q
+        | no ne ↦ ⊎-elim (λ a. omega (arith, h .signal i hi .some)) (λ a. omega (arith, h .signal j hj .some)) (fields-apart i j hi hj e ne)
+      ]
+
+  -- checks lie two bits apart at least
+  pub checks-rise : (d j : ℕ) → j + suc d < l .checks → l .check j + 2 ≤ l .check (j + suc d)
+  checks-rise zero j lt = let z : j + 1 ≡ suc j = omega arith in rw z (next-check j (omega arith))
+    where
+      next-check : (j : ℕ) → suc j < l .checks → l .check j + 2 ≤ l .check (suc j)
+      next-check j lt =
+          let z : suc j - 1 ≡ j = omega arith in
+          omega (arith, rw z at (h .check (suc j) lt .rises (omega arith)), h .check (suc j) lt .even, h .check j (omega arith) .even)
+  checks-rise (suc d) j lt =
+      let z : j + suc (suc d) ≡ suc (j + suc d) = omega arith in
+      let y : suc (j + suc d) - 1 ≡ j + suc d = omega arith in
+      rw z (omega (arith, checks-rise d j (omega arith), rw y at (h .check (suc (j + suc d)) (omega arith) .rises (omega arith))))
+
+  pub checks-apart : (i j : ℕ) → i < j → j < l .checks → l .check i + 2 ≤ l .check j
+  checks-apart i j lt hj = let z : i + suc (j - suc i) ≡ j = omega arith in rw z at (checks-rise (j - suc i) i (rw z hj))
+
+  -- routes don't overlap
+  routes-rise : (d i : ℕ) → i + suc d < l .routes → routeEnd (l .signal) (l .route i) ≤ l .route (i + suc d) .start
+  routes-rise zero i lt =
+      let z : i + 1 ≡ suc i = omega arith in
+      let y : suc i - 1 ≡ i = omega arith in
+      rw z (rw y at (h .route (suc i) (omega arith) .follows (omega arith)))
+  routes-rise (suc d) i lt =
+      let z : i + suc (suc d) ≡ suc (i + suc d) = omega arith in
+      let y : suc (i + suc d) - 1 ≡ i + suc d = omega arith in
+      rw z (omega (arith, routes-rise d i (omega arith), rw y at (h .route (suc (i + suc d)) (omega arith) .follows (omega arith))))
+
+  pub routes-apart : (i j : ℕ) → i < j → j < l .routes → routeEnd (l .signal) (l .route i) ≤ l .route j .start
+  routes-apart i j lt hj = let z : i + suc (j - suc i) ≡ j = omega arith in rw z at (routes-rise (j - suc i) i (rw z hj))

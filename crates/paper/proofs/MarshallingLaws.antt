@@ -1,0 +1,107 @@
+-- Marshalled data: each destination field holds its reading, every other bit is as before, and a field routed from one vehicle depends
+-- on no other vehicle's slot. Assumes nothing.
+use Prim.Native.Nat.{ℕ, _+_, _*_, _^_, _≤_, _<_}
+use mathlib.Core.Path.{_≡_, refl, sym, ap, _∙_}
+use mathlib.Core.Logic.{_⊎_, inl, inr}
+use mathlib.Core.Bool.{Bool, true, false, not, cond}
+use mathlib.Core.List.{List}
+use native.Mathlib.Omega.{arith}
+use lib.ListN.{length}
+use lib.Dec.{ltb, leb}
+use borrow.Author.Tests.{ltb-false, eqb-true, not-false}
+use Rattle.paper.specs.Octets.{bit, field, Put, puts, Octets}
+use Rattle.paper.specs.Answer.{Answer, gives, refuseIf}
+use Rattle.paper.specs.First.{some, count}
+use Rattle.paper.specs.SignalList.{Signal, SignalList, Counts, routeEnd, judge, listOf}
+use Rattle.paper.specs.Store.{Slot, storeOctets, slotOf}
+use Rattle.paper.specs.Reading.{Reading, codeOf, reasonOf, readingOf, readingAt}
+use Rattle.paper.specs.Marshalling.{routed, routePut, marshalled, live, Marshalled, marshalling}
+use Rattle.paper.proofs.AnswerLaws.{not-refused, and-then, gives-one}
+use Rattle.paper.proofs.FirstLaws.{some-none}
+use Rattle.paper.proofs.FieldLaws.{field-lt}
+use Rattle.paper.proofs.PutsLaws.{length-puts, octets-puts, bit-puts-other, field-puts}
+use Rattle.paper.proofs.ListLaws.{Kept, kept, routes-apart}
+use Rattle.paper.proofs.ReadingLaws.{isolation}
+
+-- a reading fits its signal's width, live or replaced
+pub reading-fits : (l : SignalList) → Kept l → (slot : Slot) (now k : ℕ) → k < l .signals → readingOf l slot now k .value < 2 ^ l .signal k .width
+unfolding readingOf codeOf
+reading-fits l h slot now k lt = by (leb 2 (reasonOf l slot now k))
+  where
+    by : (b : Bool) → cond b (l .signal k .replacement) (field (slot .telegram) (l .signal k .start) (l .signal k .width)) < 2 ^ l .signal k .width
+    by true = h .signal k lt .fits
+    by false = field-lt (slot .telegram) (l .signal k .start) (l .signal k .width)
+
+module _ (l : SignalList) (h : Kept l) (store : List ℕ) (now : ℕ) (bus : List ℕ) where
+  pub length-marshalled : (n : ℕ) → length (marshalled l store now bus n) ≡ length bus
+  unfolding marshalled
+  length-marshalled n = length-puts (routePut l store now) bus n
+
+  pub octets-marshalled : (n : ℕ) → Octets bus → Octets (marshalled l store now bus n)
+  unfolding marshalled
+  octets-marshalled n o = octets-puts (routePut l store now) bus n o
+
+  -- "changes no other bit"
+  pub outside-routes : (a : ℕ)
+      → ((r : ℕ) → r < l .routes → l .route r .start ≤ a → a < routeEnd (l .signal) (l .route r) → ⊥)
+      → bit (marshalled l store now bus (l .routes)) a ≡ bit bus a
+  unfolding marshalled
+  outside-routes a out = bit-puts-other (routePut l store now) bus (l .routes) a (λ r lt w. out r lt)
+
+  -- "writes each route's value into its destination field": every route's, the last as the first
+  pub each-route : ((r : ℕ) → r < l .routes → routeEnd (l .signal) (l .route r) ≤ 8 * length bus) → (r : ℕ) → r < l .routes
+      → field (marshalled l store now bus (l .routes)) (l .route r .start) (l .signal (l .route r .signal) .width) ≡ routed l store now r .value
+  unfolding marshalled routed readingAt
+  each-route fits r lt =
+      field-puts (routePut l store now) bus (l .routes) r lt refl (fits r lt)
+      (reading-fits l h (slotOf store (l .route r .vehicle)) now (l .route r .signal) (h .route r lt .exists))
+      (λ j a b _. inr (routes-apart l h r j a b))
+
+-- what marshalling that is not refused tells
+pub record Marshals (xs store : List ℕ) (now : ℕ) (bus : List ℕ) (m : Marshalled) : Type 0 where
+  pub counts : Counts
+  pub accepted : judge xs ≡ gives counts
+  pub whole : length store ≡ storeOctets
+  pub room : (r : ℕ) → r < counts .routes → routeEnd (listOf xs counts .signal) (listOf xs counts .route r) ≤ 8 * length bus
+  pub octets : m .octets ≡ marshalled (listOf xs counts) store now bus (counts .routes)
+  pub lives : m .lives ≡ count (live (listOf xs counts) store now) (counts .routes)
+
+pub marshals : (xs store : List ℕ) (now : ℕ) (bus : List ℕ) (m : Marshalled) → marshalling xs store now bus ≡ gives m → Marshals xs store now bus m
+unfolding marshalling
+marshals xs store now bus m e =
+    let o = and-then (judge xs) _ m e in
+    let l = listOf xs (o .0) in
+    let a = not-refused _ _ _ _ _ (o .1 .1) in
+    let b = not-refused _ _ _ _ _ (a .1) in
+    let q = gives-one _ _ _ (b .1) refl in
+    record {
+      counts = o .0;
+      accepted = o .1 .0;
+      whole = eqb-true _ _ (not-false _ (a .0));
+      room = λ r lt. ltb-false _ _ (some-none (λ r. ltb (8 * length bus) (routeEnd (l .signal) (l .route r))) (l .routes) (b .0) r lt);
+      octets = ap (λ (x : Marshalled). x .octets) q;
+      lives = ap (λ (x : Marshalled). x .lives) q;
+    }
+
+-- DEMAND 2 for marshalling: of every accepted call, each destination field holds its reading
+pub destination : (xs store : List ℕ) (now : ℕ) (bus : List ℕ) (m : Marshalled) (h : Marshals xs store now bus m)
+    → let l = listOf xs (h .counts) in (r : ℕ) → r < l .routes
+    → field (m .octets) (l .route r .start) (l .signal (l .route r .signal) .width) ≡ readingAt l store now (l .route r .vehicle) (l .route r .signal) .value
+unfolding routed
+destination xs store now bus m h r lt =
+    let l = listOf xs (h .counts) in
+    rw (h .octets) (each-route l (kept xs (h .counts) (h .accepted)) store now bus (h .room) r lt)
+
+-- and every bit outside the routes is as before
+pub other-bit : (xs store : List ℕ) (now : ℕ) (bus : List ℕ) (m : Marshalled) (h : Marshals xs store now bus m)
+    → let l = listOf xs (h .counts) in (a : ℕ)
+    → ((r : ℕ) → r < l .routes → l .route r .start ≤ a → a < routeEnd (l .signal) (l .route r) → ⊥) → bit (m .octets) a ≡ bit bus a
+other-bit xs store now bus m h a out =
+    let l = listOf xs (h .counts) in
+    rw (h .octets) (outside-routes l (kept xs (h .counts) (h .accepted)) store now bus a out)
+
+-- "A field routed from one vehicle depends on no other vehicle's slot."
+pub no-other-slot : (l : SignalList) (store store′ : List ℕ) (now r : ℕ) → slotOf store (l .route r .vehicle) ≡ slotOf store′ (l .route r .vehicle)
+    → routed l store now r ≡ routed l store′ now r
+unfolding routed
+no-other-slot l store store′ now r e = isolation l store store′ now (l .route r .vehicle) (l .route r .signal) e

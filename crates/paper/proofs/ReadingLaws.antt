@@ -1,0 +1,164 @@
+-- Demand 2 over the definitions: a value is live exactly when it should be, and otherwise the first reason that applies. Assumes nothing.
+use Prim.Native.Nat.{ℕ, zero, suc, _+_, _-_, _*_, _^_, _≤_, _<_}
+use mathlib.Core.Path.{_≡_, refl, sym, ap, _∙_}
+use mathlib.Core.Logic.{_↔_, _⊎_, inl, inr, ⊎-elim}
+use mathlib.Core.Bool.{Bool, true, false, not, cond, _&&_, _||_, true≢false, false≢true}
+use mathlib.Core.List.{List, [], _∷_}
+use native.Mathlib.Omega.{arith}
+use native.Mathlib.Decide.{ℕ-discrete}
+use lib.ListN.{length, getD}
+use lib.Dec.{ltb, leb, eqb}
+use borrow.Author.Tests.{ltb-true, ltb-false, leb-true, leb-false, eqb-true, eqb-false, not-true, not-false, le-leb, lt-leb, le-ltb, lt-ltb, ne-eqb, eq-eqb}
+use Rattle.paper.specs.Octets.{field}
+use Rattle.paper.specs.First.{firstOf}
+use Rattle.paper.specs.Telegrams.{telegramType, versionOf, carries, error, ok, forced, undefined, markWidth}
+use Rattle.paper.specs.SignalList.{Signal, SignalList}
+use Rattle.paper.specs.Extends.{knows, placeOf}
+use Rattle.paper.specs.Store.{Slot, slotOf, age, inTime}
+use Rattle.paper.specs.Reading.{Reading, heard, markOf, codeOf, hindrances, reasonOf, readingOf, readingAt}
+use Rattle.paper.proofs.FieldLaws.{field-lt}
+
+-- ---- the first of numbered tests
+
+-- the test i holds and none before it
+pub record FirstAt (ts : List Bool) (i : ℕ) : Type 0 where
+  pub here : getD ts i false ≡ true
+  pub before : (j : ℕ) → j < i → getD ts j false ≡ false
+
+abbrev pub None : List Bool → Type 0
+None ts = (j : ℕ) → getD ts j false ≡ false
+
+pub first-of-at : (n : ℕ) (ts : List Bool) (other i : ℕ) → FirstAt ts i → firstOf n ts other ≡ n + i
+first-of-at n [] other i h = absurd (false≢true (h .here))
+first-of-at n (t ∷ ts) other zero h = rw (h .here) (omega arith)
+first-of-at n (t ∷ ts) other (suc i) h =
+    rw (h .before 0 (omega arith))
+    (first-of-at (suc n) ts other i (record { here = h .here; before = λ j lt. h .before (suc j) (omega arith) }) ∙ omega arith)
+
+pub first-of-none : (n : ℕ) (ts : List Bool) (other : ℕ) → None ts → firstOf n ts other ≡ other
+first-of-none n [] other h = refl
+first-of-none n (t ∷ ts) other h = rw (h 0) (first-of-none (suc n) ts other (λ j. h (suc j)))
+
+-- and nothing else is: the number says which test is the first, or that none holds
+pub first-of-told : (n : ℕ) (ts : List Bool) (other : ℕ) → ((i : ℕ) × ((i < length ts) × (FirstAt ts i))) ⊎ None ts
+first-of-told n [] other = inr (λ j. refl)
+first-of-told n (true ∷ ts) other = inl (0, (omega arith, record { here = refl; before = λ j lt. absurd (omega arith) }))
+first-of-told n (false ∷ ts) other = by (first-of-told n ts other)
+  where
+    before : (i : ℕ) → FirstAt ts i → (j : ℕ) → j < suc i → getD (false ∷ ts) j false ≡ false
+    before i h zero lt = refl
+    before i h (suc j) lt = h .before j (omega arith)
+
+    nowhere : None ts → (j : ℕ) → getD (false ∷ ts) j false ≡ false
+    nowhere h zero = refl
+    nowhere h (suc j) = h j
+
+    by : ((i : ℕ) × ((i < length ts) × (FirstAt ts i))) ⊎ None ts → ((i : ℕ) × ((i < length (false ∷ ts)) × (FirstAt (false ∷ ts) i))) ⊎ None (false ∷ ts)
+    by (inl w) = inl (suc (w .0), (omega (arith, w .1 .0), record { here = w .1 .1 .here; before = before (w .0) (w .1 .1) }))
+    by (inr h) = inr (nowhere h)
+
+-- ---- reading
+
+module _ (l : SignalList) (slot : Slot) (now k : ℕ) where
+  live-reason : ℕ
+  live-reason = cond (eqb (markOf l (l .signal k) (slot .telegram)) forced) 1 0
+
+  live-low : live-reason ≤ 1
+  unfolding live-reason
+  live-low = by (eqb (markOf l (l .signal k) (slot .telegram)) forced)
+    where
+      by : (b : Bool) → cond b 1 0 ≤ 1
+      by true = omega arith
+      by false = omega arith
+
+  -- "the first reason that applies": reason 2 + i is given exactly when test i is the first to hold
+  pub reason-exactly : (i : ℕ) → i < 7 → (reasonOf l slot now k ≡ 2 + i) ↔ FirstAt (hindrances l slot now k) i
+  unfolding reasonOf live-reason
+  reason-exactly i lt = (λ e. by e (first-of-told 2 (hindrances l slot now k) live-reason), λ h. first-of-at 2 (hindrances l slot now k) live-reason i h)
+    where
+      by : firstOf 2 (hindrances l slot now k) live-reason ≡ 2 + i
+          → ((j : ℕ) × ((j < length (hindrances l slot now k)) × (FirstAt (hindrances l slot now k) j))) ⊎ None (hindrances l slot now k)
+          → FirstAt (hindrances l slot now k) i
+      by e (inl w) =
+          let q : w .0 ≡ i = omega (arith, first-of-at 2 (hindrances l slot now k) live-reason (w .0) (w .1 .1)) in
+          rw q at (w .1 .1)
+      by e (inr h) = absurd (omega (arith, first-of-none 2 (hindrances l slot now k) live-reason h, live-low))
+
+  -- and a reason below 2 exactly when none holds
+  pub live-none : (reasonOf l slot now k ≤ 1) ↔ None (hindrances l slot now k)
+  unfolding reasonOf live-reason
+  live-none = (λ e. by e (first-of-told 2 (hindrances l slot now k) live-reason), λ h. rw (first-of-none 2 (hindrances l slot now k) live-reason h) live-low)
+    where
+      by : firstOf 2 (hindrances l slot now k) live-reason ≤ 1
+          → ((j : ℕ) × ((j < length (hindrances l slot now k)) × (FirstAt (hindrances l slot now k) j))) ⊎ None (hindrances l slot now k)
+          → None (hindrances l slot now k)
+      by e (inl w) = absurd (omega (arith, first-of-at 2 (hindrances l slot now k) live-reason (w .0) (w .1 .1)))
+      by e (inr h) = h
+
+-- "A value is live exactly when its telegram was heard, is within its time limit, carries the signal and is new enough, its mark, if it
+-- has a check, is ok or forced, and the code is known."
+pub record Live (l : SignalList) (slot : Slot) (now k : ℕ) : Type 0 where
+  pub heard-from : heard slot ≡ true
+  pub in-time : inTime (age now (slot .stamp)) (l .signal k .limit) ≡ true
+  pub carried : carries (telegramType (slot .telegram)) (l .signal k .type) ≡ true
+  pub new-enough : l .signal k .since ≤ versionOf (slot .telegram)
+  pub mark : (markOf l (l .signal k) (slot .telegram) ≡ ok) ⊎ (markOf l (l .signal k) (slot .telegram) ≡ forced)
+  pub known : knows l k (codeOf (l .signal k) (slot .telegram)) ≡ true
+
+pub mark-lt : (l : SignalList) (s : Signal) (telegram : List ℕ) → markOf l s telegram < 4
+unfolding markOf
+mark-lt l s telegram = by (eqb (s .check) 0)
+  where
+    by : (b : Bool) → cond b ok (field telegram (placeOf l s) markWidth) < 4
+    by true = omega arith
+    by false = field-lt telegram (placeOf l s) 2
+
+module _ (l : SignalList) (slot : Slot) (now k : ℕ) where
+  none-live : None (hindrances l slot now k) → Live l slot now k
+  unfolding hindrances
+  none-live h =
+      let m = markOf l (l .signal k) (slot .telegram) in
+      let e : m ≡ 0 → ⊥ = eqb-false _ _ (h 4) in
+      let u : m ≡ 3 → ⊥ = eqb-false _ _ (h 5) in
+      record {
+        heard-from = not-false _ (h 0);
+        in-time = not-false _ (h 1);
+        carried = not-false _ (h 2);
+        new-enough = ltb-false _ _ (h 3);
+        mark = elim (ℕ-discrete m 1) [ yes q ↦ inl q | no n ↦ inr (omega (arith, mark-lt l (l .signal k) (slot .telegram))) ];
+        known = not-false _ (h 6);
+      }
+
+  not-mark : (m : ℕ) → (1 ≡ m → ⊥) → (2 ≡ m → ⊥) → (markOf l (l .signal k) (slot .telegram) ≡ ok) ⊎ (markOf l (l .signal k) (slot .telegram) ≡ forced)
+      → eqb (markOf l (l .signal k) (slot .telegram)) m ≡ false
+  not-mark m p q (inl e) = rw e (ne-eqb 1 m p)
+  not-mark m p q (inr e) = rw e (ne-eqb 2 m q)
+
+  live-none-holds : Live l slot now k → None (hindrances l slot now k)
+  unfolding hindrances
+  live-none-holds h zero = ap not (h .heard-from)
+  live-none-holds h (suc zero) = ap not (h .in-time)
+  live-none-holds h (suc (suc zero)) = ap not (h .carried)
+  live-none-holds h (suc (suc (suc zero))) = le-ltb _ _ (h .new-enough)
+  live-none-holds h (suc (suc (suc (suc zero)))) = not-mark 0 (λ z. omega arith) (λ z. omega arith) (h .mark)
+  live-none-holds h (suc (suc (suc (suc (suc zero))))) = not-mark 3 (λ z. omega arith) (λ z. omega arith) (h .mark)
+  live-none-holds h (suc (suc (suc (suc (suc (suc zero)))))) = ap not (h .known)
+  live-none-holds h (suc (suc (suc (suc (suc (suc (suc j))))))) = refl
+
+  pub live-exactly : (readingOf l slot now k .reason ≤ 1) ↔ Live l slot now k
+  unfolding readingOf
+  live-exactly = (λ e. none-live (live-none l slot now k .0 e), λ h. live-none l slot now k .1 (live-none-holds h))
+
+  -- a live value is the code in the signal's field, and any other the replacement
+  pub live-value : readingOf l slot now k .reason ≤ 1 → readingOf l slot now k .value ≡ codeOf (l .signal k) (slot .telegram)
+  unfolding readingOf
+  live-value h = simp (lt-leb 2 (reasonOf l slot now k) (omega arith))
+
+  pub replaced-value : 2 ≤ readingOf l slot now k .reason → readingOf l slot now k .value ≡ l .signal k .replacement
+  unfolding readingOf
+  replaced-value h = simp (le-leb 2 (reasonOf l slot now k) h)
+
+-- two stores that agree on a vehicle's slot agree on its readings
+pub isolation : (l : SignalList) (store store′ : List ℕ) (now v k : ℕ) → slotOf store v ≡ slotOf store′ v → readingAt l store now v k ≡ readingAt l store′ now v k
+unfolding readingAt
+isolation l store store′ now v k e = ap (λ (s : Slot). readingOf l s now k) e

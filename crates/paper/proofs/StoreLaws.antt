@@ -1,0 +1,156 @@
+-- The laws of the store: a slot that was written says what was written, and every other slot is as before. Assumes nothing.
+use Prim.Native.Nat.{ℕ, zero, suc, _+_, _-_, _*_, _%_, _≤_, _<_}
+use mathlib.Core.Path.{_≡_, refl, sym, ap, ap₂, _∙_}
+use mathlib.Core.Logic.{_⊎_, inl, inr, ⊎-elim}
+use mathlib.Core.Bool.{Bool, true, false, not, cond, _&&_, _||_}
+use mathlib.Core.List.{List, [], _∷_, _++_}
+use native.Mathlib.Nat.{mod-eq-of-lt}
+use native.Mathlib.Omega.{arith}
+use native.Mathlib.Decide.{decLt}
+use lib.ListN.{length, getD, take, drop, replicate, length-append, length-replicate}
+use lib.Seq.{drop-at, take-take, take-all}
+use lib.Dec.{ltb, leb, eqb}
+use borrow.Author.Tests.{ltb-false, leb-true, eqb-true, not-false}
+use Rattle.paper.specs.Octets.{field, number, octetsOf, over}
+use Rattle.paper.specs.Answer.{Answer, gives, refused, refuseIf, after}
+use Rattle.paper.specs.Telegrams.{applicationType, telegramType, isType, typeLength}
+use Rattle.paper.specs.Store.{vehicles, telegramOctets, slotHead, slotOctets, storeOctets, isStore, isVehicle, Slot, slotStart, slotFrom, slotTo, slotOf, taken, taking, turn}
+use Rattle.paper.specs.Demands.{Step, offer, step, run, Passes, NoneLater, Standing}
+use Rattle.paper.proofs.AnswerLaws.{not-refused, never-both}
+use Rattle.paper.proofs.ListLaws.{both}
+use Rattle.paper.proofs.NumberLaws.{length-octetsOf, number-octetsOf-front, number-front, number-back, length-over, part-over, other-over}
+
+-- what a telegram that is taken meets
+pub record Takes (store : List ℕ) (v : ℕ) (telegram : List ℕ) : Type 0 where
+  pub whole : length store ≡ storeOctets
+  pub first : 1 ≤ v
+  pub last : v ≤ vehicles
+  pub application : applicationType telegram ≡ 1
+  pub typed : isType (telegramType telegram) ≡ true
+  pub long : length telegram ≡ typeLength (telegramType telegram)
+
+pub takes : (store : List ℕ) (v now : ℕ) (telegram new : List ℕ) → taking store v now telegram ≡ gives new → (Takes store v telegram) × (taken store v now telegram ≡ new)
+unfolding taking
+takes store v now telegram new e =
+    let a = not-refused _ _ _ _ _ e in
+    let b = not-refused _ _ _ _ _ (a .1) in
+    let c = not-refused _ _ _ _ _ (b .1) in
+    let d = not-refused _ _ _ _ _ (c .1) in
+    let f = not-refused _ _ _ _ _ (d .1) in
+    let g = not-refused _ _ _ _ _ (f .1) in
+    let w = both _ _ (not-false _ (b .0)) in (
+      record {
+        whole = eqb-true _ _ (not-false _ (a .0));
+        first = leb-true _ _ (w .0);
+        last = leb-true _ _ (w .1);
+        application = eqb-true _ _ (not-false _ (d .0));
+        typed = not-false _ (f .0);
+        long = eqb-true _ _ (not-false _ (g .0));
+      },
+      cc (g .1),
+    )
+
+pub type-short : (t : ℕ) → typeLength t ≤ telegramOctets
+type-short t = by (eqb t 3)
+  where
+    by : (b : Bool) → cond b 40 128 ≤ 128
+    by true = omega arith
+    by false = omega arith
+
+-- the octets of a slot: as many as a slot has
+pub length-slot : (now : ℕ) (telegram : List ℕ) → length telegram ≤ telegramOctets → length (slotTo now telegram) ≡ slotOctets
+length-slot now telegram h =
+    let zeros : List ℕ = replicate (telegramOctets - length telegram) 0 in
+    let z : length zeros ≡ telegramOctets - length telegram = length-replicate (telegramOctets - length telegram) 0 in
+    omega (arith, length-append (octetsOf 4 now) (telegram ++ zeros), length-octetsOf 4 now, length-append telegram zeros)
+
+-- the telegram as it stands in a slot: followed by zeros
+abbrev pub padded : List ℕ → List ℕ
+padded telegram = telegram ++ replicate (telegramOctets - length telegram) 0
+
+-- what a slot that was written says
+pub slot-says : (now : ℕ) (telegram : List ℕ) → now < turn
+    → slotFrom (slotTo now telegram) ≡ record { heard = 1; stamp = now; telegram = padded telegram }
+slot-says now telegram h =
+    let s : number (1 ∷ (octetsOf 4 now ++ padded telegram)) 1 4 ≡ now =
+    number-back (1 ∷ []) (octetsOf 4 now ++ padded telegram) 0 4 ∙ number-octetsOf-front 4 now (padded telegram) ∙ mod-eq-of-lt h in
+    let d : drop 5 (1 ∷ (octetsOf 4 now ++ padded telegram)) ≡ padded telegram = drop-at (octetsOf 4 now) (padded telegram) 4 (length-octetsOf 4 now) in
+    ap₂ (λ (x : ℕ) (y : List ℕ). record { heard = 1; stamp = x; telegram = y }) s d
+
+module _ (store : List ℕ) (v now : ℕ) (telegram : List ℕ) (whole : length store ≡ storeOctets) (first : 1 ≤ v) (last : v ≤ vehicles) (short : length telegram ≤ telegramOctets) where
+  fits : slotStart v + length (slotTo now telegram) ≤ length store
+  fits = omega (arith, length-slot now telegram short)
+
+  pub length-taken : length (taken store v now telegram) ≡ length store
+  unfolding taken
+  length-taken = length-over store (slotStart v) (slotTo now telegram) fits
+
+  -- the slot of the vehicle says what was written
+  pub slot-taken : slotOf (taken store v now telegram) v ≡ slotFrom (slotTo now telegram)
+  unfolding taken slotOf
+  slot-taken = ap slotFrom (ap (λ (n : ℕ). take n (drop (slotStart v) (over store (slotStart v) (slotTo now telegram)))) (sym (length-slot now telegram short)) ∙ part-over store (slotStart v) (slotTo now telegram) fits)
+
+  -- and every other vehicle's slot is as before
+  pub slot-other : (w : ℕ) → 1 ≤ w → (v ≡ w → ⊥) → slotOf (taken store v now telegram) w ≡ slotOf store w
+  unfolding taken slotOf
+  slot-other w h ne = ap slotFrom (other-over store (slotStart v) (slotTo now telegram) fits (slotStart w) slotOctets (side (decLt w v)))
+    where
+      side : Dec (w < v) → (slotStart w + slotOctets ≤ slotStart v) ⊎ (slotStart v + length (slotTo now telegram) ≤ slotStart w)
+      side (yes lt) = inl (omega arith)
+      side (no ge) = inr (omega (arith, length-slot now telegram short))
+
+-- ---- steps
+
+-- a step that takes nothing from v leaves v's slot as it was
+step-other : (v : ℕ) (store : List ℕ) (s : Step) → 1 ≤ v → Passes v store s → slotOf (step store s) v ≡ slotOf store v
+step-other v store (offer w now telegram) h p = by (taking store w now telegram) refl p
+  where
+    by : (a : Answer (List ℕ)) → taking store w now telegram ≡ a → (w ≡ v → ⊥) ⊎ ((n : ℕ) × ((at : ℕ) × (taking store w now telegram ≡ refused n at)))
+        → slotOf (after store a) v ≡ slotOf store v
+    by (refused n at) e q = refl
+    by (gives new) e (inr q) = absurd (never-both (taking store w now telegram) new (q .0) (q .1 .0) e (q .1 .1))
+    by (gives new) e (inl ne) =
+        let t = takes store w now telegram new e in
+        let g = t .0 in
+        rw (← t .1) (slot-other store w now telegram (g .whole) (g .first) (g .last) (omega (arith, g .long, type-short (telegramType telegram))) v h ne)
+
+pub run-other : (v : ℕ) (store : List ℕ) (steps : List Step) → 1 ≤ v → NoneLater v store steps → slotOf (run store steps) v ≡ slotOf store v
+unfolding run NoneLater
+run-other v store [] h n = refl
+run-other v store (s ∷ ss) h n = run-other v (step store s) ss h (n .1) ∙ step-other v store s h (n .0)
+
+-- a step keeps the store's length
+pub length-step : (store : List ℕ) (s : Step) → length (step store s) ≡ length store
+length-step store (offer w now telegram) = by (taking store w now telegram) refl
+  where
+    by : (a : Answer (List ℕ)) → taking store w now telegram ≡ a → length (after store a) ≡ length store
+    by (refused n at) e = refl
+    by (gives new) e =
+        let t = takes store w now telegram new e in
+        let g = t .0 in
+        rw (← t .1) (length-taken store w now telegram (g .whole) (g .first) (g .last) (omega (arith, g .long, type-short (telegramType telegram))))
+
+pub length-run : (store : List ℕ) (steps : List Step) → length (run store steps) ≡ length store
+unfolding run
+length-run store [] = refl
+length-run store (s ∷ ss) = length-run (step store s) ss ∙ length-step store s
+
+-- what stands in a store that keeps a telegram: the slot says it, and the store is whole
+module _ (v stamp now limit : ℕ) (telegram store : List ℕ) (h : Standing v stamp now limit telegram store) where
+  pub stood : Takes (h .before) v telegram
+  stood = takes (h .before) v stamp telegram (taken (h .before) v stamp telegram) (h .took) .0
+
+  pub standing-slot : slotOf store v ≡ record { heard = 1; stamp = stamp; telegram = padded telegram }
+  standing-slot =
+      let g = stood in
+      let short : length telegram ≤ telegramOctets = omega (arith, g .long, type-short (telegramType telegram)) in
+      rw (← h .reached)
+      (run-other v (taken (h .before) v stamp telegram) (h .steps) (g .first) (h .later)
+      ∙ slot-taken (h .before) v stamp telegram (g .whole) (g .first) (g .last) short
+      ∙ slot-says stamp telegram (h .clock))
+
+  pub standing-whole : length store ≡ storeOctets
+  standing-whole =
+      let g = stood in
+      let short : length telegram ≤ telegramOctets = omega (arith, g .long, type-short (telegramType telegram)) in
+      rw (← h .reached) (length-run (taken (h .before) v stamp telegram) (h .steps) ∙ length-taken (h .before) v stamp telegram (g .whole) (g .first) (g .last) short ∙ g .whole)

@@ -1,0 +1,27 @@
+-- Document 01, "Bench examples": the list L and what it is judged to.
+use Prim.Native.Nat.{ℕ, _-_}
+use mathlib.Core.Path.{_≡_, refl}
+use mathlib.Core.List.{List, [], _∷_, _++_}
+use lib.ListN.{length, take, replicate}
+use Rattle.paper.specs.Octets.{bit, field, setBit, withBit, put, number, octetsOf, over}
+use Rattle.paper.specs.Answer.{Answer, gives, refused, refuseIf}
+use Rattle.paper.specs.First.{firstFrom, firstBad, all, some, count, greatest}
+use Rattle.paper.specs.SignalList
+use Rattle.paper.specs.SignalList.{Counts, judge}
+
+-- "The list L, 44 octets, for voltage selection (4.3), octet 54 bits 0-3, check 41 2/3"
+unfoldable pub listL : List ℕ
+listL =
+    0x00 ∷ 0x01 ∷ 0x01 ∷ 0x42
+    ∷ 0x00 ∷ 0x01 ∷ 0x01 ∷ 0xA8 ∷ 0x04 ∷ 0x01 ∷ 0x01 ∷ 0x01 ∷ 0x00 ∷ 0x00 ∷ 0x13 ∷ 0x88 ∷ 0x00 ∷ 0x00 ∷ 0x00 ∷ 0x00 ∷ 0x00 ∷ 0x00
+    ∷ 0x00 ∷ 0x02 ∷ 0x00 ∷ 0x00 ∷ 0x00 ∷ 0x00 ∷ 0x00 ∷ 0x06 ∷ 0x00 ∷ 0x00 ∷ 0x00 ∷ 0x0F ∷ 0x00 ∷ 0x0F
+    ∷ 0x00 ∷ 0x01 ∷ 0x00 ∷ 0x00 ∷ 0x01 ∷ 0x00 ∷ 0x00 ∷ 0x00 ∷ []
+
+-- "list ok checks=1 signals=1 codes=2 routes=1 version=1"
+abbrev countsL : Counts
+countsL = record { checks = 1; signals = 1; codes = 2; routes = 1; version = 1 }
+
+-- L; "L less its last octet: refusal 1 at 36; L with an octet more: 4 at 44; empty list: 1 at 0"
+judged : (judge listL ≡ gives countsL) × (judge (take 43 listL) ≡ refused 1 36) × (judge (listL ++ (0 ∷ [])) ≡ refused 4 44) × (judge [] ≡ refused 1 0)
+unfolding listL number refuseIf firstFrom firstBad all some greatest SignalList.checkAt SignalList.signalAt SignalList.codeAt SignalList.routeAt SignalList.checkRule SignalList.signalRule SignalList.codeRule SignalList.routeRule SignalList.opening SignalList.judgeEntries SignalList.judgeSection SignalList.greatestSince SignalList.ending SignalList.fromRoutes SignalList.fromCodes SignalList.fromSignals judge
+judged = (refl, refl, refl, refl)

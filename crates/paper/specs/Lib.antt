@@ -1,0 +1,16 @@
+pub mod Octets
+pub mod Answer
+pub mod First
+pub mod Telegrams
+pub mod SignalList
+pub mod Extends
+pub mod Store
+pub mod Reading
+pub mod Marshalling
+pub mod Composing
+pub mod Shown
+pub mod Train
+pub mod ETelegrams
+pub mod Demands
+pub mod Bench
+pub mod Marked

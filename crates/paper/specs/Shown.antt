@@ -1,0 +1,91 @@
+-- Document 01, "Store, age and reading": a reading shown as a code, a speed in km/h, a percentage or a current.
+use mathlib.Core.Path.{_≡_}
+use mathlib.Core.Bool.{Bool, true, false, not, cond, _&&_}
+use Prim.Native.Nat.{ℕ, zero, suc, _+_, _-_, _*_, _/_, _%_, _^_, _<_}
+use lib.Dec.{eqb, leb, ltb}
+use lib.Ieee.{Float, binary32, toBits, round}
+use Rattle.paper.specs.Answer.{Answer, gives, refuseIf}
+
+-- "a percentage .. unsigned or two's complement as asked"
+pub data Kind : Type 0 where
+  code speed percentage signedPercentage current : Kind
+
+-- a code is a whole number; a scaled kind is an f32
+pub data Shown : Type 0 where
+  asCode : ℕ → Shown
+  asSpeed asPercentage asCurrent : Float → Shown
+
+-- the f32 nearest to n / d, with the sign s (true: negative)
+abbrev pub nearest : Bool → ℕ → ℕ → Float
+nearest s n d = round binary32 s n d
+
+-- two's complement: from 32,768 up a raw value stands for raw - 65,536
+abbrev pub signedPercent : ℕ → Float
+signedPercent raw = cond (ltb raw 32768) (nearest false (raw * 25) 4096) (nearest true ((65536 - raw) * 25) 4096)
+
+-- "speed = raw / 64; percentage = raw × 25 / 4096, unsigned or two's complement as asked; current = raw × 125 / 2048 A"
+abbrev pub shownAs : Kind → ℕ → Shown
+shownAs code raw = asCode raw
+shownAs speed raw = asSpeed (nearest false raw 64)
+shownAs percentage raw = asPercentage (nearest false (raw * 25) 4096)
+shownAs signedPercentage raw = asPercentage (signedPercent raw)
+shownAs current raw = asCurrent (nearest false (raw * 125) 2048)
+
+abbrev pub scaled : Kind → Bool
+scaled code = false
+scaled speed = true
+scaled percentage = true
+scaled signedPercentage = true
+scaled current = true
+
+-- 26 "scaled kind, with width not 16 or raw above 65,535"
+unfoldable pub showing : Kind → ℕ → ℕ → Answer Shown
+showing kind width raw = refuseIf (scaled kind && not (eqb width 16 && leb raw 65535)) 26 0 (gives (shownAs kind raw))
+
+-- ---- "Each is an exact f32 (zero is +0), and exactness is proved over whole numbers worked out from its bits."
+
+-- the 32 bits: a sign, 8 bits of exponent, 23 of fraction
+abbrev pub minus : ℕ → Bool
+minus b = leb (2 ^ 31) b
+
+abbrev pub exponent : ℕ → ℕ
+exponent b = b % 2 ^ 31 / 2 ^ 23
+
+abbrev pub fraction : ℕ → ℕ
+fraction b = b % 2 ^ 23
+
+-- the size in units of 2 ^ -149, the smallest there is; an exponent of 0 has no leading one and counts as 1
+abbrev pub unitsAt : ℕ → ℕ → ℕ
+unitsAt zero f = f
+unitsAt (suc x) f = (2 ^ 23 + f) * 2 ^ x
+
+unfoldable pub units : ℕ → ℕ
+units b = unitsAt (exponent b) (fraction b)
+
+-- the bits are those of a number (an exponent of 255 marks the others) of sign s whose size is n / d, nothing lost:
+-- units * 2 ^ -149 = n / d, multiplied out
+pub record ExactBits (b : ℕ) (s : Bool) (n d : ℕ) : Type 0 where
+  pub finite : exponent b < 255
+  pub sign : minus b ≡ s
+  pub size : units b * d ≡ n * 2 ^ 149
+
+abbrev pub Exactly : Float → Bool → ℕ → ℕ → Type 0
+Exactly x s n d = ExactBits (toBits binary32 x) s n d
+
+abbrev pub SignedExactly : Bool → ℕ → Float → Type 0
+SignedExactly true raw x = Exactly x false (raw * 25) 4096
+SignedExactly false raw x = Exactly x true ((65536 - raw) * 25) 4096
+
+abbrev pub PercentExactly : Kind → ℕ → Float → Type 0
+PercentExactly signedPercentage raw x = SignedExactly (ltb raw 32768) raw x
+PercentExactly percentage raw x = Exactly x false (raw * 25) 4096
+PercentExactly code raw x = ⊥
+PercentExactly speed raw x = ⊥
+PercentExactly current raw x = ⊥
+
+-- what a shown reading is worth, by the bits of its f32
+abbrev pub Exact : Kind → ℕ → Shown → Type 0
+Exact k raw (asCode c) = c ≡ raw
+Exact k raw (asSpeed x) = Exactly x false raw 64
+Exact k raw (asPercentage x) = PercentExactly k raw x
+Exact k raw (asCurrent x) = Exactly x false (raw * 125) 2048

@@ -1,0 +1,76 @@
+-- Document 01, "Store, age and reading": the store, its slots, taking a telegram, and age.
+use Prim.Native.Nat.{ℕ, _+_, _-_, _*_, _%_, _^_}
+use mathlib.Core.Bool.{Bool, not, _&&_, _||_}
+use mathlib.Core.List.{List, [], _∷_, _++_}
+use lib.ListN.{length, getD, take, drop, replicate}
+use lib.Dec.{ltb, leb, eqb}
+use Rattle.paper.specs.Octets.{number, octetsOf, over}
+use Rattle.paper.specs.Answer.{Answer, gives, refuseIf}
+use Rattle.paper.specs.Telegrams.{applicationType, telegramType, isType, typeLength}
+
+-- "The store is 8,379 octets: 63 slots of 133, vehicle 1 first."
+abbrev pub vehicles : ℕ
+vehicles = 63
+
+abbrev pub telegramOctets : ℕ
+telegramOctets = 128
+
+abbrev pub slotHead : ℕ
+slotHead = 5
+
+abbrev pub slotOctets : ℕ
+slotOctets = slotHead + telegramOctets
+
+abbrev pub storeOctets : ℕ
+storeOctets = vehicles * slotOctets
+
+abbrev pub isStore : List ℕ → Bool
+isStore store = eqb (length store) storeOctets
+
+abbrev pub isVehicle : ℕ → Bool
+isVehicle v = leb 1 v && leb v vehicles
+
+-- "A slot is a heard octet (1 = heard, all else not), a 4-octet stamp and 128 telegram octets."
+pub record Slot : Type 0 where
+  pub heard : ℕ
+  pub stamp : ℕ
+  pub telegram : List ℕ
+
+abbrev pub slotStart : ℕ → ℕ
+slotStart v = slotOctets * (v - 1)
+
+-- the layout of a slot stands here alone: what its octets say, and the octets that say it
+abbrev pub slotFrom : List ℕ → Slot
+slotFrom octets = record { heard = getD octets 0 0; stamp = number octets 1 4; telegram = drop slotHead octets }
+
+abbrev pub slotTo : ℕ → List ℕ → List ℕ
+slotTo now telegram = 1 ∷ (octetsOf 4 now ++ (telegram ++ replicate (telegramOctets - length telegram) 0))
+
+unfoldable pub slotOf : List ℕ → ℕ → Slot
+slotOf store v = slotFrom (take slotOctets (drop (slotStart v) store))
+
+-- "Taking a telegram writes its whole slot (R3 is followed by 88 zeros) and no other octet of the store."
+unfoldable pub taken : List ℕ → ℕ → ℕ → List ℕ → List ℕ
+taken store v now telegram = over store (slotStart v) (slotTo now telegram)
+
+-- 5, 6, 7, 8, 9 and 10, the lowest that applies; else the store afterwards
+unfoldable pub taking : List ℕ → ℕ → ℕ → List ℕ → Answer (List ℕ)
+taking store v now telegram =
+    refuseIf (not (isStore store)) 5 0
+    (refuseIf (not (isVehicle v)) 6 0
+    (refuseIf (ltb (length telegram) 2) 7 0
+    (refuseIf (not (eqb (applicationType telegram) 1)) 8 0
+    (refuseIf (not (isType (telegramType telegram))) 9 0
+    (refuseIf (not (eqb (length telegram) (typeLength (telegramType telegram)))) 10 0
+    (gives (taken store v now telegram)))))))
+
+-- "The age is now less stamp, modulo 4,294,967,296."
+abbrev pub turn : ℕ
+turn = 4294967296
+
+unfoldable pub age : ℕ → ℕ → ℕ
+age now stamp = (now + turn - stamp) % turn
+
+-- "Within the limit means age ≤ limit, or limit 0."
+abbrev pub inTime : ℕ → ℕ → Bool
+inTime old limit = leb old limit || eqb limit 0
