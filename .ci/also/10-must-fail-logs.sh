@@ -1,0 +1,12 @@
+# A must-fail edit shows something only where a fact fails. Where its first error is that the proof file no longer fits the code,
+# the edit shows nothing, and the gate fails.
+status=0
+for log in $(find target/must-fail -name .log | sort); do
+    first=$(grep -m 1 'error' "$log")
+    case $first in
+    *'that can be named from here'*) echo "$log: the edit only made the proof file unfit: $first"; status=1 ;;
+    '') echo "$log: no error found"; status=1 ;;
+    esac
+done
+[ "$status" -eq 0 ] && echo "$(find target/must-fail -name .log | wc -l) must-fail logs: each is refused because a fact fails"
+exit $status

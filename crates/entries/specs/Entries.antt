@@ -1,0 +1,70 @@
+-- The entries that the code reads, as those of the paper, and what each reader answers: the entry, and the bounds that spare a caller the law.
+use Prim.Native.Nat.{ℕ, _-_, _^_, _<_}
+use mathlib.Core.Path.{_≡_}
+use mathlib.Core.Bool.{Bool, _&&_, _||_}
+use mathlib.Core.List.{List}
+use lib.Dec.{eqb}
+use Rattle.paper.specs.SignalList.{Signal as PaperSignal, Code as PaperCode, Route as PaperRoute, checkAt, signalAt, codeAt, routeAt, widthRule, typeRule, placeRule, namedRule, valueRule, orderRule}
+use Rattle.entries.specs.declared.Signal.{Signal}
+use Rattle.entries.specs.declared.Code.{Code}
+use Rattle.entries.specs.declared.Route.{Route}
+
+-- the paper's type is the code's kind
+abbrev pub signalOf : Signal → PaperSignal
+signalOf s = record {
+  start = s .start;
+  width = s .width;
+  type = s .kind;
+  check = s .check;
+  since = s .since;
+  limit = s .limit;
+  replacement = s .replacement;
+}
+
+abbrev pub codeOf : Code → PaperCode
+codeOf c = record { signal = c .signal; low = c .low; high = c .high }
+
+abbrev pub routeOf : Route → PaperRoute
+routeOf r = record { signal = r .signal; vehicle = r .vehicle; null = r .null; start = r .start }
+
+-- a signal whose end can be worked out
+pub record Placeable (s : Signal) : Type 0 where
+  pub start-small : s .start < 65536
+  pub width-small : s .width < 256
+
+pub record CheckRead (xs : List ℕ) (k r : ℕ) : Type 0 where
+  pub is : r ≡ checkAt xs k
+  pub small : r < 65536
+
+pub record SignalRead (xs : List ℕ) (k : ℕ) (r : Signal) : Type 0 where
+  pub is : signalOf r ≡ signalAt xs k
+  pub start-small : r .start < 65536
+  pub width-small : r .width < 256
+  pub kind-small : r .kind < 256
+  pub check-small : r .check < 256
+  pub since-small : r .since < 256
+  pub limit-small : r .limit < 2 ^ 32
+  pub replacement-small : r .replacement < 2 ^ 48
+
+pub record CodeRead (xs : List ℕ) (k : ℕ) (r : Code) : Type 0 where
+  pub is : codeOf r ≡ codeAt xs k
+  pub signal-small : r .signal < 65536
+  pub low-small : r .low < 65536
+  pub high-small : r .high < 65536
+
+pub record RouteRead (xs : List ℕ) (k : ℕ) (r : Route) : Type 0 where
+  pub is : routeOf r ≡ routeAt xs k
+  pub signal-small : r .signal < 65536
+  pub vehicle-small : r .vehicle < 256
+  pub start-small : r .start < 65536
+
+-- r is the octet x
+pub record OctetRead (x r : ℕ) : Type 0 where
+  pub is : r ≡ x
+  pub small : r < 256
+
+-- the rule of a signal's entry but for the bits that it may share with a check
+unfoldable pub ownRule : ℕ → (ℕ → ℕ) → (ℕ → PaperSignal) → ℕ → Bool
+ownRule checks check signal k =
+    widthRule (signal k) && typeRule (signal k) && placeRule (signal k) && namedRule checks check (signal k) && valueRule (signal k)
+    && (eqb k 0 || orderRule (signal (k - 1)) (signal k))

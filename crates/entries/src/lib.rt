@@ -1,0 +1,240 @@
+// The entries of a signal list, read by value, and the rule of each. What has a `requires` is inner: its caller in the library shows it.
+ghost use mathlib.Core.Path.{_≡_};
+ghost use Prim.Native.Nat.{_+_, _-_, _^_, _<_, _≤_};
+ghost use lib.ListN.{length, getD};
+ghost use Rattle.paper.specs.SignalList.{entry, checkSize, signalSize, codeSize, routeSize, widest, checkAt, signalAt, codeAt, routeAt, checkRule, placeRule, namedRule, valueRule, orderRule, apart, codeOrder, codeRule, routeRule};
+ghost use Rattle.entries.specs.Entries.{signalOf, codeOf, CheckRead, SignalRead, CodeRead, RouteRead, OctetRead, Placeable, ownRule};
+
+pub struct Signal {
+    pub start: usize,
+    pub width: usize,
+    // The paper's type.
+    pub kind: usize,
+    pub check: usize,
+    pub since: usize,
+    pub limit: u64,
+    pub replacement: u64,
+}
+
+pub struct Code {
+    pub signal: usize,
+    pub low: usize,
+    pub high: usize,
+}
+
+pub struct Route {
+    pub signal: usize,
+    pub vehicle: usize,
+    pub null: usize,
+    pub start: usize,
+}
+
+// The entry before; the first has none, and stands for itself where nothing is asked of it.
+pub fn before(k: usize) -> usize
+    ensures { λ r. ⌜ r ≡ k - 1 ⌝ }
+{
+    if 0 < k { k - 1 } else { 0 }
+}
+
+// Inner: no field is wider than 48 bits.
+pub fn pow2(w: usize) -> u64
+    requires { ⌜ w < 64 ⌝ }
+    ensures { λ r. ⌜ r ≡ 2 ^ w ⌝ }
+{
+    1 << w
+}
+
+// The octet at `at`, 0 past the end: a number that an entry names is not known to exist until its rule was tested.
+fn octet_at(s: &[u8], at: usize) -> usize
+    ensures { λ r. ⌜ OctetRead (getD (now (s .entry)) at 0) r ⌝ }
+{
+    if at < s.len() { octets::wide(s[at]) } else { 0 }
+}
+
+// Inner: check k of the list.
+pub fn check_at(list: &[u8], k: usize) -> usize
+    requires { ⌜ entry checkSize (k + 1) ≤ length (now list) ⌝ }
+    ensures { λ r. ⌜ CheckRead (now (list .entry)) k r ⌝ }
+{
+    octets::read16(list, 2 + 2 * k)
+}
+
+// Inner: signal k, from the signals' count on.
+pub fn signal_at(tail: &[u8], k: usize) -> Signal
+    requires { ⌜ entry signalSize (k + 1) ≤ length (now tail) ⌝ }
+    ensures { λ r. ⌜ SignalRead (now (tail .entry)) k r ⌝ }
+{
+    let at = 2 + 16 * k;
+    Signal {
+        start: octets::read16(tail, at),
+        width: octets::wide(tail[at + 2]),
+        kind: octets::wide(tail[at + 3]),
+        check: octets::wide(tail[at + 4]),
+        since: octets::wide(tail[at + 5]),
+        limit: octets::read32(tail, at + 6),
+        replacement: octets::read48(tail, at + 10),
+    }
+}
+
+// Inner: code entry k, from the codes' count on.
+pub fn code_at(tail: &[u8], k: usize) -> Code
+    requires { ⌜ entry codeSize (k + 1) ≤ length (now tail) ⌝ }
+    ensures { λ r. ⌜ CodeRead (now (tail .entry)) k r ⌝ }
+{
+    let at = 2 + 6 * k;
+    Code {
+        signal: octets::read16(tail, at),
+        low: octets::read16(tail, at + 2),
+        high: octets::read16(tail, at + 4),
+    }
+}
+
+// Inner: route k, from the routes' count on.
+pub fn route_at(tail: &[u8], k: usize) -> Route
+    requires { ⌜ entry routeSize (k + 1) ≤ length (now tail) ⌝ }
+    ensures { λ r. ⌜ RouteRead (now (tail .entry)) k r ⌝ }
+{
+    let at = 2 + 6 * k;
+    Route {
+        signal: octets::read16(tail, at),
+        vehicle: octets::wide(tail[at + 2]),
+        null: octets::wide(tail[at + 3]),
+        start: octets::read16(tail, at + 4),
+    }
+}
+
+// Inner: the width of signal k, which need not exist.
+pub fn width_at(tail: &[u8], k: usize) -> usize
+    requires { ⌜ k < 65536 ⌝ }
+    ensures { λ r. ⌜ OctetRead (signalAt (now (tail .entry)) k .width) r ⌝ }
+{
+    octet_at(tail, 2 + 16 * k + 2)
+}
+
+// Inner: its since-version.
+pub fn since_at(tail: &[u8], k: usize) -> usize
+    requires { ⌜ k < 65536 ⌝ }
+    ensures { λ r. ⌜ OctetRead (signalAt (now (tail .entry)) k .since) r ⌝ }
+{
+    octet_at(tail, 2 + 16 * k + 5)
+}
+
+// Inner: check k keeps its rule.
+pub fn check_rule(list: &[u8], k: usize) -> bool
+    requires { ⌜ entry checkSize (k + 1) ≤ length (now list) ⌝ }
+    ensures { λ r. ⌜ r ≡ checkRule (checkAt (now (list .entry))) k ⌝ }
+{
+    let v = check_at(list, k);
+    let p = check_at(list, before(k));
+    (v % 2 == 0) & (16 <= v) & (v <= 1022) & ((k == 0) | (p < v))
+}
+
+fn place_rule(s: Signal) -> bool
+    requires { ⌜ Placeable s ⌝ }
+    ensures { λ r. ⌜ r ≡ placeRule (signalOf s) ⌝ }
+{
+    let end = s.start + s.width;
+    (s.kind == 0) & (16 <= s.start) & (end <= 320)
+        | (s.kind != 0) & (320 <= s.start) & (end <= 1024)
+}
+
+fn named_rule(list: &[u8], checks: usize, s: Signal) -> bool
+    requires { ⌜ entry checkSize checks ≤ length (now list) ⌝ }
+    ensures { λ r. ⌜ r ≡ namedRule checks (checkAt (now (list .entry))) (signalOf s) ⌝ }
+{
+    let c = s.check;
+    if c == 0 {
+        return true;
+    }
+    if checks < c {
+        return false;
+    }
+    let low = check_at(list, c - 1) < 320;
+    let common = s.kind == 0;
+    low & common | !low & !common
+}
+
+fn value_rule(s: Signal) -> bool
+    requires { ⌜ s .width ≤ widest ⌝ }
+    ensures { λ r. ⌜ r ≡ valueRule (signalOf s) ⌝ }
+{
+    (1 <= s.since) & (s.since <= 255) & (s.limit <= 600000) & (s.replacement < pow2(s.width))
+}
+
+fn order_rule(p: Signal, s: Signal) -> bool
+    requires { ⌜ Placeable p ⌝ }
+    ensures { λ r. ⌜ r ≡ orderRule (signalOf p) (signalOf s) ⌝ }
+{
+    (p.kind < s.kind) | (p.kind == s.kind) & (p.start + p.width <= s.start)
+}
+
+// Inner: signal k keeps its rule but for the checks that it may share a bit with. The width first: only then is 2^width computed.
+pub fn signal_own(list: &[u8], checks: usize, tail: &[u8], k: usize) -> bool
+    requires { ⌜ entry checkSize checks ≤ length (now list) ⌝ }
+    requires { ⌜ entry signalSize (k + 1) ≤ length (now tail) ⌝ }
+    ensures { λ r. ⌜ r ≡ ownRule checks (checkAt (now (list .entry))) (signalAt (now (tail .entry))) k ⌝ }
+{
+    let s = signal_at(tail, k);
+    let p = signal_at(tail, before(k));
+    let w = s.width;
+    if 48 < w {
+        return false;
+    }
+    (1 <= w)
+        & (w <= 48)
+        & (s.kind <= 2)
+        & place_rule(s)
+        & named_rule(list, checks, s)
+        & value_rule(s)
+        & ((k == 0) | order_rule(p, s))
+}
+
+// Inner: the signal shares no bit with the check at `place`.
+pub fn is_apart(s: Signal, place: usize) -> bool
+    requires { ⌜ (Placeable s) × (place < 65536) ⌝ }
+    ensures { λ r. ⌜ r ≡ apart (signalOf s) place ⌝ }
+{
+    (s.start + s.width <= place) | (place + 2 <= s.start)
+}
+
+fn code_order(p: Code, c: Code) -> bool
+    requires { ⌜ p .high < 65536 ⌝ }
+    ensures { λ r. ⌜ r ≡ codeOrder (codeOf p) (codeOf c) ⌝ }
+{
+    (p.signal < c.signal) | (p.signal == c.signal) & (p.high + 2 <= c.low)
+}
+
+// Inner: code entry k keeps its rule; sig starts at the signals' count.
+pub fn code_rule(sig: &[u8], signals: usize, tail: &[u8], k: usize) -> bool
+    requires { ⌜ entry codeSize (k + 1) ≤ length (now tail) ⌝ }
+    ensures { λ r. ⌜ r ≡ codeRule signals (signalAt (now (sig .entry))) (codeAt (now (tail .entry))) k ⌝ }
+{
+    let c = code_at(tail, k);
+    let p = code_at(tail, before(k));
+    let w = width_at(sig, c.signal);
+    if 16 < w {
+        return false;
+    }
+    (c.signal < signals)
+        & (w <= 16)
+        & (c.low <= c.high)
+        & ((c.high as u64) < pow2(w))
+        & ((k == 0) | code_order(p, c))
+}
+
+// Inner: route k keeps its rule; sig starts at the signals' count.
+pub fn route_rule(sig: &[u8], signals: usize, tail: &[u8], k: usize) -> bool
+    requires { ⌜ entry routeSize (k + 1) ≤ length (now tail) ⌝ }
+    ensures { λ r. ⌜ r ≡ routeRule signals (signalAt (now (sig .entry))) (routeAt (now (tail .entry))) k ⌝ }
+{
+    let r = route_at(tail, k);
+    let p = route_at(tail, before(k));
+    let end = r.start + width_at(sig, r.signal);
+    let past = p.start + width_at(sig, p.signal);
+    (r.signal < signals)
+        & (1 <= r.vehicle)
+        & (r.vehicle <= 63)
+        & (r.null == 0)
+        & (end <= 2048)
+        & ((k == 0) | (past <= r.start))
+}

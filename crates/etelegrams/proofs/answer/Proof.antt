@@ -1,0 +1,60 @@
+-- `etelegrams::answer` meets its contract. Assumes nothing.
+use mathlib.Core.Path.{ap, _∙_}
+use mathlib.Core.List.{List}
+use Prim.Native.Nat.{ℕ}
+use native.Mathlib.Omega.{arith}
+use lib.ListN.{length, set, length-set}
+use denote.Ref.{now}
+use borrow.Author.Tests.{ne-eqb, eq-eqb, lt-ltb, le-ltb}
+use Rattle.paper.specs.Answer.{gives, refuseIf}
+use Rattle.paper.specs.Octets.{octetsOf, over}
+use Rattle.paper.specs.ETelegrams.{reportTo, answerTo}
+use Rattle.etelegrams.specs.Answers.{answerOn}
+use Rattle.etelegrams.proofs.Laws.{nine-octets}
+use Rattle.refusals.proofs.WrittenLaws.{written-refused, written-done}
+use borrow.Author.Needs.{needs}
+use Rattle.etelegrams.proofs.answer.Statement.{statement}
+use Rattle.etelegrams.proofs.answer.Tie as tie
+
+returns : tie.Need-returns
+unfolding answerOn refuseIf
+returns c = written-refused _ _ _ (simp (c .if1 .taken))
+
+returns-2 : tie.Need-returns-2
+unfolding answerOn refuseIf
+returns-2 c = written-refused _ _ _ (simp (c .before .if1 .left, ne-eqb _ _ (c .if2 .taken)))
+
+returns-3 : tie.Need-returns-3
+unfolding answerOn refuseIf
+returns-3 c = written-refused _ _ _ (simp (c .before .before .if1 .left, eq-eqb _ _ (c .before .if2 .left), lt-ltb _ _ (c .if3 .taken)))
+
+same-length : tie.Need-same-length
+same-length c =
+    simp length-set (omega (arith, c .before .before .write16 .kept .0, c .before .before .before .before .before .before .before .copy-over .kept .0))
+
+returns-4 : tie.Need-returns-4
+unfolding answerOn refuseIf answerTo
+returns-4 c =
+    let w = c .before .before in
+    let o = w .before .before .before .before .before in
+    let g = o .before .before in
+    let a = g .before .before .before .before .before .args in
+    written-done _ _ _ (simp (g .before .before .if1 .left, eq-eqb _ _ (g .before .if2 .left), le-ltb (length (now (a .out))) 9 (omega arith))
+    (ap gives (
+    ap (λ (l : List ℕ). set l 8 (a .status)) (w .write16 .ensures ∙ ap (λ (l : List ℕ). over l 6 (octetsOf 2 (reportTo (a .read .code)))) (o .copy-over .ensures))
+    ∙ nine-octets (now (a .out)) (now (a .head)) (reportTo (a .read .code)) (a .status) (g .before .if2 .left) (g .if3 .left))))
+
+pub answer-spec : {M : Type 1} → statement M
+answer-spec =
+    tie.close
+    (tie.spec
+    returns
+    returns-2
+    returns-3
+    (λ c κs. search needs)
+    (λ c. search needs)
+    (λ c. search needs)
+    (λ c κs. search needs)
+    (λ c. search needs)
+    same-length
+    returns-4)

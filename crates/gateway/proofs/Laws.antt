@@ -1,0 +1,124 @@
+-- The parts of a reading are the reading. Assumes nothing.
+use Prim.Native.Nat.{ℕ, suc, _+_, _-_, _*_, _≤_, _<_}
+use mathlib.Core.Path.{_≡_, refl, sym, ap, _∙_}
+use mathlib.Core.Bool.{Bool, true, false, cond}
+use mathlib.Core.List.{List, [], _∷_, _++_}
+use native.Mathlib.Omega.{arith}
+use native.Mathlib.Decide.{ℕ-discrete}
+use lib.ListN.{length}
+use lib.Dec.{leb, eqb}
+use borrow.Author.Tests.{le-leb}
+use Rattle.paper.specs.Octets.{field}
+use Rattle.paper.specs.Answer.{Answer}
+use Rattle.paper.specs.First.{firstOf}
+use Rattle.paper.specs.Telegrams.{forced}
+use Rattle.paper.specs.SignalList.{Signal, SignalList, Counts, fieldEnd, checkAt, signalAt, signalsPart, listOf}
+use Rattle.paper.specs.Extends.{placeOf, knows}
+use Rattle.paper.specs.Store.{Slot, telegramOctets}
+use Rattle.paper.specs.Reading.{Reading, hindrances, reasonOf, readingOf, markOf, codeOf}
+use Rattle.paper.proofs.ListLaws.{Laid, kept-of, SignalKept}
+use Rattle.paper.proofs.AnswerLaws.{gives-one}
+use Rattle.refusals.proofs.Laws.{one-refusal}
+use Rattle.octets.specs.Fields.{Within}
+use Rattle.gateway.specs.declared.Reading as C
+use Rattle.gateway.specs.declared.ReadOutcome.{ReadOutcome}
+use Rattle.gateway.specs.declared.ReadOutcome.the-variants.{Read, Refused}
+use Rattle.gateway.specs.Reading.{asReading, readAnswer, slotTests, markIn, MarkThere, telegramTests, telegramReason, telegramReading}
+
+-- ---- the first of two runs of tests
+
+-- a test of the first run holds: it is the first of both
+first-front : (n : ℕ) (ts us : List Bool) (other : ℕ) → (firstOf (suc n) ts 0 ≡ 0 → ⊥) → firstOf (suc n) (ts ++ us) other ≡ firstOf (suc n) ts 0
+first-front n [] us other h = absurd (h refl)
+first-front n (true ∷ ts) us other h = refl
+first-front n (false ∷ ts) us other h = first-front (suc n) ts us other h
+
+-- none holds: it is the first of the second run
+first-back : (n : ℕ) (ts us : List Bool) (other : ℕ) → firstOf (suc n) ts 0 ≡ 0 → firstOf (suc n) (ts ++ us) other ≡ firstOf (length ts + suc n) us other
+first-back n [] us other e = ap (λ (m : ℕ). firstOf m us other) (omega arith)
+first-back n (true ∷ ts) us other e = absurd (omega arith)
+first-back n (false ∷ ts) us other e = first-back (suc n) ts us other e ∙ ap (λ (m : ℕ). firstOf m us other) (omega arith)
+
+first-low : (n : ℕ) (ts : List Bool) → (firstOf n ts 0 ≡ 0 → ⊥) → n ≤ firstOf n ts 0
+first-low n [] h = absurd (h refl)
+first-low n (true ∷ ts) h = omega arith
+first-low n (false ∷ ts) h = omega (arith, first-low (suc n) ts h)
+
+-- ---- a reading in its two parts
+
+abbrev given : Signal → List ℕ → ℕ → Reading
+given s telegram reason = record { value = cond (leb 2 reason) (s .replacement) (codeOf s telegram); reason = reason }
+
+module _ (l : SignalList) (slot : Slot) (now k : ℕ) where
+  abbrev early : ℕ
+  early = firstOf 2 (slotTests slot now (l .signal k)) 0
+
+  abbrev mark : ℕ
+  mark = markOf l (l .signal k) (slot .telegram)
+
+  abbrev known : Bool
+  known = knows l k (codeOf (l .signal k) (slot .telegram))
+
+  -- one of the reasons 2 to 5 applies
+  pub slot-reading : (early ≡ 0 → ⊥) → _≡_ {A = Reading} (record { value = l .signal k .replacement; reason = early }) (readingOf l slot now k)
+  unfolding readingOf reasonOf hindrances
+  slot-reading h =
+      let e : reasonOf l slot now k ≡ early =
+      first-front 1 (slotTests slot now (l .signal k)) (telegramTests mark known) (cond (eqb mark forced) 1 0) h in
+      rw e (simp (le-leb 2 early (first-low 2 (slotTests slot now (l .signal k)) h)))
+
+  -- none does
+  pub telegram-reads : early ≡ 0 → telegramReading l (slot .telegram) k ≡ readingOf l slot now k
+  unfolding readingOf reasonOf hindrances telegramReading
+  telegram-reads h =
+      let e : reasonOf l slot now k ≡ telegramReason mark known =
+      first-back 1 (slotTests slot now (l .signal k)) (telegramTests mark known) (cond (eqb mark forced) 1 0) h in
+      ap (given (l .signal k) (slot .telegram)) (sym e)
+
+-- what the code puts together there
+pub telegram-given : (l : SignalList) (telegram : List ℕ) (k v r : ℕ)
+    → r ≡ telegramReason (markOf l (l .signal k) telegram) (knows l k (codeOf (l .signal k) telegram))
+    → v ≡ cond (leb 2 r) (l .signal k .replacement) (codeOf (l .signal k) telegram)
+    → _≡_ {A = Reading} (record { value = v; reason = r }) (telegramReading l telegram k)
+unfolding telegramReading
+telegram-given l telegram k v r e f = ap (λ (x : ℕ). record { value = x; reason = r }) f ∙ ap (given (l .signal k) telegram) e
+
+-- ---- what an accepted list tells of a signal's field and mark
+
+pub mark-in : (xs : List ℕ) (n : Counts) (s : Signal) (telegram : List ℕ) → markIn xs s telegram ≡ markOf (listOf xs n) s telegram
+unfolding markIn markOf placeOf
+mark-in xs n s telegram = by (eqb (s .check) 0)
+  where
+    by : (b : Bool) → cond b 1 (field telegram (checkAt xs (s .check - 1)) 2) ≡ cond b 1 (field telegram (cond b 0 (checkAt xs (s .check - 1))) 2)
+    by true = refl
+    by false = refl
+
+module _ (xs : List ℕ) (n : Counts) (k : ℕ) (telegram : List ℕ) (h : Laid xs n) (lt : k < n .signals) (whole : length telegram ≡ telegramOctets) where
+  kept : SignalKept (n .checks) (checkAt xs) (signalAt (signalsPart xs n)) k
+  kept = kept-of xs n h .signal k lt
+
+  pub field-there : Within telegram (signalAt (signalsPart xs n) k .start) (signalAt (signalsPart xs n) k .width)
+  field-there = record { some = kept .some; wide = omega (arith, kept .wide); inside = by (ℕ-discrete (signalAt (signalsPart xs n) k .type) 0) }
+    where
+      by : Dec (signalAt (signalsPart xs n) k .type ≡ 0) → fieldEnd (signalAt (signalsPart xs n) k) ≤ 8 * length telegram
+      by (yes e) = omega (arith, kept .placed .common e .1)
+      by (no e) = omega (arith, kept .placed .own e .1)
+
+  pub mark-there : MarkThere xs (signalAt (signalsPart xs n) k) telegram
+  mark-there =
+      record {
+        exists = omega (arith, kept .named .exists, h .checks .opens .present);
+        inside = λ some. omega (arith, kept-of xs n h .check (signalAt (signalsPart xs n) k .check - 1) (omega (arith, kept .named .exists)) .high);
+      }
+
+-- ---- the contract settles the answer
+
+made : Reading → C.Reading
+made x = record { value = x .value; reason = x .reason }
+
+pub one-answer : (a : Answer Reading) (v w : ReadOutcome) → readAnswer v ≡ a → readAnswer w ≡ a → v ≡ w
+unfolding made
+one-answer a (Read r) (Read s) p q = ap (λ (x : Reading). Read (made x)) (gives-one a (asReading r) (asReading s) (sym p) (sym q))
+one-answer a (Read r) (Refused g) p q = let z : _≡_ {A = ℕ} 0 1 = cc in absurd (omega arith)
+one-answer a (Refused f) (Read s) p q = let z : _≡_ {A = ℕ} 0 1 = cc in absurd (omega arith)
+one-answer a (Refused f) (Refused g) p q = ap Refused (one-refusal f g (cc) (cc))

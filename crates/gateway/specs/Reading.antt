@@ -1,0 +1,67 @@
+-- The code's readings as those of the paper, and the parts in which the code works them out.
+use Prim.Native.Nat.{ℕ, _+_, _-_, _*_, _≤_, _<_}
+use mathlib.Core.Bool.{Bool, not, cond}
+use mathlib.Core.List.{List, [], _∷_}
+use lib.ListN.{length}
+use lib.Dec.{ltb, leb, eqb}
+use Rattle.paper.specs.Octets.{field}
+use Rattle.paper.specs.Answer.{Answer, gives, refuseIf}
+use Rattle.paper.specs.First.{firstOf}
+use Rattle.paper.specs.Telegrams.{telegramType, versionOf, carries, error, ok, forced, undefined, markWidth}
+use Rattle.paper.specs.SignalList.{Signal, SignalList, entry, checkSize, checkAt}
+use Rattle.paper.specs.Extends.{knows}
+use Rattle.paper.specs.Store.{Slot, isStore, isVehicle, age, inTime}
+use Rattle.paper.specs.Reading as paper
+use Rattle.refusals.specs.Refusal.{refusalOf}
+use Rattle.gateway.specs.declared.Reading.{Reading}
+use Rattle.gateway.specs.declared.ReadOutcome.{ReadOutcome}
+use Rattle.gateway.specs.declared.ReadOutcome.the-variants.{Read, Refused}
+
+abbrev pub asReading : Reading → paper.Reading
+asReading r = record { value = r .value; reason = r .reason }
+
+abbrev pub readAnswer : ReadOutcome → Answer paper.Reading
+readAnswer (Read r) = gives (asReading r)
+readAnswer (Refused f) = refusalOf f
+
+-- the tests of the reasons 2 to 5, which go by the slot
+abbrev pub slotTests : Slot → ℕ → Signal → List Bool
+slotTests slot now s =
+    not (paper.heard slot)
+    ∷ not (inTime (age now (slot .stamp)) (s .limit))
+    ∷ not (carries (telegramType (slot .telegram)) (s .type))
+    ∷ ltb (versionOf (slot .telegram)) (s .since)
+    ∷ []
+
+-- the mark over a signal, by the octets of the list
+unfoldable pub markIn : List ℕ → Signal → List ℕ → ℕ
+markIn xs s telegram = cond (eqb (s .check) 0) ok (field telegram (checkAt xs (s .check - 1)) markWidth)
+
+-- it can be read: the check exists, and lies in the telegram
+pub record MarkThere (xs : List ℕ) (s : Signal) (telegram : List ℕ) : Type 0 where
+  pub exists : entry checkSize (s .check) ≤ length xs
+  pub inside : 0 < s .check → checkAt xs (s .check - 1) + markWidth ≤ 8 * length telegram
+
+-- the tests of the reasons 6 to 8, which go by the mark and the code
+abbrev pub telegramTests : ℕ → Bool → List Bool
+telegramTests mark known = eqb mark error ∷ eqb mark undefined ∷ not known ∷ []
+
+-- the first of them, else 0 or 1
+abbrev pub telegramReason : ℕ → Bool → ℕ
+telegramReason mark known = firstOf 6 (telegramTests mark known) (cond (eqb mark forced) 1 0)
+
+-- what is read where none of the reasons 2 to 5 applies
+unfoldable pub telegramReading : SignalList → List ℕ → ℕ → paper.Reading
+telegramReading l telegram k =
+    let s = l .signal k in
+    let code = paper.codeOf s telegram in
+    let reason = telegramReason (paper.markOf l s telegram) (knows l k code) in
+    record { value = cond (leb 2 reason) (s .replacement) code; reason = reason }
+
+-- the paper's `reading` under a list
+unfoldable pub readingUnder : SignalList → List ℕ → ℕ → ℕ → ℕ → Answer paper.Reading
+readingUnder l store now v k =
+    refuseIf (not (isStore store)) 5 0
+    (refuseIf (not (isVehicle v)) 6 0
+    (refuseIf (not (ltb k (l .signals))) 11 0
+    (gives (paper.readingAt l store now v k))))

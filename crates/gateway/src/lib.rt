@@ -1,0 +1,176 @@
+// Reading one signal of one vehicle out of the store.
+ghost use mathlib.Core.Path.{_≡_};
+ghost use Prim.Native.Nat.{_≤_, _<_};
+ghost use lib.ListN.{length};
+ghost use Rattle.paper.specs.First.{firstOf};
+ghost use Rattle.paper.specs.SignalList.{signalAt, signalsPart, codesPart, listOf};
+ghost use Rattle.paper.specs.Store.{vehicles, telegramOctets, slotOctets, storeOctets, slotFrom};
+ghost use Rattle.paper.specs.Reading.{readingAt, reading};
+ghost use Rattle.paper.proofs.ListLaws.{Laid};
+ghost use Rattle.entries.specs.Entries.{signalOf};
+ghost use Rattle.lists.specs.Judged.{countsOf};
+ghost use Rattle.gateway.specs.Reading.{asReading, readAnswer, slotTests, markIn, MarkThere, telegramReason, telegramReading, readingUnder};
+use entries::Signal;
+use lists::Counts;
+use lists::Judged;
+use refusals::Refusal;
+
+// A value and the paper's number of the reason it is given for.
+pub struct Reading {
+    pub value: u64,
+    pub reason: u8,
+}
+
+pub enum ReadOutcome {
+    Read(Reading),
+    Refused(Refusal),
+}
+
+// Inner: the list from its signals' count on.
+pub fn signals_part(list: &[u8], n: Counts) -> &[u8]
+    requires { ⌜ Laid (now list) (countsOf n) ⌝ }
+    ensures { λ r. ⌜ now r ≡ signalsPart (now (list .entry)) (countsOf n) ⌝ }
+{
+    lists::rest(list, 2, n.checks)
+}
+
+// Inner: from its codes' count on.
+pub fn codes_part(list: &[u8], n: Counts) -> &[u8]
+    requires { ⌜ Laid (now list) (countsOf n) ⌝ }
+    ensures { λ r. ⌜ now r ≡ codesPart (now (list .entry)) (countsOf n) ⌝ }
+{
+    lists::rest(signals_part(list, n), 16, n.signals)
+}
+
+// The first of the reasons 2 to 5 that applies to a signal in a slot; 0 where none does.
+fn slot_reason(slot: &[u8], clock: u32, s: Signal) -> u8
+    requires { ⌜ length (now slot) ≡ slotOctets ⌝ }
+    ensures { λ r. ⌜ r ≡ firstOf 2 (slotTests (slotFrom (now (slot .entry))) clock (signalOf s)) 0 ⌝ }
+{
+    if !store::is_heard(slot) {
+        return 2;
+    }
+    if !store::in_time(store::age(clock, store::stamp(slot)), s.limit) {
+        return 3;
+    }
+    let t = store::telegram(slot);
+    if !store::is_carried(store::telegram_type(t), s.kind) {
+        return 4;
+    }
+    if store::data_version(t) < s.since {
+        return 5;
+    }
+    0
+}
+
+// The mark over a signal; no check counts as ok.
+fn mark_in(list: &[u8], s: Signal, telegram: &[u8]) -> usize
+    requires { ⌜ MarkThere (now list) (signalOf s) (now telegram) ⌝ }
+    ensures { λ r. ⌜ r ≡ markIn (now (list .entry)) (signalOf s) (now (telegram .entry)) ⌝ }
+{
+    let check = s.check;
+    if check == 0 {
+        return 1;
+    }
+    octets::read_field(telegram, entries::check_at(list, check - 1), 2) as usize
+}
+
+// The first of the reasons 6 to 8 that applies, else 0 or 1.
+fn telegram_reason(mark: usize, known: bool) -> u8
+    ensures { λ r. ⌜ r ≡ telegramReason mark known ⌝ }
+{
+    if mark == 0 {
+        return 6;
+    }
+    if mark == 3 {
+        return 7;
+    }
+    if !known {
+        return 8;
+    }
+    if mark == 2 {
+        return 1;
+    }
+    0
+}
+
+// Signal k, which is s, out of a telegram that can be read.
+fn read_telegram(list: &[u8], n: Counts, s: Signal, telegram: &[u8], k: usize) -> Reading
+    requires { ⌜ (Laid (now list) (countsOf n)) × (k < n .signals) ⌝ }
+    requires { ⌜ (signalOf s ≡ signalAt (signalsPart (now list) (countsOf n)) k) × (length (now telegram) ≡ telegramOctets) ⌝ }
+    ensures { λ r. ⌜ asReading r ≡ telegramReading (listOf (now (list .entry)) (countsOf n)) (now (telegram .entry)) k ⌝ }
+{
+    let code = octets::read_field(telegram, s.start, s.width);
+    let known = known::known(codes_part(list, n), n.codes, k, code);
+    let reason = telegram_reason(mark_in(list, s, telegram), known);
+    if 2 <= reason {
+        return Reading {
+            value: s.replacement,
+            reason,
+        };
+    }
+    Reading {
+        value: code,
+        reason,
+    }
+}
+
+// Inner: signal k of a vehicle, under a list that was accepted with these counts.
+pub fn read_at(
+    list: &[u8],
+    n: Counts,
+    store: &[u8],
+    clock: u32,
+    vehicle: usize,
+    k: usize,
+) -> Reading
+    requires { ⌜ (Laid (now list) (countsOf n)) × (k < n .signals) ⌝ }
+    requires { ⌜ (length (now store) ≡ storeOctets) × (1 ≤ vehicle) × (vehicle ≤ vehicles) ⌝ }
+    ensures { λ r. ⌜ asReading r ≡ readingAt (listOf (now (list .entry)) (countsOf n)) (now (store .entry)) clock vehicle k ⌝ }
+{
+    let s = entries::signal_at(signals_part(list, n), k);
+    let slot = store::slot(store, vehicle);
+    let reason = slot_reason(slot, clock, s);
+    if reason != 0 {
+        return Reading {
+            value: s.replacement,
+            reason,
+        };
+    }
+    read_telegram(list, n, s, store::telegram(slot), k)
+}
+
+// The same with the refusals 5, 6 and 11.
+fn read_under(
+    list: &[u8],
+    n: Counts,
+    store: &[u8],
+    clock: u32,
+    vehicle: usize,
+    signal: usize,
+) -> ReadOutcome
+    requires { ⌜ Laid (now list) (countsOf n) ⌝ }
+    ensures { λ r. ⌜ readAnswer r ≡ readingUnder (listOf (now (list .entry)) (countsOf n)) (now (store .entry)) clock vehicle signal ⌝ }
+{
+    if !store::is_store(store) {
+        return ReadOutcome::Refused(Refusal::StoreLength);
+    }
+    if !store::is_vehicle(vehicle) {
+        return ReadOutcome::Refused(Refusal::Vehicle);
+    }
+    if n.signals <= signal {
+        return ReadOutcome::Refused(Refusal::NoSuchSignal);
+    }
+    ReadOutcome::Read(read_at(list, n, store, clock, vehicle, signal))
+}
+
+// Reads a signal of a vehicle at `clock`: its value and reason. Refused: 1 to 4, then 5, 6 and 11.
+pub fn read(list: &[u8], store: &[u8], clock: u32, vehicle: usize, signal: usize) -> ReadOutcome
+    ensures { λ r. ⌜ readAnswer r ≡ reading (now (list .entry)) (now (store .entry)) clock vehicle signal ⌝ }
+{
+    let judged = lists::judge(list);
+    match judged {
+        Judged::Refused(f) => ReadOutcome::Refused(f),
+        Judged::Accepted(n) => read_under(list, n, store, clock, vehicle, signal),
+    }
+}

@@ -1,0 +1,26 @@
+-- The paper's values for each case of the code's answers.
+use Prim.Native.Nat.{ℕ, _≤_}
+use Rattle.paper.specs.Answer.{Answer, gives, refused}
+use Rattle.paper.specs.SignalList.{Counts as PaperCounts}
+use Rattle.refusals.specs.Refusal.{refusalOf}
+use Rattle.lists.specs.declared.Counts.{Counts}
+use Rattle.lists.specs.declared.Judged.{Judged}
+use Rattle.lists.specs.declared.Judged.the-variants.{Accepted, Refused}
+use Rattle.lists.specs.declared.Section.{Section}
+use Rattle.lists.specs.declared.Section.the-variants.{Entries, Refused as Unopened}
+
+abbrev pub countsOf : Counts → PaperCounts
+countsOf n = record { checks = n .checks; signals = n .signals; codes = n .codes; routes = n .routes; version = n .version }
+
+abbrev pub judgedAnswer : Judged → Answer PaperCounts
+judgedAnswer (Accepted n) = gives (countsOf n)
+judgedAnswer (Refused f) = refusalOf f
+
+abbrev pub sectionAnswer : Section → Answer ℕ
+sectionAnswer (Entries n) = gives n
+sectionAnswer (Unopened f) = refusalOf f
+
+-- a refusal, if it is one, is of a list and has its offset at `most` or before
+abbrev pub RefusedWithin : {A : Type 0} → ℕ → Answer A → Type 0
+RefusedWithin most (gives a) = Unit {0}
+RefusedWithin most (refused n at) = (n ≤ 4) × (at ≤ most)

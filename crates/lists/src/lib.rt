@@ -1,0 +1,258 @@
+// The judging of a signal list. Each section judge takes the rest of the list from its count onward and hands on the rest past its entries.
+ghost use mathlib.Core.Path.{_≡_};
+ghost use Prim.Native.Nat.{_-_, _^_, _≤_, max};
+ghost use lib.ListN.{length};
+ghost use Rattle.paper.specs.Answer.{shift};
+ghost use Rattle.paper.specs.First.{firstBad};
+ghost use Rattle.paper.specs.SignalList.{entry, checkSize, signalSize, codeSize, routeSize, mostSignals, checkAt, signalAt, codeAt, routeAt, checkRule, signalRule, codeRule, routeRule, opening, greatestSince, fromRoutes, fromCodes, fromSignals, judge as judgedList, rest as restOf};
+ghost use Rattle.lists.specs.Judged.{sectionAnswer, judgedAnswer, RefusedWithin};
+use refusals::Refusal;
+
+const MOST_CHECKS: usize = 64;
+
+const MOST_SIGNALS: usize = 256;
+
+const MOST_CODES: usize = 512;
+
+const MOST_ROUTES: usize = 512;
+
+// What an accepted list is reported with.
+pub struct Counts {
+    pub checks: usize,
+    pub signals: usize,
+    pub codes: usize,
+    pub routes: usize,
+    pub version: usize,
+}
+
+// The answer for a list.
+pub enum Judged {
+    Accepted(Counts),
+    Refused(Refusal),
+}
+
+// The answer for a section's count: how many entries are present.
+pub enum Section {
+    Entries(usize),
+    Refused(Refusal),
+}
+
+// The count readable, within its limit, and its entries of `size` octets all present.
+fn open(tail: &[u8], limit: usize, size: usize) -> Section
+    requires { ⌜ size ≤ 16 ⌝ }
+    ensures { λ r. ⌜ sectionAnswer r ≡ opening limit size (now (tail .entry)) ⌝ }
+{
+    if tail.len() < 2 {
+        return Section::Refused(Refusal::ListEnds(0));
+    }
+    let n = octets::read16(tail, 0);
+    if limit < n {
+        return Section::Refused(Refusal::CountAbove(0));
+    }
+    if tail.len() < 2 + size * n {
+        return Section::Refused(Refusal::ListEnds(0));
+    }
+    Section::Entries(n)
+}
+
+// Inner: the rest of a list past a section of n entries.
+pub fn rest(tail: &[u8], size: usize, n: usize) -> &[u8]
+    requires { ⌜ entry size n ≤ length (now tail) ⌝ }
+    ensures { λ r. ⌜ now r ≡ restOf size n (now (tail .entry)) ⌝ }
+{
+    let end = 2 + size * n;
+    &tail[end..]
+}
+
+// The offset of the first of n checks that breaks its rule, or the end of the section.
+fn first_bad_check(list: &[u8], n: usize) -> usize
+    requires { ⌜ entry checkSize n ≤ length (now list) ⌝ }
+    ensures { λ r. ⌜ r ≡ entry checkSize (firstBad (checkRule (checkAt (now (list .entry)))) n) ⌝ }
+{
+    let mut k = 0;
+    while k < n {
+        if !entries::check_rule(list, k) {
+            return 2 + 2 * k;
+        }
+        k += 1;
+    }
+    2 + 2 * n
+}
+
+// The same of n signals, each tested by its own rule and then against every check.
+fn first_bad_signal(list: &[u8], checks: usize, tail: &[u8], n: usize) -> usize
+    requires { ⌜ entry checkSize checks ≤ length (now list) ⌝ }
+    requires { ⌜ entry signalSize n ≤ length (now tail) ⌝ }
+    ensures { λ r. ⌜ r ≡ entry signalSize (firstBad (signalRule checks (checkAt (now (list .entry))) (signalAt (now (tail .entry)))) n) ⌝ }
+{
+    let mut k = 0;
+    'signals: loop {
+        if n <= k {
+            break 'signals 2 + 16 * n;
+        }
+        if !entries::signal_own(list, checks, tail, k) {
+            break 'signals 2 + 16 * k;
+        }
+        let s = entries::signal_at(tail, k);
+        let mut j = 0;
+        while j < checks {
+            if !entries::is_apart(s, entries::check_at(list, j)) {
+                break 'signals 2 + 16 * k;
+            }
+            j += 1;
+        }
+        k += 1;
+    }
+}
+
+// The same of n codes; sig starts at the signals' count.
+fn first_bad_code(sig: &[u8], signals: usize, tail: &[u8], n: usize) -> usize
+    requires { ⌜ entry codeSize n ≤ length (now tail) ⌝ }
+    ensures { λ r. ⌜ r ≡ entry codeSize (firstBad (codeRule signals (signalAt (now (sig .entry))) (codeAt (now (tail .entry)))) n) ⌝ }
+{
+    let mut k = 0;
+    while k < n {
+        if !entries::code_rule(sig, signals, tail, k) {
+            return 2 + 6 * k;
+        }
+        k += 1;
+    }
+    2 + 6 * n
+}
+
+// The same of n routes.
+fn first_bad_route(sig: &[u8], signals: usize, tail: &[u8], n: usize) -> usize
+    requires { ⌜ entry routeSize n ≤ length (now tail) ⌝ }
+    ensures { λ r. ⌜ r ≡ entry routeSize (firstBad (routeRule signals (signalAt (now (sig .entry))) (routeAt (now (tail .entry)))) n) ⌝ }
+{
+    let mut k = 0;
+    while k < n {
+        if !entries::route_rule(sig, signals, tail, k) {
+            return 2 + 6 * k;
+        }
+        k += 1;
+    }
+    2 + 6 * n
+}
+
+// Inner: the greatest since-version of the signals, 1 if there is none.
+pub fn version_of(tail: &[u8], signals: usize) -> usize
+    requires { ⌜ signals ≤ mostSignals ⌝ }
+    ensures { λ r. ⌜ r ≡ greatestSince signals (signalAt (now (tail .entry))) ⌝ }
+{
+    let mut version = 1;
+    let mut k = 0;
+    while k < signals {
+        version = greater(version, entries::since_at(tail, k));
+        k += 1;
+    }
+    version
+}
+
+fn greater(a: usize, b: usize) -> usize
+    ensures { λ r. ⌜ r ≡ max a b ⌝ }
+{
+    if a < b { b } else { a }
+}
+
+// The answer of the rest of a list that starts `by` octets on.
+fn moved(rest: Judged, by: usize) -> Judged
+    requires { ⌜ RefusedWithin (2 ^ 64 - 1) (shift by (judgedAnswer rest)) ⌝ }
+    ensures { λ r. ⌜ judgedAnswer r ≡ shift by (judgedAnswer rest) ⌝ }
+{
+    match rest {
+        Judged::Accepted(n) => Judged::Accepted(n),
+        Judged::Refused(f) => Judged::Refused(refusals::shifted(f, by)),
+    }
+}
+
+// The list from its routes on; sig starts at the signals' count.
+fn from_routes(sig: &[u8], signals: usize, checks: usize, codes: usize, tail: &[u8]) -> Judged
+    requires { ⌜ signals ≤ mostSignals ⌝ }
+    ensures { λ r. ⌜ judgedAnswer r ≡ fromRoutes signals (signalAt (now (sig .entry))) checks codes (now (tail .entry)) ⌝ }
+{
+    let opened = open(tail, MOST_ROUTES, 6);
+    match opened {
+        Section::Refused(f) => Judged::Refused(f),
+        Section::Entries(routes) => {
+            let at = first_bad_route(sig, signals, tail, routes);
+            let end = 2 + 6 * routes;
+            if at < end {
+                return Judged::Refused(Refusal::EntryBroken(at));
+            }
+            if end < tail.len() {
+                return Judged::Refused(Refusal::OctetsAfter(end));
+            }
+            let version = version_of(sig, signals);
+            Judged::Accepted(Counts {
+                checks,
+                signals,
+                codes,
+                routes,
+                version,
+            })
+        }
+    }
+}
+
+// From its codes on.
+fn from_codes(sig: &[u8], signals: usize, checks: usize, tail: &[u8]) -> Judged
+    requires { ⌜ signals ≤ mostSignals ⌝ }
+    ensures { λ r. ⌜ judgedAnswer r ≡ fromCodes signals (signalAt (now (sig .entry))) checks (now (tail .entry)) ⌝ }
+{
+    let opened = open(tail, MOST_CODES, 6);
+    match opened {
+        Section::Refused(f) => Judged::Refused(f),
+        Section::Entries(codes) => {
+            let at = first_bad_code(sig, signals, tail, codes);
+            let end = 2 + 6 * codes;
+            if at < end {
+                return Judged::Refused(Refusal::EntryBroken(at));
+            }
+            moved(
+                from_routes(sig, signals, checks, codes, rest(tail, 6, codes)),
+                end,
+            )
+        }
+    }
+}
+
+// From its signals on; list starts at the checks' count.
+fn from_signals(list: &[u8], checks: usize, tail: &[u8]) -> Judged
+    requires { ⌜ entry checkSize checks ≤ length (now list) ⌝ }
+    ensures { λ r. ⌜ judgedAnswer r ≡ fromSignals checks (checkAt (now (list .entry))) (now (tail .entry)) ⌝ }
+{
+    let opened = open(tail, MOST_SIGNALS, 16);
+    match opened {
+        Section::Refused(f) => Judged::Refused(f),
+        Section::Entries(signals) => {
+            let at = first_bad_signal(list, checks, tail, signals);
+            let end = 2 + 16 * signals;
+            if at < end {
+                return Judged::Refused(Refusal::EntryBroken(at));
+            }
+            moved(
+                from_codes(tail, signals, checks, rest(tail, 16, signals)),
+                end,
+            )
+        }
+    }
+}
+
+// Judges a list: its counts and version, or the first refusal that judging meets.
+pub fn judge(list: &[u8]) -> Judged
+    ensures { λ r. ⌜ judgedAnswer r ≡ judgedList (now (list .entry)) ⌝ }
+{
+    let opened = open(list, MOST_CHECKS, 2);
+    match opened {
+        Section::Refused(f) => Judged::Refused(f),
+        Section::Entries(checks) => {
+            let at = first_bad_check(list, checks);
+            let end = 2 + 2 * checks;
+            if at < end {
+                return Judged::Refused(Refusal::EntryBroken(at));
+            }
+            moved(from_signals(list, checks, rest(list, 2, checks)), end)
+        }
+    }
+}

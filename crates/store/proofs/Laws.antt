@@ -1,0 +1,80 @@
+-- Four runs of octets are one slot, and the tests of a taking are its refusals. Assumes nothing.
+use Prim.Native.Nat.{ℕ, _+_, _-_, _%_, _≤_, _<_}
+use mathlib.Core.Path.{_≡_, refl, sym, ap, _∙_}
+use mathlib.Core.Bool.{Bool, true, false}
+use mathlib.Core.List.{List, [], _∷_, _++_, append-assoc}
+use native.Mathlib.Omega.{arith}
+use native.Mathlib.Numerals.{add-one}
+use lib.ListN.{length, set, take, drop, replicate, length-append, length-take, length-drop, length-replicate}
+use lib.Seq.{set-split}
+use Rattle.paper.specs.Answer.{Answer, gives, refuseIf, andThen}
+use Rattle.paper.specs.Octets.{octetsOf, over}
+use Rattle.paper.specs.Store.{telegramOctets, slotHead, slotOctets, storeOctets, vehicles, slotStart, turn, age, slotTo, taken, taking}
+use Rattle.paper.proofs.NumberLaws.{length-octetsOf, over-over}
+use Rattle.paper.proofs.StoreLaws.{Takes, takes}
+use Rattle.refusals.specs.declared.Refusal.{Refusal}
+use Rattle.refusals.specs.declared.Outcome.the-variants as O
+use Rattle.refusals.specs.Refusal.{refusalOf}
+use Rattle.refusals.specs.Outcome.{Written}
+use Rattle.store.specs.Store.{telegramTests, takingTests}
+
+-- ---- the slot
+
+over-one : (l : List ℕ) (k a : ℕ) → k + 1 ≤ length l → set l k a ≡ over l k (a ∷ [])
+unfolding over
+over-one l k a h = rw add-one (set-split l k a (omega arith))
+
+-- a run that starts where the one before ends
+run : (l : List ℕ) (a : ℕ) (x y : List ℕ) (b : ℕ) → a + length x ≡ b → b + length y ≤ length l → over (over l a x) b y ≡ over l a (x ++ y)
+run l a x y b e h = ap (λ (n : ℕ). over (over l a x) n y) (sym e) ∙ over-over l a x y (omega arith)
+
+-- heard, stamp, telegram and zeros
+pub four-runs : (store : List ℕ) (at now : ℕ) (telegram : List ℕ) → at + slotOctets ≤ length store → length telegram ≤ telegramOctets
+    → over (over (over (set store at 1) (at + 1) (octetsOf 4 now)) (at + slotHead) telegram) (at + slotHead + length telegram) (replicate (telegramOctets - length telegram) 0)
+    ≡ over store at (slotTo now telegram)
+four-runs store at now telegram h short =
+    let stamp : List ℕ = 1 ∷ octetsOf 4 now in
+    let s : length stamp ≡ slotHead = omega (arith, length-octetsOf 4 now) in
+    let t : length (stamp ++ telegram) ≡ slotHead + length telegram = length-append stamp telegram ∙ omega arith in
+    let zeros : List ℕ = replicate (telegramOctets - length telegram) 0 in
+    let z : length zeros ≡ telegramOctets - length telegram = length-replicate (telegramOctets - length telegram) 0 in
+    rw (
+      over-one store at 1 (omega arith),
+      run store at (1 ∷ []) (octetsOf 4 now) (at + 1) refl (omega (arith, length-octetsOf 4 now)),
+      run store at stamp telegram (at + slotHead) (omega arith) (omega arith),
+      run store at (stamp ++ telegram) zeros (at + slotHead + length telegram) (omega arith) (omega arith),
+    )
+    (ap (λ (x : List ℕ). over store at (1 ∷ x)) (append-assoc (octetsOf 4 now) telegram zeros))
+
+-- a vehicle's slot is whole
+pub slot-whole : (store : List ℕ) (v : ℕ) → length store ≡ storeOctets → 1 ≤ v → v ≤ vehicles → length (take slotOctets (drop (slotStart v) store)) ≡ slotOctets
+slot-whole store v whole first last = simp (length-take, length-drop) (omega arith)
+
+-- ---- the tests
+
+past : {A B : Type 0} (b : Bool) (n at : ℕ) (x : Answer A) (k : A → Answer B) (y : Answer B) → y ≡ andThen x k → refuseIf b n at y ≡ andThen (refuseIf b n at x) k
+unfolding refuseIf
+past true n at x k y e = refl
+past false n at x k y e = e
+
+module _ (store : List ℕ) (v now : ℕ) (telegram : List ℕ) where
+  tested : taking store v now telegram ≡ andThen (takingTests (length store) v telegram) (λ _. gives (taken store v now telegram))
+  unfolding taking takingTests telegramTests
+  tested =
+      past _ 5 0 _ _ _ (past _ 6 0 _ _ _ (past _ 7 0 _ _ _ (past _ 8 0 _ _ _ (past _ 9 0 _ _ _ (past _ 10 0 _ _ _ refl)))))
+
+  pub took-refused : (f : Refusal) → refusalOf f ≡ takingTests (length store) v telegram → Written (taking store v now telegram) store (O.Refused f) store
+  took-refused f e = record { outcome = rw (tested, ← e); octets = rw (tested, ← e) }
+
+  pub took-done : gives tt ≡ takingTests (length store) v telegram → Written (taking store v now telegram) store O.Done (taken store v now telegram)
+  took-done e = record { outcome = rw (tested, ← e); octets = rw (tested, ← e) }
+
+  pub tested-takes : gives tt ≡ takingTests (length store) v telegram → Takes store v telegram
+  tested-takes e = takes store v now telegram (taken store v now telegram) (rw (tested, ← e)) .0
+
+-- ---- age
+
+-- the number that the stamp added to wraps back to the clock
+pub age-wraps : (now stamp r : ℕ) → now < turn → stamp < turn → r < turn → (r + stamp) % turn ≡ now → r ≡ age now stamp
+unfolding age
+age-wraps now stamp r h k l e = omega arith

@@ -1,0 +1,25 @@
+-- The tests of taking a telegram, in the parts in which the code works them out.
+use Prim.Native.Nat.{ℕ}
+use mathlib.Core.Path.{_≡_}
+use mathlib.Core.Bool.{not}
+use mathlib.Core.List.{List}
+use lib.ListN.{length}
+use lib.Dec.{ltb, eqb}
+use Rattle.paper.specs.Answer.{Answer, gives, refuseIf}
+use Rattle.paper.specs.Telegrams.{applicationType, telegramType, isType, typeLength}
+use Rattle.paper.specs.Store.{storeOctets, isVehicle}
+
+-- the tests of `taking`: those of the telegram alone, then all on a store of n octets
+unfoldable pub telegramTests : List ℕ → Answer (Unit {0})
+telegramTests telegram =
+    refuseIf (ltb (length telegram) 2) 7 0
+    (refuseIf (not (eqb (applicationType telegram) 1)) 8 0
+    (refuseIf (not (isType (telegramType telegram))) 9 0
+    (refuseIf (not (eqb (length telegram) (typeLength (telegramType telegram)))) 10 0
+    (gives tt))))
+
+unfoldable pub takingTests : ℕ → ℕ → List ℕ → Answer (Unit {0})
+takingTests n v telegram =
+    refuseIf (not (eqb n storeOctets)) 5 0
+    (refuseIf (not (isVehicle v)) 6 0
+    (telegramTests telegram))

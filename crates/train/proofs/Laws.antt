@@ -1,0 +1,94 @@
+-- What the set of an answer holds, and when nobody meets an address. Assumes nothing.
+use mathlib.Core.Path.{_≡_, refl, sym, ap, ap₂, _∙_}
+use mathlib.Core.Bool.{Bool, true, false, not, cond, _&&_, _||_, true≢false}
+use mathlib.Core.List.{List}
+use mathlib.Core.Logic.{_⊎_, inl, inr}
+use Prim.Native.Nat.{ℕ, zero, suc, _+_, _-_, _/_, _%_, _^_, _≤_, _<_}
+use native.Mathlib.Nat.{div-eq-of-lt, lt-of-lt-of-le, lt-irrefl, eq-or-lt-of-le}
+use native.Mathlib.Decide.{decLe}
+use native.Mathlib.Omega.{arith}
+use borrow.Author.Tests.{le-leb, lt-leb, eq-eqb, ne-eqb, le-ltb, eqb-true, eqb-false, ltb-false, not-false}
+use lib.Dec.{eqb, leb, ltb}
+use lib.ListN.{length}
+use lib.Pow.{pow-mono}
+use Rattle.paper.specs.Answer.{Answer, gives, refused, refuseIf}
+use Rattle.paper.specs.First.{count}
+use Rattle.paper.specs.Train.{Vehicle, consistRule, isAddress, member, setTo, membersOf, resolving}
+use Rattle.paper.proofs.AnswerLaws.{refuses, goes-past, never-both}
+use Rattle.train.proofs.Sets.{set-lt, bits, even}
+
+-- bit v of the set is 1 exactly if vehicle v is in the train and meets the address
+pub set-bits : (train : List Vehicle) (a v : ℕ) → membersOf train a .set / 2 ^ v % 2 ≡ cond (leb 1 v && leb v (length train) && member train a v) 1 0
+unfolding membersOf
+set-bits train a zero = omega (arith, even (member train a) (length train))
+set-bits train a (suc k) = elim (decLe (suc k) (length train)) [
+  | yes l ↦ simp (le-leb 1 (suc k) (omega arith), le-leb (suc k) (length train) l) (bits (member train a) (length train) (suc k) (omega arith) l)
+  | no g ↦
+      let o : length train < suc k = omega arith in
+      let s : setTo (member train a) (length train) < 2 ^ suc k = lt-of-lt-of-le (set-lt (member train a) (length train)) (pow-mono o) in
+      simp (le-leb 1 (suc k) (omega arith), lt-leb (suc k) (length train) o) (ap (λ (x : ℕ). x % 2) (div-eq-of-lt s))
+]
+
+-- a count is 0 exactly if the test passes nowhere
+pub count-none : (ok : ℕ → Bool) (n : ℕ) → ((k : ℕ) → k < n → ok k ≡ false) → count ok n ≡ 0
+unfolding count
+count-none ok zero h = refl
+count-none ok (suc n) h =
+    ap (λ (b : Bool). count ok n + cond b 1 0) (h n (omega arith)) ∙ omega (arith, count-none ok n (λ k l. h k (omega arith)))
+
+pub none-counted : (ok : ℕ → Bool) (n : ℕ) → count ok n ≡ 0 → (k : ℕ) → k < n → ok k ≡ false
+unfolding count
+none-counted ok zero e k h = absurd (lt-irrefl k (omega arith))
+none-counted ok (suc n) e k h = at (ok n) refl e (eq-or-lt-of-le h) (λ z l. none-counted ok n z k l)
+  where
+    at : (b : Bool) → ok n ≡ b → count ok n + cond b 1 0 ≡ 0 → (suc k ≡ suc n) ⊎ (suc k < suc n) → (count ok n ≡ 0 → k < n → ok k ≡ false) → ok k ≡ false
+    at true q z w rest = absurd (lt-irrefl 0 (omega arith))
+    at false q z (inl s) rest = let i : k ≡ n = omega arith in ap ok i ∙ q
+    at false q z (inr l) rest = rest (omega arith) (omega arith)
+
+-- a train that passes 17 and 18, and an address that is listed
+pub record Asked (train : List Vehicle) (a : ℕ) : Type 0 where
+  pub some : 1 ≤ length train
+  pub few : length train ≤ 63
+  pub ruled : consistRule train ≡ true
+  pub listed : isAddress a ≡ true
+
+-- 20 exactly if no vehicle of the train meets a known address
+pub nobody-meets : (train : List Vehicle) (a : ℕ) → Asked train a → ((v : ℕ) → 1 ≤ v → v ≤ length train → member train a v ≡ false) → resolving train a ≡ refused 20 0
+unfolding resolving membersOf
+nobody-meets train a h n =
+    let z : membersOf train a .size ≡ 0 = count-none (λ i. member train a (suc i)) (length train) (λ k l. n (suc k) (omega arith) (omega arith)) in
+    let some : eqb (length train) 0 ≡ false = ne-eqb (length train) 0 (λ e. lt-irrefl 0 (omega (arith, h .some))) in
+    let few : ltb 63 (length train) ≡ false = le-ltb 63 (length train) (h .few) in
+    sym (goes-past _ 17 0 _ _ (ap₂ _||_ some few) (goes-past _ 18 0 _ _ (ap not (h .ruled)) (goes-past _ 19 0 _ _ (ap not (h .listed)) (refuses _ 20 0 _ (eq-eqb _ 0 z)))))
+
+module _ {A : Type 0} where
+  -- 20 is no other refusal's number, and what is given is no refusal
+  not-here : (b : Bool) (n at : ℕ) (rest : Answer A) → (n ≡ 20 → ⊥) → refuseIf b n at rest ≡ refused 20 0 → (b ≡ false) × (rest ≡ refused 20 0)
+  unfolding refuseIf
+  not-here true n at rest h e = absurd (h (cc))
+  not-here false n at rest h e = (refl, e)
+
+  here : (b : Bool) (a : A) → refuseIf b 20 0 (gives a) ≡ refused 20 0 → b ≡ true
+  unfolding refuseIf
+  here true a e = refl
+  here false a e = absurd (never-both (gives a) a 20 0 refl e)
+
+neither : (a b : Bool) → (a || b) ≡ false → (a ≡ false) × (b ≡ false)
+neither true b e = absurd (true≢false e)
+neither false b e = (refl, e)
+
+pub refused-20 : (train : List Vehicle) (a : ℕ) → resolving train a ≡ refused 20 0 → Asked train a × ((v : ℕ) → 1 ≤ v → v ≤ length train → member train a v ≡ false)
+unfolding resolving membersOf
+refused-20 train a e =
+    let p = not-here _ 17 0 _ (λ h. lt-irrefl 0 (omega arith)) e in
+    let q = not-here _ 18 0 _ (λ h. lt-irrefl 0 (omega arith)) (p .1) in
+    let r = not-here _ 19 0 _ (λ h. lt-irrefl 0 (omega arith)) (q .1) in
+    let n = neither _ _ (p .0) in
+    let z : membersOf train a .size ≡ 0 = eqb-true _ 0 (here _ _ (r .1)) in
+    let s : length train ≡ 0 → ⊥ = eqb-false (length train) 0 (n .0) in (
+      record { some = omega arith; few = ltb-false 63 (length train) (n .1); ruled = not-false _ (q .0); listed = not-false _ (r .0) },
+      λ v h l.
+          let d : suc (v - 1) ≡ v = omega arith in
+          ap (member train a) (sym d) ∙ none-counted (λ i. member train a (suc i)) (length train) z (v - 1) (omega arith),
+    )

@@ -1,0 +1,97 @@
+#!/usr/bin/env python3
+"""Writes the signal lists of this folder from signals.csv. data/README.md says what is the sources' and what is a choice.
+
+    data/make.py            writes coach.list, coach-next.list, coach-wrong.list and L.list
+    data/make.py --check    only says whether they are as they would be written
+"""
+import csv
+import os
+import sys
+
+HERE = os.path.dirname(os.path.abspath(__file__))
+TYPES = {"R3": 0, "R1": 1, "R2": 2}
+# every check place printed in Appendix B: octets 3-8, and octets 41-46
+CHECKS = list(range(16, 64, 2)) + list(range(320, 368, 2))
+LIMIT = 5000
+
+# routes of the coach: signal (telegram, start), vehicle, destination start
+ROUTES = [
+    (("R3", 156), 1, 0), (("R3", 157), 1, 1), (("R3", 156), 2, 2), (("R3", 157), 2, 3), (("R3", 156), 3, 4), (("R3", 157), 3, 5),
+    (("R1", 424), 1, 8), (("R1", 428), 1, 12), (("R1", 384), 1, 16), (("R1", 400), 1, 32),
+    (("R2", 416), 2, 48), (("R2", 400), 2, 64), (("R3", 80), 2, 80), (("R3", 96), 3, 96),
+]
+
+
+def ranges(text):
+    if text == "all":
+        return []
+    return [tuple(int(x) for x in (part.split("-") * 2)[:2]) for part in text.split(";")]
+
+
+def read_signals():
+    with open(os.path.join(HERE, "signals.csv"), newline="") as f:
+        for r in csv.DictReader(f):
+            known = ranges(r["known_codes"])
+            yield {
+                "telegram": r["telegram"], "type": TYPES[r["telegram"]], "start": int(r["start"]), "width": int(r["width"]),
+                "check": int(r["check"]), "since": 2 if r["listed_in_002.01"] == "yes" else 1, "limit": LIMIT,
+                "replacement": known[0][0] if known else 0, "known": known,
+            }
+
+
+def n(value, octets):
+    return value.to_bytes(octets, "big")
+
+
+def pack(signals, routes):
+    signals = sorted(signals, key=lambda s: (s["type"], s["start"]))
+    place = {(s["telegram"], s["start"]): k for k, s in enumerate(signals)}
+    out = n(len(CHECKS), 2) + b"".join(n(c, 2) for c in CHECKS)
+    out += n(len(signals), 2)
+    for s in signals:
+        out += n(s["start"], 2) + bytes([s["width"], s["type"], CHECKS.index(s["check"]) + 1, s["since"]])
+        out += n(s["limit"], 4) + n(s["replacement"], 6)
+    codes = [(k, lo, hi) for k, s in enumerate(signals) for lo, hi in s["known"]]
+    out += n(len(codes), 2) + b"".join(n(k, 2) + n(lo, 2) + n(hi, 2) for k, lo, hi in codes)
+    out += n(len(routes), 2)
+    for where, vehicle, start in sorted(routes, key=lambda r: r[2]):
+        out += n(place[where], 2) + bytes([vehicle, 0]) + n(start, 2)
+    return out
+
+
+def successor(signals, since):
+    """A signal added in blocked bits, a code range widened, a limit and a replacement changed."""
+    for s in signals:
+        if (s["telegram"], s["start"]) == ("R1", 380):
+            s["known"] = [(0, 2)]
+        if (s["telegram"], s["start"]) == ("R1", 424):
+            s["limit"], s["replacement"] = 2500, 15
+    return signals + [{"telegram": "R1", "type": 1, "start": 524, "width": 4, "check": 338, "since": since, "limit": LIMIT, "replacement": 0, "known": [(0, 3)]}]
+
+
+L = bytes.fromhex("0001 0142 0001 01A8 04 01 01 01 00001388 000000000000 0002 0000 0000 0006 0000 000F 000F 0001 0000 01 00 0000")
+
+
+def main():
+    files = {
+        "L.list": L,
+        "coach.list": pack(list(read_signals()), ROUTES),
+        "coach-next.list": pack(successor(list(read_signals()), 3), ROUTES),
+        "coach-wrong.list": pack(successor(list(read_signals()), 2), ROUTES),
+    }
+    bad = 0
+    for name, octets in files.items():
+        path = os.path.join(HERE, name)
+        if "--check" in sys.argv:
+            if not os.path.exists(path) or open(path, "rb").read() != octets:
+                print(f"{name} is not what make.py writes")
+                bad = 1
+        else:
+            with open(path, "wb") as f:
+                f.write(octets)
+            print(f"{name}: {len(octets)} octets")
+    return bad
+
+
+if __name__ == "__main__":
+    sys.exit(main())

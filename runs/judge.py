@@ -1,0 +1,189 @@
+#!/usr/bin/env python3
+"""The table of `judge`'s runs: a list, and the line that the program prints for it. Run from the root, after the programs are built."""
+import os
+import subprocess
+import sys
+import tempfile
+
+WORDS = {
+    1: "list ends inside a count or a section", 2: "count above its limit", 3: "entry breaks its rule", 4: "octets after the routes",
+}
+
+
+def n(value, octets):
+    return value.to_bytes(octets, "big")
+
+
+def check(place):
+    return n(place, 2)
+
+
+def signal(start, width, type=1, check=0, since=1, limit=5000, replacement=0):
+    return n(start, 2) + bytes([width, type, check, since]) + n(limit, 4) + n(replacement, 6)
+
+
+def code(k, low, high):
+    return n(k, 2) + n(low, 2) + n(high, 2)
+
+
+def route(k, vehicle, start, null=0):
+    return n(k, 2) + bytes([vehicle, null]) + n(start, 2)
+
+
+def pack(checks=(), signals=(), codes=(), routes=()):
+    return b"".join(n(len(part), 2) + b"".join(part) for part in (checks, signals, codes, routes))
+
+
+def ok(checks, signals, codes, routes, version):
+    return f"list ok checks={checks} signals={signals} codes={codes} routes={routes} version={version}"
+
+
+def refused(number, offset):
+    return f"refused {number} at {offset}: {WORDS[number]}"
+
+
+L = bytes.fromhex("0001 0142 0001 01A8 04 01 01 01 00001388 000000000000 0002 0000 0000 0006 0000 000F 000F 0001 0000 01 00 0000")
+
+# every section at its limit: 64 checks in 16-143, 88 signals of 2 bits in 144-319 and 168 of 4 bits from 320 on, two code ranges each,
+# 512 routes of 4 bits that end at bit 2048
+LONGEST = pack(
+    [check(16 + 2 * k) for k in range(64)],
+    [signal(144 + 2 * k, 2, 0, 1 + k % 64) for k in range(88)] + [signal(320 + 4 * k, 4) for k in range(168)],
+    [code(k, c, c) for k in range(256) for c in (0, 2)],
+    [route(88, 1 + k % 63, 4 * k) for k in range(512)],
+)
+
+S = signal(424, 4)              # a signal that keeps every rule
+SIGNALS = 4 + 2                 # offset of signal 0 behind one check; without checks it is 4
+
+
+def one_signal(s, checks=()):
+    return pack(checks, [s])
+
+
+def second_signal(a, b):
+    return pack((), [a, b])
+
+
+def one_code(c, s=S):
+    return pack((), [s], [c])
+
+
+def codes_of(*cs):
+    return pack((), [S, signal(428, 4)], cs)
+
+
+def routes_of(*rs):
+    return pack((), [S, signal(428, 8)], (), rs)
+
+
+TABLE = [
+    ("L", L, ok(1, 1, 2, 1, 1)),
+    ("L less its last octet", L[:-1], refused(1, 36)),
+    ("L with an octet more", L + b"\0", refused(4, 44)),
+    ("the empty list", b"", refused(1, 0)),
+    ("one octet", b"\0", refused(1, 0)),
+    ("four empty sections", pack(), ok(0, 0, 0, 0, 1)),
+    ("the longest list", LONGEST, ok(64, 256, 512, 512, 1)),
+    ("the longest list and an octet", LONGEST + b"\0", refused(4, 10376)),
+    ("100,000 octets of 0", bytes(100000), refused(4, 8)),
+    ("100,000 octets of FF", b"\xff" * 100000, refused(2, 0)),
+    ("the longest list and 100,000 octets more", LONGEST + bytes(100000), refused(4, 10376)),
+    ("ends inside the signals' count", n(0, 2) + b"\0", refused(1, 2)),
+    ("ends inside a check", n(2, 2) + check(16) + b"\0", refused(1, 0)),
+    ("65 checks", n(65, 2) + bytes(130), refused(2, 0)),
+    ("257 signals", n(0, 2) + n(257, 2), refused(2, 2)),
+    ("513 codes", n(0, 2) + n(0, 2) + n(513, 2), refused(2, 4)),
+    ("513 routes", n(0, 2) + n(0, 2) + n(0, 2) + n(513, 2), refused(2, 6)),
+    ("a count above its limit, entries missing too", n(65535, 2), refused(2, 0)),
+    ("check at an odd address", pack([check(17)]), refused(3, 2)),
+    ("check at 14", pack([check(14)]), refused(3, 2)),
+    ("check at 1022", pack([check(1022)]), ok(1, 0, 0, 0, 1)),
+    ("check at 1024", pack([check(1024)]), refused(3, 2)),
+    ("checks that don't rise", pack([check(16), check(18), check(18)]), refused(3, 6)),
+    ("width 0", one_signal(signal(424, 0)), refused(3, 4)),
+    ("width 48", one_signal(signal(424, 48)), ok(0, 1, 0, 0, 1)),
+    ("width 49", one_signal(signal(424, 49)), refused(3, 4)),
+    ("type 3", one_signal(signal(424, 4, 3)), refused(3, 4)),
+    ("common field below 16", one_signal(signal(15, 1, 0)), refused(3, 4)),
+    ("common field to 319", one_signal(signal(319, 1, 0)), ok(0, 1, 0, 0, 1)),
+    ("common field past 319", one_signal(signal(319, 2, 0)), refused(3, 4)),
+    ("R1 field below 320", one_signal(signal(319, 2, 1)), refused(3, 4)),
+    ("R2 field to 1023", one_signal(signal(1022, 2, 2)), ok(0, 1, 0, 0, 1)),
+    ("R2 field past 1023", one_signal(signal(1022, 3, 2)), refused(3, 4)),
+    ("check that does not exist", one_signal(signal(424, 4, 1, 1)), refused(3, 4)),
+    ("R1 signal with a check below 320", one_signal(signal(424, 4, 1, 1), [check(318)]), refused(3, SIGNALS)),
+    ("common signal with a check from 320 on", one_signal(signal(64, 4, 0, 1), [check(320)]), refused(3, SIGNALS)),
+    ("R1 signal with a check at 320", one_signal(signal(424, 4, 1, 1), [check(320)]), ok(1, 1, 0, 0, 1)),
+    ("since-version 0", one_signal(signal(424, 4, 1, 0, 0)), refused(3, 4)),
+    ("since-version 255", one_signal(signal(424, 4, 1, 0, 255)), ok(0, 1, 0, 0, 255)),
+    ("limit 600,000", one_signal(signal(424, 4, limit=600000)), ok(0, 1, 0, 0, 1)),
+    ("limit 600,001", one_signal(signal(424, 4, limit=600001)), refused(3, 4)),
+    ("replacement 2^width - 1", one_signal(signal(424, 4, replacement=15)), ok(0, 1, 0, 0, 1)),
+    ("replacement 2^width", one_signal(signal(424, 4, replacement=16)), refused(3, 4)),
+    ("replacement 2^48 - 1", one_signal(signal(424, 48, replacement=2**48 - 1)), ok(0, 1, 0, 0, 1)),
+    ("types that fall", second_signal(signal(424, 4, 2), signal(500, 4, 1)), refused(3, 20)),
+    ("start before the end before", second_signal(signal(424, 4), signal(427, 4)), refused(3, 20)),
+    ("start at the end before", second_signal(signal(424, 4), signal(428, 4)), ok(0, 2, 0, 0, 1)),
+    ("the same place in another type", second_signal(signal(424, 4, 1), signal(424, 4, 2)), ok(0, 2, 0, 0, 1)),
+    ("field on a check nobody names", one_signal(S, [check(426)]), refused(3, SIGNALS)),
+    ("field on a check that only the other type names", pack([check(426)], [S, signal(500, 4, 2, 1)]), refused(3, SIGNALS)),
+    ("field that ends at a check", one_signal(S, [check(428)]), ok(1, 1, 0, 0, 1)),
+    ("field that starts past a check", one_signal(S, [check(422)]), ok(1, 1, 0, 0, 1)),
+    ("a shared bit before a later broken entry", pack([check(426)], [S, signal(500, 0)]), refused(3, SIGNALS)),
+    ("a broken entry before a shared bit", pack([check(502)], [signal(424, 0), signal(500, 4)]), refused(3, SIGNALS)),
+    ("code of a signal that does not exist", one_code(code(1, 0, 1)), refused(3, 22)),
+    ("code of a signal of width 16", one_code(code(0, 0, 65535), signal(424, 16)), ok(0, 1, 1, 0, 1)),
+    ("code of a signal of width 17", one_code(code(0, 0, 1), signal(424, 17)), refused(3, 22)),
+    ("low above high", one_code(code(0, 3, 2)), refused(3, 22)),
+    ("high 2^width", one_code(code(0, 0, 16)), refused(3, 22)),
+    ("signal numbers that fall", codes_of(code(1, 0, 0), code(0, 0, 0)), refused(3, 44)),
+    ("low exceeds the previous high by 1", codes_of(code(0, 0, 3), code(0, 4, 5)), refused(3, 44)),
+    ("low exceeds the previous high by 2", codes_of(code(0, 0, 3), code(0, 5, 5)), ok(0, 2, 2, 0, 1)),
+    ("a range after high 65,535", pack((), [signal(424, 16)], [code(0, 0, 65535), code(0, 1, 1)]), refused(3, 28)),
+    ("route of a signal that does not exist", routes_of(route(2, 1, 0)), refused(3, 40)),
+    ("vehicle 0", routes_of(route(0, 0, 0)), refused(3, 40)),
+    ("vehicle 63", routes_of(route(0, 63, 0)), ok(0, 2, 0, 1, 1)),
+    ("vehicle 64", routes_of(route(0, 64, 0)), refused(3, 40)),
+    ("a route's zero octet set", routes_of(route(0, 1, 0, 1)), refused(3, 40)),
+    ("a route to bit 2048", routes_of(route(0, 1, 2044)), ok(0, 2, 0, 1, 1)),
+    ("a route past bit 2048", routes_of(route(0, 1, 2045)), refused(3, 40)),
+    ("route before the end before", routes_of(route(1, 1, 0), route(0, 1, 7)), refused(3, 46)),
+    ("route at the end before", routes_of(route(1, 1, 0), route(0, 1, 8)), ok(0, 2, 0, 2, 1)),
+    ("an octet after the routes", pack() + b"\0", refused(4, 8)),
+]
+
+
+def run(program, *args):
+    return subprocess.run([program, "judge", *args], stdout=subprocess.PIPE, stderr=subprocess.STDOUT, timeout=60).stdout.decode()
+
+
+def main():
+    program = os.path.abspath("run")
+    bad = 0
+    with tempfile.TemporaryDirectory() as folder:
+        path = os.path.join(folder, "list")
+        for name, octets, expected in TABLE:
+            with open(path, "wb") as f:
+                f.write(octets)
+            got = run(program, path)
+            if got != expected + "\n":
+                print(f"judge, {name}: expected {expected!r}, got {got!r}")
+                bad += 1
+        for name, args in (("no argument", []), ("a missing file", [os.path.join(folder, "none")]), ("a folder", [folder])):
+            got = run(program, *args)
+            if not got.startswith("error") or got.count("\n") != 1:
+                print(f"judge, {name}: expected one line that begins with error, got {got!r}")
+                bad += 1
+    for name, expected in (("coach", ok(48, 165, 41, 14, 2)), ("coach-next", ok(48, 166, 42, 14, 3)), ("coach-wrong", ok(48, 166, 42, 14, 2))):
+        got = run(program, f"data/{name}.list")
+        if got != expected + "\n":
+            print(f"judge, data/{name}.list: expected {expected!r}, got {got!r}")
+            bad += 1
+    assert len(LONGEST) == 10376
+    print(f"judge: {len(TABLE) + 6} runs, {bad} wrong")
+    return 1 if bad else 0
+
+
+if __name__ == "__main__":
+    sys.exit(main())
