@@ -1,0 +1,99 @@
+-- The parts of composing are the paper's, and what is written lies within the telegram. Assumes nothing.
+use Prim.Native.Nat.{ℕ, _+_, _-_, _*_, _≤_, _<_}
+use mathlib.Core.Path.{_≡_, refl, sym, ap, _∙_}
+use mathlib.Core.Logic.{_⊎_, ⊎-elim}
+use mathlib.Core.Bool.{Bool, true, false, cond}
+use mathlib.Core.List.{List, [], _∷_, _++_, append-nil}
+use native.Mathlib.Numerals.{add-one}
+use native.Mathlib.Omega.{arith}
+use native.Mathlib.Decide.{ℕ-discrete}
+use lib.ListN.{length, drop, set, replicate, length-replicate}
+use lib.Seq.{drop-length}
+use lib.Dec.{eqb}
+use borrow.Author.Tests.{leb-true, eqb-true, not-false}
+use Rattle.paper.specs.Octets.{put, Put, puts, over}
+use Rattle.paper.specs.Answer.{Answer, gives, refused, refuseIf, andThen}
+use Rattle.paper.specs.Telegrams.{typeLength, markWidth}
+use Rattle.paper.specs.SignalList.{SignalList, Counts, fieldEnd, judge, listOf}
+use Rattle.paper.specs.Extends.{version}
+use Rattle.paper.specs.Composing.{writesSignal, writesCheck, headed, composing}
+use Rattle.paper.proofs.AnswerLaws.{not-refused}
+use Rattle.paper.proofs.ListLaws.{both, either, Laid, Kept}
+use Rattle.paper.proofs.ComposingLaws.{type-bits}
+use Rattle.octets.specs.Fields.{Within}
+use Rattle.composing.specs.Composing.{headOf, Values, Marks, Room, composingTests, composingUnder}
+
+-- ---- what is written lies within the telegram
+
+pub type-least : (type : ℕ) → 40 ≤ typeLength type
+type-least type = ⊎-elim (λ b. omega (arith, b .1)) (λ b. omega (arith, b .1)) (type-bits type)
+
+pub type-most : (type : ℕ) → typeLength type ≤ 128
+type-most type = ⊎-elim (λ b. omega (arith, b .1)) (λ b. omega (arith, b .1)) (type-bits type)
+
+module _ (l : SignalList) (h : Kept l) (type : ℕ) (out : List ℕ) (long : length out ≡ typeLength type) where
+  pub signal-there : (k : ℕ) → k < l .signals → writesSignal l type k ≡ true → Within out (l .signal k .start) (l .signal k .width)
+  signal-there k lt w =
+      record { some = h .signal k lt .some; wide = omega (arith, h .signal k lt .wide); inside = by (ℕ-discrete (l .signal k .type) 0) (either _ _ w) }
+    where
+      by : Dec (l .signal k .type ≡ 0) → (eqb (l .signal k .type) 0 ≡ true) ⊎ (eqb (l .signal k .type) type ≡ true) → fieldEnd (l .signal k) ≤ 8 * length out
+      by (yes z) e = omega (arith, h .signal k lt .placed .common z .1, type-least type)
+      by (no n) e =
+          let s : l .signal k .type ≡ type = ⊎-elim (λ z. absurd (n (eqb-true _ _ z))) (λ q. eqb-true _ _ q) e in
+          ⊎-elim (λ b. omega (arith, b .0, h .signal k lt .typed)) (λ b. omega (arith, b .1, h .signal k lt .placed .own n .1)) (type-bits type)
+
+  pub check-there : (j : ℕ) → writesCheck l type j ≡ true → Within out (l .check j) markWidth
+  check-there j w = record { some = omega arith; wide = omega arith; inside = omega (arith, leb-true (l .check j + markWidth) (8 * typeLength type) w) }
+
+-- ---- the head, and one field more
+
+pub written-head : (out : List ℕ) (a b n : ℕ) → length out ≡ n → 2 ≤ n → over (set (set out 0 a) 1 b) 2 (replicate (n - 2) 0) ≡ a ∷ b ∷ replicate (n - 2) 0
+unfolding over
+written-head [] a b n e h = absurd (omega arith)
+written-head (x ∷ []) a b n e h = absurd (omega arith)
+written-head (x ∷ y ∷ l) a b n e h =
+    let zeros : List ℕ = replicate (n - 2) 0 in
+    let z : 2 + length zeros ≡ length (a ∷ b ∷ l) = omega (arith, length-replicate {A = ℕ} (n - 2) 0) in
+    ap (λ (m : List ℕ). a ∷ b ∷ zeros ++ m) (ap (λ (i : ℕ). drop i (a ∷ b ∷ l)) z ∙ drop-length (a ∷ b ∷ l)) ∙ ap (λ (m : List ℕ). a ∷ b ∷ m) (append-nil zeros)
+
+pub head-is : (xs : List ℕ) (n : Counts) (type : ℕ) → Laid xs n → headOf type (n .version) ≡ headed (listOf xs n) type
+unfolding headed version
+head-is xs n type h = rw (h .version)
+
+pub puts-more : (f : ℕ → Put) (l old : List ℕ) (k : ℕ) → old ≡ puts f l k
+    → cond (f k .written) (put old (f k .start) (f k .width) (f k .value)) old ≡ puts f l (k + 1)
+unfolding puts
+puts-more f l old k e = rw (add-one, e)
+
+-- ---- the tests
+
+past : {A B : Type 0} (b : Bool) (n at : ℕ) (x : Answer A) (k : A → Answer B) (y : Answer B) → y ≡ andThen x k → refuseIf b n at y ≡ andThen (refuseIf b n at x) k
+unfolding refuseIf
+past true n at x k y e = refl
+past false n at x k y e = e
+
+same-then : {A B : Type 0} (x : Answer A) (j k : A → Answer B) → ((a : A) → j a ≡ k a) → andThen x j ≡ andThen x k
+same-then (gives a) j k e = e a
+same-then (refused n at) j k e = refl
+
+pub tested : (xs : List ℕ) (type : ℕ) (values marks : List ℕ) (room : ℕ)
+    → composing xs type values marks room ≡ andThen (judge xs) (λ n. composingUnder (listOf xs n) type values marks room)
+unfolding composing composingTests
+tested xs type values marks room =
+    same-then (judge xs) _ _ (λ n. past _ 9 0 _ _ _ (past _ 13 0 _ _ _ (past _ 14 0 _ _ _ (past _ 15 _ _ _ _ (past _ 16 0 _ _ _ refl)))))
+
+-- what the tests ask of the sizes
+pub sized : (xs : List ℕ) (n : Counts) (type : ℕ) (values marks : List ℕ) (room : ℕ) → Laid xs n → gives tt ≡ composingTests (listOf xs n) type values marks room
+    → (Values xs n values) × (Marks xs n marks) × (Room type room)
+unfolding composingTests
+sized xs n type values marks room h e =
+    let a = not-refused _ _ _ _ _ (sym e) in
+    let b = not-refused _ _ _ _ _ (a .1) in
+    let c = not-refused _ _ _ _ _ (b .1) in
+    let d = not-refused _ _ _ _ _ (c .1) in
+    let f = not-refused _ _ _ _ _ (d .1) in
+    let p = both _ _ (not-false _ (b .0)) in (
+      record { laid = h; each = eqb-true _ _ (p .0) },
+      record { laid = h; each = eqb-true _ _ (p .1) },
+      record { typed = not-false _ (a .0); long = eqb-true _ _ (not-false _ (f .0)) },
+    )

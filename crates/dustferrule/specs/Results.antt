@@ -1,0 +1,81 @@
+-- What crosses the boundary for each of the paper's answers: the refusal's number and what it carries, or 0 and the values.
+use Prim.Native.Nat.{ℕ}
+use mathlib.Core.Path.{_≡_}
+use mathlib.Core.Bool.{Bool, true, false}
+use mathlib.Core.List.{List}
+use lib.Ieee.{Float, binary32, ofBits}
+use Rattle.paper.specs.Answer.{Answer, gives, refused, after, forget, mapAnswer}
+use Rattle.paper.specs.SignalList.{Counts}
+use Rattle.paper.specs.Extends.{Extending, extending, firstRefused, secondRefused}
+use Rattle.paper.specs.Reading.{Reading}
+use Rattle.paper.specs.Marshalling.{Marshalled}
+use Rattle.paper.specs.Shown.{Shown, asCode, asSpeed, asPercentage, asCurrent}
+use Rattle.paper.specs.Train.{Members}
+use Rattle.paper.specs.ETelegrams.{EReading}
+use Rattle.dustferrule.specs.declared.DfOutcome.{DfOutcome}
+use Rattle.dustferrule.specs.declared.DfJudged.{DfJudged}
+use Rattle.dustferrule.specs.declared.DfExtending.{DfExtending}
+use Rattle.dustferrule.specs.declared.DfMarshalled.{DfMarshalled}
+use Rattle.dustferrule.specs.declared.DfPlace.{DfPlace}
+use Rattle.dustferrule.specs.declared.DfReading.{DfReading}
+use Rattle.dustferrule.specs.declared.DfShown.{DfShown}
+use Rattle.dustferrule.specs.declared.DfMembers.{DfMembers}
+use Rattle.dustferrule.specs.declared.DfERead.{DfERead}
+
+abbrev pub yesNo : Bool → ℕ
+yesNo true = 1
+yesNo false = 0
+
+abbrev pub outcomeC : Answer (Unit {0}) → DfOutcome
+outcomeC (gives a) = record { refusal = 0; carried = 0 }
+outcomeC (refused n at) = record { refusal = n; carried = at }
+
+abbrev pub judgedC : Answer Counts → DfJudged
+judgedC (gives n) =
+    record { refusal = 0; carried = 0; checks = n .checks; signals = n .signals; codes = n .codes; routes = n .routes; version = n .version }
+judgedC (refused n at) = record { refusal = n; carried = at; checks = 0; signals = 0; codes = 0; routes = 0; version = 0 }
+
+abbrev pub extendingC : Extending → DfExtending
+extendingC (extending b) = record { refusal = 0; which = 0; carried = 0; extends = yesNo b }
+extendingC (firstRefused n at) = record { refusal = n; which = 1; carried = at; extends = 0 }
+extendingC (secondRefused n at) = record { refusal = n; which = 2; carried = at; extends = 0 }
+
+abbrev pub livesC : Answer ℕ → DfMarshalled
+livesC (gives n) = record { refusal = 0; carried = 0; lives = n }
+livesC (refused n at) = record { refusal = n; carried = at; lives = 0 }
+
+abbrev pub placeC : Answer ℕ → DfPlace
+placeC (gives place) = record { refusal = 0; place = place }
+placeC (refused n at) = record { refusal = n; place = 0 }
+
+abbrev pub readingC : Answer Reading → DfReading
+readingC (gives r) = record { refusal = 0; reason = r .reason; carried = 0; value = r .value }
+readingC (refused n at) = record { refusal = n; reason = 0; carried = at; value = 0 }
+
+-- the f32 of a scaled reading; a code has none
+abbrev pub floatOf : Shown → Float
+floatOf (asCode c) = ofBits binary32 0
+floatOf (asSpeed x) = x
+floatOf (asPercentage x) = x
+floatOf (asCurrent x) = x
+
+abbrev pub shownC : Answer Shown → DfShown
+shownC (gives s) = record { refusal = 0; value = floatOf s }
+shownC (refused n at) = record { refusal = n; value = ofBits binary32 0 }
+
+abbrev pub membersC : Answer Members → DfMembers
+membersC (gives m) = record { refusal = 0; size = m .size; set = m .set }
+membersC (refused n at) = record { refusal = n; size = 0; set = 0 }
+
+abbrev pub eReadC : Answer EReading → DfERead
+eReadC (gives r) = record { refusal = 0; code = r .code; report = yesNo (r .report); status = r .status }
+eReadC (refused n at) = record { refusal = n; code = 0; report = 0; status = 0 }
+
+-- a call that writes: its result, and the lent octets afterwards
+pub record WrittenC (answer : Answer (List ℕ)) (old : List ℕ) (r : DfOutcome) (new : List ℕ) : Type 0 where
+  pub result : r ≡ outcomeC (forget answer)
+  pub octets : new ≡ after old answer
+
+pub record DeliveredC (answer : Answer Marshalled) (old : List ℕ) (r : DfMarshalled) (new : List ℕ) : Type 0 where
+  pub result : r ≡ livesC (mapAnswer (λ m. m .lives) answer)
+  pub octets : new ≡ after old (mapAnswer (λ m. m .octets) answer)

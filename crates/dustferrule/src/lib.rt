@@ -1,0 +1,434 @@
+// The library as C and Rust link it: every public call, with numbers and slices at the boundary and results as plain structs.
+// A result's refusal is 0 where the call was not refused, and every field that an answer does not use is 0.
+ghost use mathlib.Core.Path.{_≡_};
+ghost use mathlib.Core.List.{map};
+ghost use lib.ListN.{length};
+ghost use Rattle.paper.specs.Answer.{gives};
+ghost use Rattle.paper.specs.Telegrams.{checkPlace};
+ghost use Rattle.paper.specs.SignalList.{judge as judging};
+ghost use Rattle.paper.specs.Extends.{extendsLists};
+ghost use Rattle.paper.specs.Store.{taking};
+ghost use Rattle.paper.specs.Reading.{reading};
+ghost use Rattle.paper.specs.Marshalling.{marshalling};
+ghost use Rattle.paper.specs.Composing.{composing};
+ghost use Rattle.paper.specs.Shown.{asCode, code, speed, percentage, signedPercentage, current, showing};
+ghost use Rattle.paper.specs.Train.{resolving};
+ghost use Rattle.paper.specs.ETelegrams.{eReading, answering};
+ghost use Rattle.refusals.specs.Refusal.{numberOf, carriedOf};
+ghost use Rattle.refusals.specs.Outcome.{outcomeOf};
+ghost use Rattle.lists.specs.Judged.{judgedAnswer};
+ghost use Rattle.extending.specs.Extending.{extendsAnswer};
+ghost use Rattle.marshalling.specs.Marshalling.{liveAnswer};
+ghost use Rattle.grouping.specs.Place.{placeAnswer};
+ghost use Rattle.gateway.specs.Reading.{readAnswer};
+ghost use Rattle.shown.specs.Show.{kindOf, shownOf, showingAnswer};
+ghost use Rattle.train.specs.Marks.{vehicleOf, resolvedAnswer};
+ghost use Rattle.etelegrams.specs.Answers.{eReadAnswer};
+ghost use Rattle.dustferrule.specs.Results.{yesNo, floatOf, outcomeC, judgedC, extendingC, livesC, placeC, readingC, shownC, membersC, eReadC, WrittenC, DeliveredC};
+use etelegrams::ERead;
+use extending::ExtendsOutcome;
+use gateway::ReadOutcome;
+use grouping::Place;
+use lists::Judged;
+use marshalling::Marshalled;
+use refusals::Outcome;
+use refusals::Refusal;
+use shown::Kind;
+use shown::Showing;
+use shown::Shown;
+use train::Resolved;
+
+// A call that only writes.
+#[repr(C)]
+pub struct DfOutcome {
+    pub refusal: u32,
+    pub carried: u64,
+}
+
+#[repr(C)]
+pub struct DfJudged {
+    pub refusal: u32,
+    pub carried: u64,
+    pub checks: u64,
+    pub signals: u64,
+    pub codes: u64,
+    pub routes: u64,
+    pub version: u64,
+}
+
+// which: 1 the first list was refused, 2 the second; extends: 1 yes, 0 no.
+#[repr(C)]
+pub struct DfExtending {
+    pub refusal: u32,
+    pub which: u32,
+    pub carried: u64,
+    pub extends: u32,
+}
+
+#[repr(C)]
+pub struct DfMarshalled {
+    pub refusal: u32,
+    pub carried: u64,
+    pub lives: u64,
+}
+
+#[repr(C)]
+pub struct DfPlace {
+    pub refusal: u32,
+    pub place: u64,
+}
+
+#[repr(C)]
+pub struct DfReading {
+    pub refusal: u32,
+    pub reason: u32,
+    pub carried: u64,
+    pub value: u64,
+}
+
+#[repr(C)]
+pub struct DfShown {
+    pub refusal: u32,
+    pub value: f32,
+}
+
+#[repr(C)]
+pub struct DfMembers {
+    pub refusal: u32,
+    pub size: u32,
+    pub set: u64,
+}
+
+#[repr(C)]
+pub struct DfERead {
+    pub refusal: u32,
+    pub code: u32,
+    pub report: u32,
+    pub status: u32,
+}
+
+fn number(f: Refusal) -> u32
+    ensures { λ r. ⌜ r ≡ numberOf f ⌝ }
+{
+    refusals::number(f) as u32
+}
+
+fn carried(f: Refusal) -> u64
+    ensures { λ r. ⌜ r ≡ carriedOf f ⌝ }
+{
+    refusals::carried(f) as u64
+}
+
+fn outcome_c(o: Outcome) -> DfOutcome
+    ensures { λ r. ⌜ r ≡ outcomeC (outcomeOf o) ⌝ }
+{
+    match o {
+        Outcome::Done => DfOutcome {
+            refusal: 0,
+            carried: 0,
+        },
+        Outcome::Refused(f) => DfOutcome {
+            refusal: number(f),
+            carried: carried(f),
+        },
+    }
+}
+
+fn judged_c(j: Judged) -> DfJudged
+    ensures { λ r. ⌜ r ≡ judgedC (judgedAnswer j) ⌝ }
+{
+    match j {
+        Judged::Accepted(n) => DfJudged {
+            refusal: 0,
+            carried: 0,
+            checks: n.checks as u64,
+            signals: n.signals as u64,
+            codes: n.codes as u64,
+            routes: n.routes as u64,
+            version: n.version as u64,
+        },
+        Judged::Refused(f) => DfJudged {
+            refusal: number(f),
+            carried: carried(f),
+            checks: 0,
+            signals: 0,
+            codes: 0,
+            routes: 0,
+            version: 0,
+        },
+    }
+}
+
+fn extending_c(o: ExtendsOutcome) -> DfExtending
+    ensures { λ r. ⌜ r ≡ extendingC (extendsAnswer o) ⌝ }
+{
+    match o {
+        ExtendsOutcome::Yes => DfExtending {
+            refusal: 0,
+            which: 0,
+            carried: 0,
+            extends: 1,
+        },
+        ExtendsOutcome::No => DfExtending {
+            refusal: 0,
+            which: 0,
+            carried: 0,
+            extends: 0,
+        },
+        ExtendsOutcome::FirstRefused(f) => DfExtending {
+            refusal: number(f),
+            which: 1,
+            carried: carried(f),
+            extends: 0,
+        },
+        ExtendsOutcome::SecondRefused(f) => DfExtending {
+            refusal: number(f),
+            which: 2,
+            carried: carried(f),
+            extends: 0,
+        },
+    }
+}
+
+fn lives_c(o: Marshalled) -> DfMarshalled
+    ensures { λ r. ⌜ r ≡ livesC (liveAnswer o) ⌝ }
+{
+    match o {
+        Marshalled::Live(n) => DfMarshalled {
+            refusal: 0,
+            carried: 0,
+            lives: n as u64,
+        },
+        Marshalled::Refused(f) => DfMarshalled {
+            refusal: number(f),
+            carried: carried(f),
+            lives: 0,
+        },
+    }
+}
+
+fn place_c(p: Place) -> DfPlace
+    ensures { λ r. ⌜ r ≡ placeC (placeAnswer p) ⌝ }
+{
+    match p {
+        Place::At(place) => DfPlace {
+            refusal: 0,
+            place: place as u64,
+        },
+        Place::Refused(f) => DfPlace {
+            refusal: number(f),
+            place: 0,
+        },
+    }
+}
+
+fn reading_c(o: ReadOutcome) -> DfReading
+    ensures { λ r. ⌜ r ≡ readingC (readAnswer o) ⌝ }
+{
+    match o {
+        ReadOutcome::Read(x) => DfReading {
+            refusal: 0,
+            reason: x.reason as u32,
+            carried: 0,
+            value: x.value,
+        },
+        ReadOutcome::Refused(f) => DfReading {
+            refusal: number(f),
+            reason: 0,
+            carried: carried(f),
+            value: 0,
+        },
+    }
+}
+
+fn float_of(s: Shown) -> f32
+    ensures { λ r. ⌜ r ≡ floatOf (shownOf s) ⌝ }
+{
+    match s {
+        Shown::Code(_) => 0.0,
+        Shown::Speed(x) => x,
+        Shown::Percentage(x) => x,
+        Shown::Current(x) => x,
+    }
+}
+
+fn shown_c(s: Showing) -> DfShown
+    ensures { λ r. ⌜ r ≡ shownC (showingAnswer s) ⌝ }
+{
+    match s {
+        Showing::Shown(x) => DfShown {
+            refusal: 0,
+            value: float_of(x),
+        },
+        Showing::Refused(f) => DfShown {
+            refusal: number(f),
+            value: 0.0,
+        },
+    }
+}
+
+fn members_c(o: Resolved) -> DfMembers
+    ensures { λ r. ⌜ r ≡ membersC (resolvedAnswer o) ⌝ }
+{
+    match o {
+        Resolved::Members(m) => DfMembers {
+            refusal: 0,
+            size: m.size,
+            set: m.set,
+        },
+        Resolved::Refused(f) => DfMembers {
+            refusal: number(f),
+            size: 0,
+            set: 0,
+        },
+    }
+}
+
+fn yes_no(b: bool) -> u32
+    ensures { λ r. ⌜ r ≡ yesNo b ⌝ }
+{
+    if b { 1 } else { 0 }
+}
+
+fn e_read_c(o: ERead) -> DfERead
+    ensures { λ r. ⌜ r ≡ eReadC (eReadAnswer o) ⌝ }
+{
+    match o {
+        ERead::Read(x) => DfERead {
+            refusal: 0,
+            code: x.code as u32,
+            report: yes_no(x.report),
+            status: x.status as u32,
+        },
+        ERead::Refused(f) => DfERead {
+            refusal: number(f),
+            code: 0,
+            report: 0,
+            status: 0,
+        },
+    }
+}
+
+#[no_mangle]
+pub extern "C" fn df_judge(list: &[u8]) -> DfJudged
+    ensures { λ r. ⌜ r ≡ judgedC (judging (now (list .entry))) ⌝ }
+{
+    judged_c(lists::judge(list))
+}
+
+#[no_mangle]
+pub extern "C" fn df_extends(a: &[u8], b: &[u8]) -> DfExtending
+    ensures { λ r. ⌜ r ≡ extendingC (extendsLists (now (a .entry)) (now (b .entry))) ⌝ }
+{
+    extending_c(extending::extends(a, b))
+}
+
+#[no_mangle]
+pub extern "C" fn df_check_place(bit: u64) -> DfPlace
+    ensures { λ r. ⌜ r ≡ placeC (checkPlace bit) ⌝ }
+{
+    place_c(grouping::check_place(bit))
+}
+
+#[no_mangle]
+pub extern "C" fn df_take(store: &mut [u8], vehicle: u64, clock: u32, telegram: &[u8]) -> DfOutcome
+    ensures { λ r. ⌜ WrittenC (taking (now (store .entry)) vehicle clock (now (telegram .entry))) (now (store .entry)) r (now (store .exit)) ⌝ }
+{
+    outcome_c(store::take(store, vehicle as usize, clock, telegram))
+}
+
+#[no_mangle]
+pub extern "C" fn df_read(
+    list: &[u8],
+    store: &[u8],
+    clock: u32,
+    vehicle: u64,
+    signal: u64,
+) -> DfReading
+    ensures { λ r. ⌜ r ≡ readingC (reading (now (list .entry)) (now (store .entry)) clock vehicle signal) ⌝ }
+{
+    reading_c(gateway::read(list, store, clock, vehicle as usize, signal as usize))
+}
+
+#[no_mangle]
+pub extern "C" fn df_marshal(list: &[u8], store: &[u8], clock: u32, bus: &mut [u8]) -> DfMarshalled
+    ensures { λ r. ⌜ DeliveredC (marshalling (now (list .entry)) (now (store .entry)) clock (now (bus .entry))) (now (bus .entry)) r (now (bus .exit)) ⌝ }
+{
+    lives_c(marshalling::marshal(list, store, clock, bus))
+}
+
+#[no_mangle]
+pub extern "C" fn df_compose(
+    list: &[u8],
+    kind: u64,
+    values: &[u64],
+    marks: &[u8],
+    out: &mut [u8],
+) -> DfOutcome
+    ensures { λ r. ⌜ WrittenC (composing (now (list .entry)) kind (now (values .entry)) (now (marks .entry)) (length (now (out .entry)))) (now (out .entry)) r (now (out .exit)) ⌝ }
+{
+    outcome_c(composing::compose(list, kind as usize, values, marks, out))
+}
+
+// A code is shown as itself: nothing is refused.
+#[no_mangle]
+pub extern "C" fn df_show_code(raw: u64) -> u64
+    ensures { λ r. ⌜ gives (asCode r) ≡ showing code 0 raw ⌝ }
+{
+    raw
+}
+
+fn scaled_c(kind: Kind, width: u64, raw: u64) -> DfShown
+    ensures { λ r. ⌜ r ≡ shownC (showing (kindOf kind) width raw) ⌝ }
+{
+    shown_c(shown::show(kind, width, raw))
+}
+
+#[no_mangle]
+pub extern "C" fn df_show_speed(width: u64, raw: u64) -> DfShown
+    ensures { λ r. ⌜ r ≡ shownC (showing speed width raw) ⌝ }
+{
+    scaled_c(Kind::Speed, width, raw)
+}
+
+#[no_mangle]
+pub extern "C" fn df_show_percentage(width: u64, raw: u64) -> DfShown
+    ensures { λ r. ⌜ r ≡ shownC (showing percentage width raw) ⌝ }
+{
+    scaled_c(Kind::Percentage, width, raw)
+}
+
+#[no_mangle]
+pub extern "C" fn df_show_signed_percentage(width: u64, raw: u64) -> DfShown
+    ensures { λ r. ⌜ r ≡ shownC (showing signedPercentage width raw) ⌝ }
+{
+    scaled_c(Kind::SignedPercentage, width, raw)
+}
+
+#[no_mangle]
+pub extern "C" fn df_show_current(width: u64, raw: u64) -> DfShown
+    ensures { λ r. ⌜ r ≡ shownC (showing current width raw) ⌝ }
+{
+    scaled_c(Kind::Current, width, raw)
+}
+
+#[no_mangle]
+pub extern "C" fn df_resolve(marks: &[u8], address: u64) -> DfMembers
+    ensures { λ r. ⌜ r ≡ membersC (resolving (map vehicleOf (now (marks .entry))) address) ⌝ }
+{
+    members_c(train::resolve(marks, address))
+}
+
+#[no_mangle]
+pub extern "C" fn df_e_read(telegram: &[u8]) -> DfERead
+    ensures { λ r. ⌜ r ≡ eReadC (eReading (now (telegram .entry))) ⌝ }
+{
+    e_read_c(etelegrams::e_read(telegram))
+}
+
+#[no_mangle]
+pub extern "C" fn df_e_answer(telegram: &[u8], head: &[u8], status: u8, out: &mut [u8]) -> DfOutcome
+    ensures { λ r. ⌜ WrittenC (answering (now (telegram .entry)) (now (head .entry)) status (now (out .entry))) (now (out .entry)) r (now (out .exit)) ⌝ }
+{
+    outcome_c(etelegrams::e_answer(telegram, head, status, out))
+}

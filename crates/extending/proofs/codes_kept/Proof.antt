@@ -1,0 +1,71 @@
+-- `extending::codes_kept` meets its contract. Assumes nothing.
+use Prim.Native.Nat.{ℕ, _-_, _^_}
+use mathlib.Core.Path.{_≡_, sym, ap, _∙_}
+use mathlib.Core.Bool.{true}
+use native.Mathlib.Omega.{arith}
+use lib.Pow.{pow-pos}
+use denote.Ref.{now}
+use borrow.Author.Needs.{needs}
+use borrow.Author.Tests.{not-true, not-false}
+use Rattle.paper.specs.SignalList.{Signal}
+use Rattle.paper.specs.Extends.{hasCodes}
+use Rattle.paper.proofs.ListLaws.{Kept, kept-of}
+use Rattle.extending.specs.Extending.{listed, rangeKept}
+use Rattle.extending.proofs.Laws.{kept-all, kept-ranges, kept-whole}
+use Rattle.extending.proofs.codes_kept.Statement.{statement}
+use Rattle.extending.proofs.codes_kept.Tie as tie
+
+kept : (c : tie.Start) → Kept (listed (now (c .args .a)) (c .args .m))
+kept c = kept-of _ _ (c .pre .0 .0)
+
+some-b : (c : tie.Else1) →
+    let s = c .before .before .before .before .args in
+    hasCodes (s .n .codes) (listed (now (s .b)) (s .n) .code) (s .j) ≡ true
+some-b c = sym (c .before .has-codes .ensures) ∙ not-false _ (c .if1 .left)
+
+width : (c : tie.After-signal-in) →
+    let s = c .before .before .before .before .before .before .before .args in
+    c .signal-in .result .width ≡ listed (now (s .a)) (s .m) .signal (s .i) .width
+width c = ap (λ (x : Signal). x .width) (c .signal-in .ensures .is)
+
+returns : tie.Need-returns
+returns c = kept-all _ _ _ _ (sym (c .before .has-codes .ensures) ∙ not-true _ (c .if1 .taken))
+
+returns-2 : tie.Need-returns-2
+returns-2 c =
+    let h = c .before .before in
+    let s = h .before .before .before .before .before in
+    c .ranges-kept .ensures ∙ kept-ranges _ _ _ _ (some-b (h .before)) (kept s) (sym (h .has-codes2 .ensures) ∙ c .before .if2 .taken)
+
+pow2-requires : tie.Need-pow2-requires
+pow2-requires c κs =
+    let s = c .before .before .before .before .before .before .before in
+    omega (arith, width c, kept s .signal (s .args .i) (s .pre .0 .1) .wide)
+
+sub-range-kept : tie.Need-sub-range-kept
+sub-range-kept c = rw (c .pow2 .ensures) (pow-pos (c .before .signal-in .result .width))
+
+returns-3 : tie.Need-returns-3
+returns-3 c =
+    let p = c .before in
+    let e = p .before .before in
+    let h = e .before in
+    let s = h .before .before .before .before .before .args in
+    c .range-kept .ensures
+    ∙ ap (λ (x : ℕ). rangeKept (listed (now (s .b)) (s .n)) (s .j) 0 (x - 1)) (p .pow2 .ensures ∙ ap (λ (x : ℕ). 2 ^ x) (width (p .before)))
+    ∙ kept-whole _ _ _ _ (some-b (h .before)) (sym (h .has-codes2 .ensures) ∙ e .if2 .left)
+
+pub codes-kept-spec : {M : Type 1} → statement M
+codes-kept-spec =
+    tie.close
+    (tie.spec
+    (λ c κs. search needs)
+    returns
+    (λ c κs. search needs)
+    (λ c κs. search needs)
+    returns-2
+    (λ c κs. search needs)
+    pow2-requires
+    sub-range-kept
+    (λ c κs. search needs)
+    returns-3)

@@ -1,0 +1,54 @@
+-- `extending::first_signal` meets its contract. Assumes nothing.
+use Prim.Native.Nat.{_+_, _-_, _/_}
+use mathlib.Core.Path.{_≡_, ap, _∙_}
+use native.Mathlib.Omega.{arith}
+use denote.Ref.{now}
+use borrow.Author.Needs.{needs}
+use Rattle.paper.proofs.ListLaws.{kept-of}
+use Rattle.extending.specs.Extending.{listed, signalKey, signalKeys}
+use Rattle.extending.proofs.Laws.{Rising, Between, all-between, none-between, low-raised, high-lowered, signals-rise}
+use Rattle.extending.proofs.first_signal.Statement.{statement}
+use Rattle.extending.proofs.first_signal.Tie as tie
+
+abbrev Inv-loop : tie.InvT-loop
+Inv-loop list n key low₀ high₀ low high = Between (signalKeys (listed list n)) (n .signals) key low high
+
+abbrev μ-loop : tie.MeasureT-loop
+μ-loop list n key low₀ high₀ low high = high - low
+
+rise : (c : tie.Start Inv-loop μ-loop) → Rising (signalKeys (listed (now (c .args .list)) (c .args .n))) (c .args .n .signals)
+rise c = signals-rise _ (kept-of _ _ (c .pre))
+
+middle : (c : tie.After-signal-key Inv-loop μ-loop) →
+    let l = c .before .before .before in
+    let a = l .before .before .args in
+    c .signal-key .result ≡ signalKeys (listed (now (a .list)) (a .n)) (l .loop .low + (l .loop .high - l .loop .low) / 2)
+middle c = c .signal-key .ensures ∙ ap signalKey (c .before .signal-in .ensures .is)
+
+loop-again : tie.Need-loop-again Inv-loop μ-loop
+loop-again c =
+    let l = c .before .before .before .before in
+    low-raised _ _ _ (rise (l .before .before)) _ _ _ (l .loop .inv) (omega arith) (omega (arith, middle (c .before)))
+
+loop-again-2 : tie.Need-loop-again-2 Inv-loop μ-loop
+loop-again-2 c =
+    let l = c .before .before .before .before in
+    high-lowered _ _ _ (rise (l .before .before)) _ _ _ (l .loop .inv) (omega arith) (omega arith) (omega (arith, middle (c .before)))
+
+pub first-signal-spec : {M : Type 1} → statement M
+first-signal-spec =
+    tie.close
+    (tie.spec
+    Inv-loop
+    μ-loop
+    (λ c. all-between _ _ _)
+    (λ c. search needs)
+    (λ c. search needs)
+    (λ c κs. search needs)
+    (λ c κs. search needs)
+    (λ c. search needs)
+    (λ c. search needs)
+    loop-again
+    (λ c. search needs)
+    loop-again-2
+    (λ c. none-between _ _ _ _ _ (c .before .loop .inv) (c .loop-test .left)))

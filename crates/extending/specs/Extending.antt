@@ -1,0 +1,63 @@
+-- The paper's answer for each case of the code's, and what the parts of the comparison answer.
+use Prim.Native.Nat.{ℕ, _+_, _*_}
+use mathlib.Core.Bool.{Bool, true, false, not, _&&_, _||_}
+use mathlib.Core.List.{List}
+use lib.Dec.{ltb, eqb}
+use Rattle.paper.specs.First.{firstBad, all}
+use Rattle.paper.specs.SignalList.{Signal, Code, SignalList, judge, listOf}
+use Rattle.paper.specs.Extends.{Extending, extending, firstRefused, secondRefused, extendingBy, same, inRange, extends}
+use Rattle.refusals.specs.Refusal.{numberOf, carriedOf}
+use Rattle.lists.specs.declared.Counts.{Counts}
+use Rattle.lists.specs.Judged.{countsOf}
+use Rattle.extending.specs.declared.ExtendsOutcome.{ExtendsOutcome}
+use Rattle.extending.specs.declared.ExtendsOutcome.the-variants.{Yes, No, FirstRefused, SecondRefused}
+
+abbrev pub extendsAnswer : ExtendsOutcome → Extending
+extendsAnswer Yes = extending true
+extendsAnswer No = extending false
+extendsAnswer (FirstRefused f) = firstRefused (numberOf f) (carriedOf f)
+extendsAnswer (SecondRefused f) = secondRefused (numberOf f) (carriedOf f)
+
+-- what is answered once the first list is accepted
+abbrev pub extendsUnder : SignalList → List ℕ → Extending
+extendsUnder a ys = extendingBy (judge ys) secondRefused (λ n. extending (extends a (listOf ys n)))
+
+-- the list with the counts that it was accepted with
+abbrev pub listed : List ℕ → Counts → SignalList
+listed xs n = listOf xs (countsOf n)
+
+-- what the signals of an accepted list rise by, and the code entries
+abbrev pub signalKey : Signal → ℕ
+signalKey s = s .type * 65536 + s .start
+
+abbrev pub codeKey : Code → ℕ
+codeKey c = c .signal * 65536 + c .high
+
+abbrev pub signalKeys : SignalList → ℕ → ℕ
+signalKeys l k = signalKey (l .signal k)
+
+abbrev pub codeKeys : SignalList → ℕ → ℕ
+codeKeys l e = codeKey (l .code e)
+
+-- the first of n numbers that is not below the key; n if all are
+unfoldable pub notBelow : (ℕ → ℕ) → ℕ → ℕ → ℕ
+notBelow f n key = firstBad (λ k. ltb (f k) key) n
+
+-- where a signal stands in a list, by type and start; the number of the list's signals if it doesn't
+unfoldable pub indexOf : SignalList → Signal → ℕ
+indexOf l s = firstBad (λ k. not (same s (l .signal k))) (l .signals)
+
+-- every code from low to high is in a range of signal k
+unfoldable pub rangeKept : SignalList → ℕ → ℕ → ℕ → Bool
+rangeKept l k low high = all (λ c. ltb c low || inRange (l .codes) (l .code) k c) (high + 1)
+
+-- an entry of A for its signal i: each of its codes is in a range of B's signal j
+abbrev pub entryKept : SignalList → SignalList → ℕ → ℕ → ℕ → Bool
+entryKept a b i j e = not (eqb (a .code e .signal) i) || rangeKept b j (a .code e .low) (a .code e .high)
+
+unfoldable pub rangesKept : SignalList → SignalList → ℕ → ℕ → Bool
+rangesKept a b i j = all (entryKept a b i j) (a .codes)
+
+-- signals, with the places of their checks, that are equal in all that must not change
+abbrev pub agreed : Signal → ℕ → Signal → ℕ → Bool
+agreed s p t q = same s t && eqb (s .width) (t .width) && eqb p q && eqb (s .since) (t .since)

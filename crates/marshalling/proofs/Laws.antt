@@ -1,0 +1,79 @@
+-- The parts of marshalling are the paper's, and how its answer is put together. Assumes nothing.
+use Prim.Native.Nat.{ℕ, _+_, _*_, _/_, _≤_}
+use mathlib.Core.Path.{_≡_, refl, sym, ap, _∙_}
+use mathlib.Core.Bool.{Bool, true, false, cond}
+use mathlib.Core.List.{List}
+use native.Mathlib.Numerals.{add-one}
+use native.Mathlib.Omega.{arith}
+use native.Mathlib.Decide.{decLt}
+use lib.Dec.{ltb}
+use borrow.Author.Tests.{lt-ltb, le-ltb}
+use Rattle.paper.specs.Octets.{put, puts}
+use Rattle.paper.specs.Answer.{Answer, gives, andThen}
+use Rattle.paper.specs.First.{count}
+use Rattle.paper.specs.SignalList.{SignalList, judge, listOf}
+use Rattle.paper.specs.Marshalling as paper
+use Rattle.refusals.specs.declared.Refusal.{Refusal}
+use Rattle.refusals.specs.Refusal.{refusalOf}
+use Rattle.refusals.proofs.Laws.{one-refusal}
+use Rattle.marshalling.specs.declared.Marshalled.{Marshalled}
+use Rattle.marshalling.specs.declared.Marshalled.the-variants.{Live, Refused}
+use Rattle.marshalling.specs.Marshalling.{liveAnswer, Delivered, marshallingUnder, RoutesWritten}
+
+-- ---- the routes
+
+-- so many octets are too few for a field's end, in bits or rounded up to octets
+pub too-few : (octets end : ℕ) → ltb octets ((end + 7) / 8) ≡ ltb (8 * octets) end
+too-few octets end =
+    elim (decLt octets ((end + 7) / 8)) [
+      | yes h ↦ lt-ltb _ _ h ∙ sym (lt-ltb (8 * octets) end (omega arith))
+      | no h ↦ le-ltb octets ((end + 7) / 8) (omega arith) ∙ sym (le-ltb (8 * octets) end (omega arith))
+    ]
+
+pub one-more : (b : Bool) → cond b 1 0 ≤ 1
+one-more true = omega arith
+one-more false = omega arith
+
+module _ (l : SignalList) (store : List ℕ) (now : ℕ) (old : List ℕ) where
+  pub none-yet : RoutesWritten l store now old 0 0 old
+  unfolding paper.marshalled puts count
+  none-yet = record { lives = refl; octets = refl }
+
+  -- one route more
+  pub lives-more : (r m : ℕ) → m ≡ count (paper.live l store now) r → m + cond (paper.live l store now r) 1 0 ≡ count (paper.live l store now) (r + 1)
+  unfolding count
+  lives-more r m e = rw (add-one, e)
+
+  pub octets-more : (r : ℕ) (new : List ℕ) → new ≡ paper.marshalled l store now old r
+      → put new (l .route r .start) (l .signal (l .route r .signal) .width) (paper.routed l store now r .value) ≡ paper.marshalled l store now old (r + 1)
+  unfolding paper.marshalled puts
+  octets-more r new e = rw (add-one, e)
+
+-- ---- the answer
+
+pub delivered-refused : (f : Refusal) (a : Answer paper.Marshalled) (old : List ℕ) → refusalOf f ≡ a → Delivered a old (Refused f) old
+delivered-refused f a old e = record { lives = rw (← e); octets = rw (← e) }
+
+pub delivered-live : (m : paper.Marshalled) (a : Answer paper.Marshalled) (old : List ℕ) (k : ℕ) (new : List ℕ) → k ≡ m .lives → new ≡ m .octets → gives m ≡ a
+    → Delivered a old (Live k) new
+delivered-live m a old k new p q e = record { lives = rw (← e) (ap gives p); octets = rw (← e) q }
+
+pub under : (xs store : List ℕ) (now : ℕ) (bus : List ℕ)
+    → paper.marshalling xs store now bus ≡ andThen (judge xs) (λ n. marshallingUnder (listOf xs n) store now bus)
+unfolding paper.marshalling marshallingUnder
+under xs store now bus = refl
+
+pub delivered-on : {A : Type 0} (r : A) (a : Answer A) (k : A → Answer paper.Marshalled) (old : List ℕ) (o : Marshalled) (new : List ℕ)
+    → gives r ≡ a → Delivered (k r) old o new → Delivered (andThen a k) old o new
+delivered-on r a k old o new e w = rw (← e) w
+
+-- ---- the contract settles the answer
+
+pub one-answer : (a : Answer ℕ) (v w : Marshalled) → liveAnswer v ≡ a → liveAnswer w ≡ a → v ≡ w
+one-answer a (Live m) (Live n) p q = ap Live (cc)
+one-answer a (Live m) (Refused g) p q = let z : _≡_ {A = ℕ} 0 1 = cc in absurd (omega arith)
+one-answer a (Refused f) (Live n) p q = let z : _≡_ {A = ℕ} 0 1 = cc in absurd (omega arith)
+one-answer a (Refused f) (Refused g) p q = ap Refused (one-refusal f g (cc) (cc))
+
+pub one-delivered : (a : Answer paper.Marshalled) (old : List ℕ) (r s : Marshalled) (new other : List ℕ) → Delivered a old r new → Delivered a old s other → (r ≡ s) × (new ≡ other)
+one-delivered a old r s new other t u = (one-answer _ r s (t .lives) (u .lives), t .octets ∙ sym (u .octets))

@@ -1,0 +1,126 @@
+-- DEMANDS 2 and 3 of the calls themselves: what `compose` wrote, `take` took and `read` answers, by nothing but what the three calls ensure. Assumes nothing.
+use Prim.Native.Nat.{ℕ, _<_}
+use mathlib.Core.Path.{_≡_, refl, sym, ap, ap₂, subst, _∙_}
+use mathlib.Core.Logic.{_⊎_, inl, inr}
+use mathlib.Core.Bool.{true, false, cond}
+use mathlib.Core.List.{List, [], _∷_}
+use native.Mathlib.Omega.{arith}
+use lib.ListN.{length, getD}
+use lib.Dec.{eqb}
+use Rattle.paper.specs.Answer.{Answer, gives, refused}
+use Rattle.paper.specs.Telegrams.{carries, ok, forced}
+use Rattle.paper.specs.SignalList.{Counts, judge, listOf}
+use Rattle.paper.specs.Extends.{same}
+use Rattle.paper.specs.Store.{taking, taken, turn, age, inTime}
+use Rattle.paper.specs.Reading.{reading}
+use Rattle.paper.specs.Composing.{composing}
+use Rattle.paper.specs.Demands.{Step, offer, run, NoneLater, Standing, givenMark, delivered, withheld}
+use Rattle.paper.proofs.StoreLaws.{takes}
+use Rattle.paper.proofs.ExtendsLaws.{Related}
+use Rattle.paper.proofs.Demands as paper
+use Rattle.refusals.specs.declared.Refusal.{Refusal}
+use Rattle.refusals.specs.declared.Outcome.{Outcome}
+use Rattle.refusals.specs.declared.Outcome.the-variants as O
+use Rattle.refusals.specs.Refusal.{numberOf, carriedOf}
+use Rattle.refusals.specs.Outcome.{Written}
+use Rattle.gateway.specs.declared.ReadOutcome.{ReadOutcome}
+use Rattle.gateway.specs.Reading.{readAnswer}
+
+-- later calls of `take`, from one store to another: each is for another vehicle, or is refused
+pub data Later (v : ℕ) : List ℕ → List ℕ → Type 0 where
+  none : {store : List ℕ} → Later v store store
+  another : {store next last : List ℕ} (w now : ℕ) (telegram : List ℕ) (r : Outcome) → (w ≡ v → ⊥)
+      → Written (taking store w now telegram) store r next → Later v next last → Later v store last
+  rejected : {store next last : List ℕ} (w now : ℕ) (telegram : List ℕ) (f : Refusal)
+      → Written (taking store w now telegram) store (O.Refused f) next → Later v next last → Later v store last
+
+-- The calls, each by what its contract ensures, at any octets that meet it.
+pub record Calls (xs : List ℕ) (type : ℕ) (values marks : List ℕ) (v stamp : ℕ) (ys : List ℕ) (now k : ℕ) (r : ReadOutcome) : Type 0 where
+  -- `compose` under the list xs is done: `out` then holds `telegram`
+  pub out : List ℕ
+  pub telegram : List ℕ
+  pub composed : Written (composing xs type values marks (length out)) out O.Done telegram
+  -- `take` of that telegram for vehicle v is done at the clock value `stamp`, a u32
+  pub before : List ℕ
+  pub after : List ℕ
+  pub clock : stamp < turn
+  pub took : Written (taking before v stamp telegram) before O.Done after
+  -- no later call of `take` takes a telegram of that vehicle
+  pub store : List ℕ
+  pub later : Later v after store
+  -- `read` of signal k under the list ys answers r at the clock value `now`
+  pub read : readAnswer r ≡ reading ys store now v k
+
+-- ---- what a call that writes tells of the paper's answer
+
+given : (a : Answer (List ℕ)) (old new : List ℕ) → Written a old O.Done new → a ≡ gives new
+given (gives x) old new w = ap gives (sym (w .octets))
+given (refused n at) old new w = let e = w .outcome in let z : _≡_ {A = ℕ} 0 1 = cc in absurd (omega arith)
+
+not-given : (a : Answer (List ℕ)) (old : List ℕ) (f : Refusal) (new : List ℕ) → Written a old (O.Refused f) new → a ≡ refused (numberOf f) (carriedOf f)
+not-given (gives x) old f new w = let e = w .outcome in let z : _≡_ {A = ℕ} 0 1 = cc in absurd (omega arith)
+not-given (refused n at) old f new w = let e = w .outcome in ap₂ refused (cc) (cc)
+
+-- ---- the calls are the paper's steps
+
+abbrev Steps : ℕ → List ℕ → List ℕ → Type 0
+Steps v last store = (ss : List Step) × ((NoneLater v store ss) × (run store ss ≡ last))
+
+steps : {v : ℕ} {store last : List ℕ} → Later v store last → Steps v last store
+unfolding NoneLater run
+steps none = ([], (tt, refl))
+steps {v} (another {last = last} w now telegram r other t rest) =
+    let q = subst (Steps v last) (t .octets) (steps rest) in
+    (offer w now telegram ∷ q .0, ((inl other, q .1 .0), q .1 .1))
+steps {v} (rejected {store = store} {last = last} w now telegram f t rest) =
+    let q = subst (Steps v last) (t .octets) (steps rest) in
+    (offer w now telegram ∷ q .0, ((inr (numberOf f, (carriedOf f, not-given _ store f _ t)), q .1 .0), q .1 .1))
+
+module _ (xs : List ℕ) (type : ℕ) (values marks : List ℕ) (v stamp : ℕ) (ys : List ℕ) (now k : ℕ) (r : ReadOutcome) (c : Calls xs type values marks v stamp ys now k r) where
+  sent : composing xs type values marks (length (c .out)) ≡ gives (c .telegram)
+  sent = given _ (c .out) (c .telegram) (c .composed)
+
+  standing : (limit : ℕ) → inTime (age now stamp) limit ≡ true → Standing v stamp now limit (c .telegram) (c .store)
+  standing limit within =
+      let e = given _ (c .before) (c .after) (c .took) in
+      let t : taken (c .before) v stamp (c .telegram) ≡ c .after = takes (c .before) v stamp (c .telegram) (c .after) e .1 in
+      let q = subst (Steps v (c .store)) (sym t) (steps (c .later)) in
+      record {
+        before = c .before;
+        steps = q .0;
+        clock = c .clock;
+        took = e ∙ ap gives (sym t);
+        later = q .1 .0;
+        reached = q .1 .1;
+        within = within;
+      }
+
+  -- DEMAND 3: a signal that both lists have and the type carries
+  pub both-have : (m n : Counts) → judge xs ≡ gives m → judge ys ≡ gives n → Related (listOf xs m) (listOf ys n)
+      → (i : ℕ) → i < m .signals → k < n .signals → same (listOf xs m .signal i) (listOf ys n .signal k) ≡ true → carries type (listOf ys n .signal k .type) ≡ true
+      → inTime (age now stamp) (listOf ys n .signal k .limit) ≡ true
+      → readAnswer r ≡ gives (delivered (listOf ys n) k (givenMark marks (listOf xs m .signal i)) (getD values i 0))
+  both-have m n writer reader related i hi hk one carried within =
+      c .read
+      ∙ paper.both-have xs type values marks (length (c .out)) (c .telegram) sent m writer ys n reader v stamp now k (c .store) hk (standing _ within) related i hi one carried
+
+  -- DEMAND 3: a signal that only the reader's list has, or that the type doesn't carry
+  pub only-reader : (m n : Counts) → judge xs ≡ gives m → judge ys ≡ gives n → Related (listOf xs m) (listOf ys n) → k < n .signals
+      → (carries type (listOf ys n .signal k .type) ≡ false) ⊎ ((i : ℕ) → i < m .signals → same (listOf xs m .signal i) (listOf ys n .signal k) ≡ true → ⊥)
+      → inTime (age now stamp) (listOf ys n .signal k .limit) ≡ true
+      → readAnswer r ≡ gives (withheld (listOf ys n) type k)
+  only-reader m n writer reader related hk d within =
+      c .read
+      ∙ paper.only-reader xs type values marks (length (c .out)) (c .telegram) sent m writer ys n reader v stamp now k (c .store) hk (standing _ within) related d
+
+-- DEMAND 2, reading back under the list that it was composed with: a signal that the type carries, with a mark ok or forced, or no check,
+-- reads back within its time limit as given
+pub read-back : (xs : List ℕ) (type : ℕ) (values marks : List ℕ) (v stamp now k : ℕ) (r : ReadOutcome) → Calls xs type values marks v stamp xs now k r
+    → (m : Counts) → judge xs ≡ gives m → k < m .signals → carries type (listOf xs m .signal k .type) ≡ true
+    → (givenMark marks (listOf xs m .signal k) ≡ ok) ⊎ (givenMark marks (listOf xs m .signal k) ≡ forced)
+    → inTime (age now stamp) (listOf xs m .signal k .limit) ≡ true
+    → readAnswer r ≡ gives (record { value = getD values k 0; reason = cond (eqb (givenMark marks (listOf xs m .signal k)) forced) 1 0 })
+read-back xs type values marks v stamp now k r c m e hk carried mark within =
+    c .read
+    ∙ paper.read-back xs type values marks (length (c .out)) (c .telegram) (sent xs type values marks v stamp xs now k r c) m e v stamp now k (c .store) hk carried mark
+    (standing xs type values marks v stamp xs now k r c _ within)

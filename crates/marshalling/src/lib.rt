@@ -1,0 +1,120 @@
+// Marshalling routed signals into vehicle bus data. Every test comes before the first write.
+ghost use mathlib.Core.Path.{_≡_};
+ghost use mathlib.Core.Bool.{cond};
+ghost use Prim.Native.Nat.{_<_};
+ghost use lib.ListN.{length};
+ghost use lib.Dec.{leb};
+ghost use Rattle.paper.specs.First.{some};
+ghost use Rattle.paper.specs.SignalList.{routesPart, listOf};
+ghost use Rattle.paper.specs.Marshalling.{marshalling};
+ghost use Rattle.paper.proofs.ListLaws.{Laid};
+ghost use Rattle.entries.specs.Entries.{RouteRead, OctetRead};
+ghost use Rattle.lists.specs.Judged.{countsOf};
+ghost use Rattle.marshalling.specs.Marshalling.{isShort, Served, RouteWritten, RoutesWritten, Delivered, marshallingUnder};
+use entries::Route;
+use lists::Counts;
+use lists::Judged;
+use refusals::Refusal;
+
+pub enum Marshalled {
+    // How many routes had reason 0 or 1.
+    Live(usize),
+    Refused(Refusal),
+}
+
+// Route r of the list.
+fn route(list: &[u8], n: Counts, r: usize) -> Route
+    requires { ⌜ (Laid (now list) (countsOf n)) × (r < n .routes) ⌝ }
+    ensures { λ t. ⌜ RouteRead (routesPart (now (list .entry)) (countsOf n)) r t ⌝ }
+{
+    entries::route_at(lists::rest(gateway::codes_part(list, n), 6, n.codes), r)
+}
+
+// The width of signal k, which a route to it has too.
+fn width(list: &[u8], n: Counts, k: usize) -> usize
+    requires { ⌜ (Laid (now list) (countsOf n)) × (k < 65536) ⌝ }
+    ensures { λ w. ⌜ OctetRead (listOf (now (list .entry)) (countsOf n) .signal k .width) w ⌝ }
+{
+    entries::width_at(gateway::signals_part(list, n), k)
+}
+
+// Whether the field of route r ends past so many octets. Rounded up to octets, since 8 times a length may not fit.
+fn is_short(list: &[u8], n: Counts, octets: usize, r: usize) -> bool
+    requires { ⌜ (Laid (now list) (countsOf n)) × (r < n .routes) ⌝ }
+    ensures { λ b. ⌜ b ≡ isShort (listOf (now (list .entry)) (countsOf n)) octets r ⌝ }
+{
+    let t = route(list, n, r);
+    octets < (t.start + width(list, n, t.signal) + 7) / 8
+}
+
+// Asked of every route before anything is written.
+fn some_short(list: &[u8], n: Counts, octets: usize) -> bool
+    requires { ⌜ Laid (now list) (countsOf n) ⌝ }
+    ensures { λ b. ⌜ b ≡ some (isShort (listOf (now (list .entry)) (countsOf n)) octets) (n .routes) ⌝ }
+{
+    let mut i = 0;
+    while i < n.routes {
+        if is_short(list, n, octets, i) {
+            return true;
+        }
+        i += 1;
+    }
+    false
+}
+
+// What a reading adds to the number of live routes.
+fn live(reason: u8) -> usize
+    ensures { λ m. ⌜ m ≡ cond (leb reason 1) 1 0 ⌝ }
+{
+    if reason <= 1 { 1 } else { 0 }
+}
+
+// Writes what route r reads into its field.
+fn write_route(list: &[u8], n: Counts, store: &[u8], clock: u32, bus: &mut [u8], r: usize) -> usize
+    requires { ⌜ (Served (now list) (countsOf n) (now store) (length (now bus))) × (r < n .routes) ⌝ }
+    ensures { λ m. ⌜ RouteWritten (listOf (now (list .entry)) (countsOf n)) (now (store .entry)) clock (now (bus .entry)) r m (now (bus .exit)) ⌝ }
+{
+    let t = route(list, n, r);
+    let reading = gateway::read_at(list, n, store, clock, t.vehicle, t.signal);
+    octets::write_field(bus, t.start, width(list, n, t.signal), reading.value);
+    live(reading.reason)
+}
+
+// Writes what every route reads, and counts the live ones.
+fn write_routes(list: &[u8], n: Counts, store: &[u8], clock: u32, bus: &mut [u8]) -> usize
+    requires { ⌜ Served (now list) (countsOf n) (now store) (length (now bus)) ⌝ }
+    ensures { λ m. ⌜ RoutesWritten (listOf (now (list .entry)) (countsOf n)) (now (store .entry)) clock (now (bus .entry)) (n .routes) m (now (bus .exit)) ⌝ }
+{
+    let mut lives = 0;
+    let mut r = 0;
+    while r < n.routes {
+        lives += write_route(list, n, store, clock, bus, r);
+        r += 1;
+    }
+    lives
+}
+
+// Marshalling under a list that was accepted with these counts.
+fn marshal_under(list: &[u8], n: Counts, store: &[u8], clock: u32, bus: &mut [u8]) -> Marshalled
+    requires { ⌜ Laid (now list) (countsOf n) ⌝ }
+    ensures { λ m. ⌜ Delivered (marshallingUnder (listOf (now (list .entry)) (countsOf n)) (now (store .entry)) clock (now (bus .entry))) (now (bus .entry)) m (now (bus .exit)) ⌝ }
+{
+    if !store::is_store(store) {
+        return Marshalled::Refused(Refusal::StoreLength);
+    }
+    if some_short(list, n, bus.len()) {
+        return Marshalled::Refused(Refusal::DataShort);
+    }
+    Marshalled::Live(write_routes(list, n, store, clock, bus))
+}
+
+// Writes each route's value at `clock` into its field of `bus`. Refused: 1 to 4, then 5 and 12, and `bus` stays as it was.
+pub fn marshal(list: &[u8], store: &[u8], clock: u32, bus: &mut [u8]) -> Marshalled
+    ensures { λ m. ⌜ Delivered (marshalling (now (list .entry)) (now (store .entry)) clock (now (bus .entry))) (now (bus .entry)) m (now (bus .exit)) ⌝ }
+{
+    let judged = lists::judge(list);
+    match judged {
+        Judged::Refused(f) => Marshalled::Refused(f),
+        Judged::Accepted(n) => marshal_under(list, n, store, clock, bus),
+    }
+}
