@@ -1,0 +1,286 @@
+//! Cases of every call.
+
+use crate::case::{Call, Case};
+use crate::damage::{any_list, mostly_good};
+use crate::list::List;
+use crate::random::Random;
+use crate::store::{self, STORE};
+use crate::{make, pair};
+
+/// The request codes of document 01.
+pub const REQUESTS: [u16; 25] = [
+    0x1007, 0x1012, 0x1013, 0x1015, 0x2001, 0x4002, 0x4007, 0x4009, 0x4011, 0x4013, 0x4015, 0x4020,
+    0x4047, 0x5003, 0x5007, 0x5009, 0x6002, 0x7001, 0x8002, 0x8003, 0x8007, 0x8008, 0x8009, 0x8010,
+    0x9001,
+];
+
+pub fn case(r: &Random) -> Case {
+    match r.below(100) {
+        0..=19 => Case::new(Call::Judge, vec![any_list(r)], vec![]),
+        20..=34 => {
+            let (a, b) = pair::pair(r);
+            Case::new(Call::Extends, vec![a, b], vec![])
+        }
+        35..=37 => check_place(r),
+        38..=45 => take(r),
+        46..=61 => read(r),
+        62..=70 => marshal(r),
+        71..=82 => compose(r),
+        83..=85 => show(r),
+        86..=91 => resolve(r),
+        92..=94 => e_read(r),
+        _ => e_answer(r),
+    }
+}
+
+fn check_place(r: &Random) -> Case {
+    let bit = r.below(640);
+    let bit = r.of(&[bit, bit, bit, r.beyond(bit), r.word()]);
+    Case::new(Call::CheckPlace, vec![], vec![bit])
+}
+
+fn vehicle(r: &Random) -> u64 {
+    match r.below(24) {
+        0 => r.of(&[0, 64, 65, 255, 256, u64::MAX]),
+        1 => r.beyond(1),
+        2 => r.of(&[1, 63]),
+        3 => r.within(1, 63),
+        _ => r.within(1, 3),
+    }
+}
+
+/// The length, or one near it.
+fn about(r: &Random, len: usize) -> usize {
+    match r.below(16) {
+        0 => len + 1,
+        1 => len.saturating_sub(1),
+        2 => r.of(&[0, 1, 2, 39, 40, 41, 127, 128, 129]),
+        _ => len,
+    }
+}
+
+fn resized(r: &Random, mut octets: Vec<u8>, len: usize) -> Vec<u8> {
+    let more = len.saturating_sub(octets.len());
+    octets.extend(r.octets(more));
+    octets.truncate(len);
+    octets
+}
+
+/// A store, at times of another length.
+fn any_store(r: &Random, store: Vec<u8>) -> Vec<u8> {
+    match r.below(24) {
+        0 => {
+            let len = r.of(&[STORE - 1, STORE + 1, STORE - 133, STORE + 133, 0]);
+            resized(r, store, len)
+        }
+        _ => store,
+    }
+}
+
+fn take(r: &Random) -> Case {
+    let list = make::list(r);
+    let now = store::clock(r);
+    let kind = r.within(1, 3);
+    let mut telegram = store::telegram(r, &list, kind);
+    if r.one_in(6) {
+        telegram[0] = r.octet();
+    }
+    let len = about(r, telegram.len());
+    let telegram = resized(r, telegram, len);
+    let store = store::store(r, &list, now);
+    let store = any_store(r, store);
+    let numbers = vec![vehicle(r), store::clock(r).into()];
+    Case::new(Call::Take, vec![store, telegram], numbers)
+}
+
+fn read(r: &Random) -> Case {
+    let list = make::list_with_signals(r);
+    let now = store::clock(r);
+    let store = store::store(r, &list, now);
+    let signals = list.signals.len() as u64;
+    let signal = match r.below(24) {
+        0 => r.of(&[signals, signals + 1, 256, u64::MAX]),
+        1 => r.beyond(0),
+        _ => r.below(signals.max(1)),
+    };
+    let areas = vec![mostly_good(r, &list), any_store(r, store)];
+    Case::new(Call::Read, areas, vec![now.into(), vehicle(r), signal])
+}
+
+fn marshal(r: &Random) -> Case {
+    let list = make::list_with_routes(r);
+    let now = store::clock(r);
+    let store = store::store(r, &list, now);
+    let end = list.routes.last().map_or(0, |route| {
+        route.start + list.signals[route.signal as usize].width
+    });
+    let end = end.div_ceil(8) as usize;
+    let len = r.of(&[
+        end,
+        end,
+        end,
+        end + 1,
+        end.saturating_sub(1),
+        256,
+        end + 40,
+        0,
+    ]);
+    let data = match r.below(3) {
+        0 => vec![0; len],
+        1 => vec![0xFF; len],
+        _ => r.octets(len),
+    };
+    let areas = vec![mostly_good(r, &list), any_store(r, store), data];
+    Case::new(Call::Marshal, areas, vec![now.into()])
+}
+
+fn compose(r: &Random) -> Case {
+    let list = make::list_with_signals(r);
+    let kind = match r.below(12) {
+        0 => r.of(&[0, 4, 5, 255, u64::MAX]),
+        1 => r.beyond(1),
+        _ => r.within(1, 3),
+    };
+    let values = values(r, &list, kind);
+    let marks = marks(r, &list);
+    let out = about(r, if kind == 3 { 40 } else { 128 });
+    let out = r.octets(out);
+    Case {
+        values,
+        ..Case::new(
+            Call::Compose,
+            vec![mostly_good(r, &list), marks, out],
+            vec![kind],
+        )
+    }
+}
+
+/// One value for each signal, known where it is written; at times one that is not good, and anything where it is not written.
+fn values(r: &Random, list: &List, kind: u64) -> Vec<u64> {
+    let anything = r.one_in(2);
+    let mut values = Vec::new();
+    for (number, s) in list.signals.iter().enumerate() {
+        values.push(match s.carried_by(kind) {
+            false if anything => r.word(),
+            _ => match list.codes_of(number).next() {
+                Some(code) => r.of(&[code.low, code.high]),
+                None => r.of(&[0, s.top(), r.word() & s.top()]),
+            },
+        });
+    }
+    if !values.is_empty() && r.one_in(4) {
+        for _ in 0..r.within(1, 2) {
+            let at = r.index(values.len());
+            let top = list.signals[at].top();
+            values[at] = r.of(&[
+                top,
+                top + 1,
+                r.word() & top,
+                r.word(),
+                u64::MAX,
+                r.beyond(0),
+            ]);
+        }
+    }
+    let len = about(r, values.len()).min(values.len() + 1);
+    values.resize(len, 0);
+    values
+}
+
+fn marks(r: &Random, list: &List) -> Vec<u8> {
+    let mut marks: Vec<u8> = list.checks.iter().map(|_| r.below(4) as u8).collect();
+    if !marks.is_empty() && r.one_in(5) {
+        let at = r.index(marks.len());
+        marks[at] = r.of(&[4, 5, 128, 255, r.octet()]);
+    }
+    let len = about(r, marks.len()).min(marks.len() + 1);
+    marks.resize(len, 1);
+    marks
+}
+
+fn show(r: &Random) -> Case {
+    let kind = r.below(5);
+    let width = r.of(&[16, 16, 16, 16, r.below(21), 48, 64, r.beyond(16)]);
+    let raw = r.of(&[
+        r.below(65_536),
+        r.below(65_536),
+        65_535,
+        65_536,
+        r.word(),
+        r.beyond(1),
+    ]);
+    Case::new(Call::Show, vec![], vec![kind, width, raw])
+}
+
+/// A consist: one leading vehicle or none, led ones among the tractive; at times a rule is broken.
+fn consist(r: &Random, len: usize) -> Vec<u8> {
+    let sparse = r.one_in(3);
+    let mut marks: Vec<u8> = (0..len)
+        .map(|_| match sparse {
+            true => 2,
+            false => r.of(&[0, 2, 4, 12, 16, 18, 6, 14, 28]),
+        })
+        .collect();
+    if len > 0 && !r.one_in(4) {
+        let at = r.index(len);
+        marks[at] = r.of(&[1, 5, 7, 21]);
+    }
+    if len > 0 && r.one_in(6) {
+        let at = r.index(len);
+        marks[at] = r.of(&[1, 8, 9, 13, 24, r.octet()]);
+    }
+    if r.one_in(2) {
+        // The three high bits are not read.
+        marks.iter_mut().for_each(|mark| *mark |= r.octet() & 0xE0);
+    }
+    marks
+}
+
+fn resolve(r: &Random) -> Case {
+    let len = match r.below(8) {
+        0 => r.of(&[0, 1, 62, 63, 64, 65]),
+        1..=3 => r.below(66),
+        _ => r.within(1, 12),
+    };
+    let address = match r.below(8) {
+        0 => r.beyond(r.of(&[1, 64, 66])),
+        1..=2 => r.below(101),
+        3 => r.of(&[len, len + 1]),
+        _ => r.of(&[64, 65, 66, 67, 70, 92]),
+    };
+    Case::new(Call::Resolve, vec![consist(r, len as usize)], vec![address])
+}
+
+fn e_telegram(r: &Random) -> Vec<u8> {
+    let len = match r.below(12) {
+        0 => r.of(&[0, 1, 6, 7, 8]),
+        1 => r.of(&[1_022, 1_023, 1_024, 1_025, 1_100]),
+        2 => r.index(1_101),
+        _ => r.of(&[9, 9, 9, 10, 40]),
+    };
+    let request = r.of(&REQUESTS);
+    let code = match r.below(8) {
+        0 => r.word() as u16,
+        1 => r.near(request.into()) as u16,
+        2 => r.near(u64::from(request) + 0x0A00) as u16,
+        3 => request.wrapping_sub(0x0A00),
+        4 => request.wrapping_add(0x0A00),
+        _ => request,
+    };
+    let mut telegram = r.octets(len);
+    if let Some(octets) = telegram.get_mut(6..8) {
+        octets.copy_from_slice(&code.to_be_bytes());
+    }
+    telegram
+}
+
+fn e_read(r: &Random) -> Case {
+    Case::new(Call::ERead, vec![e_telegram(r)], vec![])
+}
+
+fn e_answer(r: &Random) -> Case {
+    let head = r.of(&[6, 6, 6, 6, 6, 6, 5, 7, 0]);
+    let out = r.of(&[9, 9, 9, 9, 10, 8, 0, 40, 1_024]);
+    let areas = vec![e_telegram(r), r.octets(head), r.octets(out)];
+    Case::new(Call::EAnswer, areas, vec![r.octet().into()])
+}

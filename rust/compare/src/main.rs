@@ -1,0 +1,131 @@
+//! Holds the proved library against the independent implementation: the same inputs go to both, and every answer and every lent octet
+//! must be the same afterwards.
+//!
+//!     compare [--guard] [CASES] [SEED]
+//!     compare [--guard] --case NUMBER [SEED]
+//!
+//! `--guard` places what the library is lent against pages that must not be touched. `--case` runs one case alone and prints it.
+//! Exits with 1 at the first difference, and also if there is an answer or a refusal that no case of the seed reached.
+
+mod case;
+mod damage;
+mod exact;
+mod fault;
+mod generate;
+mod guard;
+mod list;
+mod make;
+mod memory;
+mod pair;
+mod random;
+mod reached;
+mod run;
+mod shrink;
+mod sides;
+mod store;
+mod sweep;
+
+use std::env;
+use std::process::ExitCode;
+
+use memory::Memory;
+use random::Random;
+use reached::Reached;
+use run::Run;
+
+const CASES: u64 = 200_000;
+const SEED: u64 = 1;
+
+struct Arguments {
+    guard: bool,
+    only: Option<u64>,
+    cases: u64,
+    seed: u64,
+}
+
+fn arguments() -> Option<Arguments> {
+    let mut words: Vec<String> = env::args().skip(1).collect();
+    let mut flag = |name: &str| {
+        let at = words.iter().position(|word| word == name);
+        at.map(|at| words.remove(at)).is_some()
+    };
+    let (guard, only) = (flag("--guard"), flag("--case"));
+    let numbers: Option<Vec<u64>> = words.iter().map(|word| word.parse().ok()).collect();
+    let (first, seed) = match numbers?[..] {
+        [] if !only => (CASES, SEED),
+        [first] => (first, SEED),
+        [first, seed] => (first, seed),
+        _ => return None,
+    };
+    Some(Arguments {
+        guard,
+        only: only.then_some(first),
+        cases: first,
+        seed,
+    })
+}
+
+/// All cases; gives whether all is well.
+fn compare(cases: u64, seed: u64, memory: Memory) -> bool {
+    let mut run = Run::new(memory);
+    let mut all_well = true;
+    sweep::each(|case| {
+        let name = format!("case {} of the sweeps", run.tried);
+        all_well = all_well && run.compare(&name, &case, None);
+    });
+    if !all_well {
+        return false;
+    }
+    let swept = run.tried;
+    let mut reached = Reached::new();
+    for number in 0..cases {
+        let case = generate::case(&Random::of_case(seed, number));
+        let name = format!("case {number} of seed {seed}");
+        if !run.compare(&name, &case, Some(&mut reached)) {
+            return false;
+        }
+    }
+    let exact = match exact::all_shown() {
+        Ok(exact) => exact,
+        Err(why) => {
+            println!("NOT EXACT: {why}");
+            return false;
+        }
+    };
+    print!("{reached}");
+    let faults = reached.faults();
+    if !faults.is_empty() {
+        println!("{}", faults.join("\n"));
+        return false;
+    }
+    println!(
+        "{cases} cases of seed {seed} and {swept} of the sweeps: no difference; \
+         {} kinds of answer, all reached; {exact} shown values exact; {} s",
+        reached.rows(),
+        run.started.elapsed().as_secs()
+    );
+    true
+}
+
+fn main() -> ExitCode {
+    let Some(arguments) = arguments() else {
+        eprintln!("usage: compare [--guard] [CASES] [SEED]");
+        eprintln!("       compare [--guard] --case NUMBER [SEED]");
+        return ExitCode::from(2);
+    };
+    fault::watch();
+    let mut memory = match arguments.guard {
+        true => Memory::guarded(),
+        false => Memory::Heap,
+    };
+    if let Some(number) = arguments.only {
+        fault::note("this case");
+        let case = generate::case(&Random::of_case(arguments.seed, number));
+        run::print(&case, &mut memory);
+        return ExitCode::SUCCESS;
+    }
+    match compare(arguments.cases, arguments.seed, memory) {
+        true => ExitCode::SUCCESS,
+        false => ExitCode::FAILURE,
+    }
+}

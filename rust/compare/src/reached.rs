@@ -1,0 +1,197 @@
+//! What the cases reached. A call that was never refused for a reason, or never answered in a way, was not compared there.
+
+use std::collections::{BTreeMap, BTreeSet};
+use std::fmt;
+
+use crate::case::{Answer, Call, Case};
+use crate::list::{LONGEST, MOST};
+
+/// What an answer shows, with a number where there are several.
+type Row = (&'static str, u64);
+
+pub struct Reached {
+    wanted: BTreeMap<(Call, Row), u64>,
+    /// Refusals that a call cannot give, though both implementations gave them.
+    strange: BTreeSet<(Call, Row)>,
+}
+
+/// All that each call can give.
+fn wanted(call: Call) -> Vec<Row> {
+    let each = |what, numbers: &[u64]| numbers.iter().map(|&n| (what, n)).collect::<Vec<Row>>();
+    let refusals = |numbers: &[u64]| each("refusal", numbers);
+    let rows = match call {
+        Call::Judge => [
+            vec![("ok", 0), ("longest", 0)],
+            vec![
+                ("checks", 64),
+                ("signals", 256),
+                ("codes", 512),
+                ("routes", 512),
+            ],
+            refusals(&[1, 2, 3, 4]),
+        ],
+        Call::Extends => [
+            vec![("yes", 0), ("no", 0)],
+            each("first refused", &[1, 2, 3, 4]),
+            each("second refused", &[1, 2, 3, 4]),
+        ],
+        Call::CheckPlace => [
+            (320..=352)
+                .step_by(2)
+                .map(|place| ("place", place))
+                .collect(),
+            refusals(&[27]),
+            vec![],
+        ],
+        Call::Take => [
+            each("type", &[1, 2, 3]),
+            refusals(&[5, 6, 7, 8, 9, 10]),
+            vec![],
+        ],
+        Call::Read => [
+            each("reason", &[0, 1, 2, 3, 4, 5, 6, 7, 8]),
+            refusals(&[1, 2, 3, 4, 5, 6, 11]),
+            vec![],
+        ],
+        Call::Marshal => [
+            vec![
+                ("no route", 0),
+                ("none live", 0),
+                ("some live", 0),
+                ("all live", 0),
+            ],
+            refusals(&[1, 2, 3, 4, 5, 12]),
+            vec![],
+        ],
+        Call::Compose => [
+            each("type", &[1, 2, 3]),
+            refusals(&[1, 2, 3, 4, 9, 13, 14, 15, 16]),
+            vec![],
+        ],
+        Call::Show => [each("kind", &[0, 1, 2, 3, 4]), refusals(&[26]), vec![]],
+        Call::Resolve => [
+            each("address", &[1, 63, 64, 65, 66, 67, 70, 92]),
+            refusals(&[17, 18, 19, 20]),
+            vec![],
+        ],
+        Call::ERead => [
+            vec![("request", 0), ("report", 0)],
+            refusals(&[21, 22]),
+            vec![],
+        ],
+        Call::EAnswer => [vec![("ok", 0)], refusals(&[21, 22, 23, 24, 25]), vec![]],
+    };
+    rows.concat()
+}
+
+/// What one answer shows.
+fn rows(case: &Case, answer: &Answer) -> Vec<Row> {
+    let refusal = u64::from(answer.refusal);
+    let [first, second, ..] = answer.gives;
+    if refusal != 0 {
+        return match (case.call, second) {
+            (Call::Extends, 1) => vec![("first refused", refusal)],
+            (Call::Extends, _) => vec![("second refused", refusal)],
+            _ => vec![("refusal", refusal)],
+        };
+    }
+    match case.call {
+        Call::Judge => {
+            let mut rows = vec![("ok", 0)];
+            let names = ["checks", "signals", "codes", "routes"];
+            for ((name, most), count) in names.into_iter().zip(MOST).zip(answer.gives) {
+                if count == most as u64 {
+                    rows.push((name, count));
+                }
+            }
+            if case.areas[0].len() == LONGEST {
+                rows.push(("longest", 0));
+            }
+            rows
+        }
+        Call::Extends => vec![(["no", "yes"][first as usize], 0)],
+        Call::CheckPlace => vec![("place", first)],
+        Call::Take => vec![("type", (case.areas[1][0] & 15).into())],
+        Call::Read => vec![("reason", second)],
+        Call::Marshal => vec![(lives(&case.areas[0], first), 0)],
+        Call::Compose => vec![("type", case.numbers[0])],
+        Call::Show => vec![("kind", case.numbers[0])],
+        Call::Resolve => vec![("address", case.numbers[0])],
+        Call::ERead => vec![(["request", "report"][second as usize], 0)],
+        Call::EAnswer => vec![("ok", 0)],
+    }
+}
+
+/// How many of a good list's routes were live.
+fn lives(list: &[u8], lives: u64) -> &'static str {
+    let routes = reference::judge(list).map_or(0, |counts| counts.routes as u64);
+    match lives {
+        _ if routes == 0 => "no route",
+        0 => "none live",
+        _ if lives == routes => "all live",
+        _ => "some live",
+    }
+}
+
+impl Reached {
+    pub fn new() -> Self {
+        let rows = |call| wanted(call).into_iter().map(move |row| ((call, row), 0));
+        Reached {
+            wanted: Call::ALL.into_iter().flat_map(rows).collect(),
+            strange: BTreeSet::new(),
+        }
+    }
+
+    pub fn count(&mut self, case: &Case, answer: &Answer) {
+        for row in rows(case, answer) {
+            let row = (case.call, row);
+            match self.wanted.get_mut(&row) {
+                Some(count) => *count += 1,
+                None if answer.refusal != 0 => drop(self.strange.insert(row)),
+                None => {}
+            }
+        }
+    }
+
+    pub fn rows(&self) -> usize {
+        self.wanted.len()
+    }
+
+    /// What no case reached, and what none should have.
+    pub fn faults(&self) -> Vec<String> {
+        let said = |what: &str, (call, row): &(Call, Row)| {
+            format!("{what}: {} {}", call.form().name, named(*row))
+        };
+        let missing = self.wanted.iter().filter(|(_, &count)| count == 0);
+        missing
+            .map(|(row, _)| said("UNREACHED", row))
+            .chain(self.strange.iter().map(|row| said("STRANGE", row)))
+            .collect()
+    }
+}
+
+fn named((what, number): Row) -> String {
+    match number {
+        0 if !matches!(what, "reason" | "kind") => what.to_string(),
+        _ => format!("{what} {number}"),
+    }
+}
+
+impl fmt::Display for Reached {
+    fn fmt(&self, f: &mut fmt::Formatter) -> fmt::Result {
+        for call in Call::ALL {
+            write!(f, "{:12}", call.form().name)?;
+            let of = self.wanted.iter().filter(|((of, _), _)| *of == call);
+            for (i, ((_, row), count)) in of.enumerate() {
+                match i % 7 {
+                    0 if i > 0 => write!(f, "\n{:12}", "")?,
+                    0 => {}
+                    _ => write!(f, ", ")?,
+                }
+                write!(f, "{}: {count}", named(*row))?;
+            }
+            writeln!(f)?;
+        }
+        Ok(())
+    }
+}

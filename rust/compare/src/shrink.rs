@@ -1,0 +1,169 @@
+//! Makes a case that shows a difference smaller, for as long as it still shows one.
+
+use std::ops::Range;
+
+use crate::case::{Call, Case};
+use crate::list::List;
+
+/// How many cases are tried before the smallest so far has to do.
+const TRIES: usize = 30_000;
+
+/// One way to make a case smaller.
+enum Step {
+    /// A list loses an entry of a section.
+    Entry(usize, usize, usize),
+    /// A number, or a value, becomes another.
+    Number(usize, u64),
+    Value(usize, u64),
+    /// A run of octets of an area is left out, or set to 0.
+    Without(usize, Range<usize>),
+    Zeroed(usize, Range<usize>),
+    /// An octet loses a bit.
+    Cleared(usize, usize, u8),
+}
+
+pub fn shrunk(case: &Case, mut still_differs: impl FnMut(&Case) -> bool) -> Case {
+    let mut best = case.clone();
+    let mut tries = 0;
+    'again: loop {
+        for step in steps(&best) {
+            let smaller = taken(&best, &step);
+            if smaller.size() >= best.size() {
+                continue;
+            }
+            tries += 1;
+            if tries > TRIES {
+                return best;
+            }
+            if still_differs(&smaller) {
+                best = smaller;
+                continue 'again;
+            }
+        }
+        return best;
+    }
+}
+
+/// The boldest steps come first.
+fn steps(case: &Case) -> Vec<Step> {
+    let mut steps = Vec::new();
+    for i in 0..case.areas.len() {
+        let Some(list) = list_at(case, i).and_then(List::of) else {
+            continue;
+        };
+        let lens = [
+            list.checks.len(),
+            list.signals.len(),
+            list.codes.len(),
+            list.routes.len(),
+        ];
+        for (section, len) in lens.into_iter().enumerate().rev() {
+            steps.extend((0..len).rev().map(|at| Step::Entry(i, section, at)));
+        }
+    }
+    for (i, &n) in case.numbers.iter().enumerate() {
+        steps.extend([0, 1, n / 2, n.wrapping_sub(1)].map(|to| Step::Number(i, to)));
+    }
+    for (i, &n) in case.values.iter().enumerate() {
+        steps.extend([0, n / 2].map(|to| Step::Value(i, to)));
+    }
+    for (i, area) in case.areas.iter().enumerate() {
+        let mut len = area.len();
+        while len > 0 {
+            for first in (0..area.len()).step_by(len) {
+                let run = first..(first + len).min(area.len());
+                if area[run.clone()].iter().any(|&octet| octet != 0) {
+                    steps.push(Step::Zeroed(i, run.clone()));
+                }
+                // A store of another length is only refused.
+                if case.call.form().areas[i] != "store" {
+                    steps.push(Step::Without(i, run));
+                }
+            }
+            len /= 2;
+        }
+        for (at, octet) in area.iter().enumerate() {
+            let set = (0..8).map(|bit| 1 << bit).filter(|bit| octet & bit != 0);
+            steps.extend(set.map(|bit| Step::Cleared(i, at, bit)));
+        }
+    }
+    steps
+}
+
+/// An area, if it is a list.
+fn list_at(case: &Case, i: usize) -> Option<&[u8]> {
+    case.call.form().areas[i]
+        .starts_with("list")
+        .then_some(&case.areas[i])
+}
+
+fn taken(case: &Case, step: &Step) -> Case {
+    let mut case = case.clone();
+    match step {
+        &Step::Entry(i, section, at) => without_entry(&mut case, i, section, at),
+        &Step::Number(i, to) => case.numbers[i] = to,
+        &Step::Value(i, to) => case.values[i] = to,
+        Step::Without(i, run) => drop(case.areas[*i].drain(run.clone())),
+        Step::Zeroed(i, run) => case.areas[*i][run.clone()].fill(0),
+        &Step::Cleared(i, at, bit) => case.areas[i][at] &= !bit,
+    }
+    case
+}
+
+/// The list less one entry, with whatever named it; to be composed, its mark or value goes too.
+fn without_entry(case: &mut Case, i: usize, section: usize, at: usize) {
+    let Some(mut list) = List::of(&case.areas[i]) else {
+        return;
+    };
+    let composed = case.call == Call::Compose;
+    match section {
+        0 => {
+            list.remove_check(at);
+            if composed && at < case.areas[1].len() {
+                case.areas[1].remove(at);
+            }
+        }
+        1 => {
+            list.remove_signal(at);
+            if composed && at < case.values.len() {
+                case.values.remove(at);
+            }
+        }
+        2 => drop(list.codes.remove(at)),
+        _ => drop(list.routes.remove(at)),
+    }
+    case.areas[i] = list.octets();
+}
+
+#[cfg(test)]
+mod tests {
+    use super::*;
+    use crate::random::Random;
+    use crate::{generate, make};
+
+    #[test]
+    fn what_shows_the_difference_stays() {
+        // Shown by any octet 7, so that one octet must be left.
+        let sevens = |case: &Case| case.areas.iter().flatten().any(|&octet| octet == 7);
+        for number in 0..100 {
+            let case = generate::case(&Random::of_case(5, number));
+            if sevens(&case) && case.size() < 1_000 {
+                let small = shrunk(&case, sevens);
+                assert_eq!(small.areas.concat(), [7]);
+            }
+        }
+    }
+
+    #[test]
+    fn a_list_loses_its_entries() {
+        let signals = |case: &Case| reference::judge(&case.areas[0]).map_or(0, |n| n.signals);
+        for number in 0..20 {
+            let list = make::list(&Random::of_case(6, number)).octets();
+            let case = Case::new(Call::Judge, vec![list], vec![]);
+            if signals(&case) > 0 {
+                let small = shrunk(&case, |case| signals(case) > 0);
+                assert_eq!(small.areas[0].len(), 2 + 18 + 2 + 2);
+            }
+        }
+    }
+}

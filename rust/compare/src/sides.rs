@@ -1,0 +1,193 @@
+//! The implementations to be held against each other, each behind the same function.
+
+use crate::case::{Answer, Call};
+use dustferrule::raw;
+
+/// What a call is lent: its areas of octets, its values, its numbers.
+pub struct Lent<'a> {
+    pub areas: Vec<&'a mut [u8]>,
+    pub values: &'a [u64],
+    pub numbers: &'a [u64],
+}
+
+pub type Side = fn(Call, Lent) -> Answer;
+
+/// A form's parameters do not match what was lent: the generator is wrong, not a library.
+fn misfit(call: Call) -> ! {
+    panic!("{call:?}: areas or numbers do not fit")
+}
+
+/// `reference` and the wrappers of `dustferrule` have the same names and shapes: one text serves for both.
+macro_rules! side {
+    ($side:ident, $library:ident) => {
+        pub fn $side(call: Call, mut lent: Lent) -> Answer {
+            use $library::{Extends, Kind, Refusal, Shown};
+            let refused = |refusal: Refusal| Answer::refused(refusal.number, refusal.carried);
+            let done = |()| Answer::default();
+            let result = match (call, &mut lent.areas[..], lent.numbers) {
+                (Call::Judge, [list], []) => $library::judge(list).map(|n| {
+                    let counts = [n.checks, n.signals, n.codes, n.routes, n.version];
+                    Answer::gives(counts.map(|count| count as u64))
+                }),
+                (Call::Extends, [a, b], []) => {
+                    let which = |refusal: Refusal, which| Answer {
+                        gives: [0, which, 0, 0, 0],
+                        ..refused(refusal)
+                    };
+                    Ok(match $library::extends(a, b) {
+                        Extends::Yes => Answer::gives([1]),
+                        Extends::No => Answer::gives([0]),
+                        Extends::First(refusal) => which(refusal, 1),
+                        Extends::Second(refusal) => which(refusal, 2),
+                    })
+                }
+                (Call::CheckPlace, [], &[bit]) => {
+                    $library::check_place(bit).map(|place| Answer::gives([place]))
+                }
+                (Call::Take, [store, telegram], &[vehicle, clock]) => {
+                    $library::take(store, vehicle, clock as u32, telegram).map(done)
+                }
+                (Call::Read, [list, store], &[clock, vehicle, signal]) => {
+                    $library::read(list, store, clock as u32, vehicle, signal)
+                        .map(|r| Answer::gives([r.value, r.reason.into()]))
+                }
+                (Call::Marshal, [list, store, data], &[clock]) => {
+                    $library::marshal(list, store, clock as u32, data)
+                        .map(|lives| Answer::gives([lives]))
+                }
+                (Call::Compose, [list, marks, out], &[kind]) => {
+                    $library::compose(list, kind, lent.values, marks, out).map(done)
+                }
+                (Call::Show, [], &[kind, width, raw]) => {
+                    let kind = match kind {
+                        0 => Kind::Code,
+                        1 => Kind::Speed,
+                        2 => Kind::Percentage,
+                        3 => Kind::SignedPercentage,
+                        _ => Kind::Current,
+                    };
+                    $library::show(kind, width, raw).map(|shown| {
+                        Answer::gives(match shown {
+                            Shown::Code(code) => [0, code],
+                            Shown::Speed(x) => [1, x.to_bits().into()],
+                            Shown::Percentage(x) => [2, x.to_bits().into()],
+                            Shown::Current(x) => [3, x.to_bits().into()],
+                        })
+                    })
+                }
+                (Call::Resolve, [marks], &[address]) => $library::resolve(marks, address)
+                    .map(|members| Answer::gives([members.set, members.size.into()])),
+                (Call::ERead, [telegram], []) => $library::e_read(telegram)
+                    .map(|r| Answer::gives([r.code.into(), r.report.into(), r.status.into()])),
+                (Call::EAnswer, [telegram, head, out], &[status]) => {
+                    $library::e_answer(telegram, head, status as u8, out).map(done)
+                }
+                _ => misfit(call),
+            };
+            result.unwrap_or_else(refused)
+        }
+    };
+}
+
+side!(by_reference, reference);
+side!(by_wrappers, dustferrule);
+
+fn outcome(r: raw::df_outcome) -> Answer {
+    Answer::refused(r.refusal, r.carried)
+}
+
+/// The library as C calls it: every field of a result is kept, also those that an answer does not use.
+pub fn by_header(call: Call, mut lent: Lent) -> Answer {
+    let (refusal, carried, gives) = match (call, &mut lent.areas[..], lent.numbers) {
+        (Call::Judge, [list], []) => {
+            let r = unsafe { raw::df_judge(list.as_ptr(), list.len()) };
+            let counts = [r.checks, r.signals, r.codes, r.routes, r.version];
+            (r.refusal, r.carried, counts)
+        }
+        (Call::Extends, [a, b], []) => {
+            let r = unsafe { raw::df_extends(a.as_ptr(), a.len(), b.as_ptr(), b.len()) };
+            let gives = [r.extends.into(), r.which.into(), 0, 0, 0];
+            (r.refusal, r.carried, gives)
+        }
+        (Call::CheckPlace, [], &[bit]) => {
+            let r = unsafe { raw::df_check_place(bit) };
+            (r.refusal, 0, [r.place, 0, 0, 0, 0])
+        }
+        (Call::Take, [store, telegram], &[vehicle, clock]) => {
+            let (to, from) = (store.as_mut_ptr(), telegram.as_ptr());
+            return outcome(unsafe {
+                raw::df_take(to, store.len(), vehicle, clock as u32, from, telegram.len())
+            });
+        }
+        (Call::Read, [list, store], &[clock, vehicle, signal]) => {
+            let (list, len, from) = (list.as_ptr(), list.len(), store.as_ptr());
+            let r = unsafe {
+                raw::df_read(list, len, from, store.len(), clock as u32, vehicle, signal)
+            };
+            (r.refusal, r.carried, [r.value, r.reason.into(), 0, 0, 0])
+        }
+        (Call::Marshal, [list, store, data], &[clock]) => {
+            let (list, len, from) = (list.as_ptr(), list.len(), store.as_ptr());
+            let (to, to_len) = (data.as_mut_ptr(), data.len());
+            let r =
+                unsafe { raw::df_marshal(list, len, from, store.len(), clock as u32, to, to_len) };
+            (r.refusal, r.carried, [r.lives, 0, 0, 0, 0])
+        }
+        (Call::Compose, [list, marks, out], &[kind]) => {
+            let (list, len, to) = (list.as_ptr(), list.len(), out.as_mut_ptr());
+            let (values, number) = (lent.values.as_ptr(), lent.values.len());
+            let (marks, checks) = (marks.as_ptr(), marks.len());
+            return outcome(unsafe {
+                raw::df_compose(
+                    list,
+                    len,
+                    kind,
+                    values,
+                    number,
+                    marks,
+                    checks,
+                    to,
+                    out.len(),
+                )
+            });
+        }
+        (Call::Show, [], &[0, _, raw]) => {
+            return Answer::gives([0, unsafe { raw::df_show_code(raw) }]);
+        }
+        (Call::Show, [], &[kind, width, raw]) => {
+            let (r, tag) = unsafe {
+                match kind {
+                    1 => (raw::df_show_speed(width, raw), 1),
+                    2 => (raw::df_show_percentage(width, raw), 2),
+                    3 => (raw::df_show_signed_percentage(width, raw), 2),
+                    _ => (raw::df_show_current(width, raw), 3),
+                }
+            };
+            let tag = if r.refusal == 0 { tag } else { 0 };
+            (r.refusal, 0, [tag, r.value.to_bits().into(), 0, 0, 0])
+        }
+        (Call::Resolve, [marks], &[address]) => {
+            let r = unsafe { raw::df_resolve(marks.as_ptr(), marks.len(), address) };
+            (r.refusal, 0, [r.set, r.size.into(), 0, 0, 0])
+        }
+        (Call::ERead, [telegram], []) => {
+            let r = unsafe { raw::df_e_read(telegram.as_ptr(), telegram.len()) };
+            let gives = [r.code.into(), r.report.into(), r.status.into(), 0, 0];
+            (r.refusal, 0, gives)
+        }
+        (Call::EAnswer, [telegram, head, out], &[status]) => {
+            let (telegram, len) = (telegram.as_ptr(), telegram.len());
+            let (head, head_len) = (head.as_ptr(), head.len());
+            let (to, to_len) = (out.as_mut_ptr(), out.len());
+            return outcome(unsafe {
+                raw::df_e_answer(telegram, len, head, head_len, status as u8, to, to_len)
+            });
+        }
+        _ => misfit(call),
+    };
+    Answer {
+        refusal,
+        carried,
+        gives,
+    }
+}

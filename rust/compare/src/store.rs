@@ -1,0 +1,134 @@
+//! Clocks, telegrams and stores: stores that takes left, and stores that no taking could leave.
+
+use crate::list::{List, Signal};
+use crate::random::Random;
+use reference::write_field;
+
+pub const STORE: usize = 8379;
+const SLOT: usize = 133;
+
+/// A clock value: anywhere, or around the wrap.
+pub fn clock(r: &Random) -> u32 {
+    match r.below(4) {
+        0 => r.word() as u32,
+        1 => r.below(10_000) as u32,
+        2 => u32::MAX - r.below(10_000) as u32,
+        _ => r.of(&[0, 1, 5_000, 600_000, u32::MAX]),
+    }
+}
+
+/// An age around one of the list's limits, or any.
+fn age(r: &Random, list: &List) -> u32 {
+    let limit = match list.signals.len() {
+        0 => 5_000,
+        len => list.signals[r.index(len)].limit as u32,
+    };
+    match r.below(16) {
+        0..=5 => 0,
+        6..=9 => limit,
+        10 => limit.wrapping_add(1),
+        11 => limit.wrapping_sub(1),
+        12 => r.of(&[1, 4_999, 5_001, 600_001, u32::MAX, 1 << 31]),
+        13 | 14 => r.below(u64::from(limit) + 1) as u32,
+        _ => r.word() as u32,
+    }
+}
+
+/// A value that the signal knows, mostly.
+pub fn value(r: &Random, list: &List, signal: usize) -> u64 {
+    let s = &list.signals[signal];
+    let known: Vec<_> = list.codes_of(signal).collect();
+    match known.is_empty() || r.one_in(5) {
+        true => r.of(&[0, s.top(), r.word() & s.top()]),
+        false => {
+            let range = r.of(&known);
+            r.of(&[range.low, range.high, r.within(range.low, range.high)])
+        }
+    }
+}
+
+/// A telegram of this type as another vehicle might send it under this list: mostly good marks and known values.
+pub fn telegram(r: &Random, list: &List, kind: u64) -> Vec<u8> {
+    let len = if kind == 3 { 40 } else { 128 };
+    let mut telegram = match r.one_in(2) {
+        true => r.octets(len),
+        false => vec![0; len],
+    };
+    telegram[0] = 0x10 | kind as u8;
+    let version = list.version() as u8;
+    telegram[1] = r.of(&[version, version, version, version - 1, 0, 1, 255]);
+    for &check in &list.checks {
+        let mark = r.of(&[1, 1, 1, 2, 2, 0, 3]);
+        write_field(&mut telegram, check as usize, 2, mark);
+    }
+    let carried = |s: &Signal| s.carried_by(kind);
+    for (number, s) in list.signals.iter().enumerate().filter(|(_, s)| carried(s)) {
+        let value = value(r, list, number);
+        write_field(&mut telegram, s.start as usize, s.width as usize, value);
+    }
+    telegram
+}
+
+/// A telegram type; mostly one that carries some signal of the list.
+fn kind(r: &Random, list: &List) -> u64 {
+    match list.signals.len() {
+        len if len > 0 && !r.one_in(3) => match list.signals[r.index(len)].kind {
+            0 => r.within(1, 3),
+            kind => kind,
+        },
+        _ => r.within(1, 3),
+    }
+}
+
+fn slot(store: &mut [u8], vehicle: usize) -> &mut [u8] {
+    &mut store[SLOT * (vehicle - 1)..SLOT * vehicle]
+}
+
+/// A store as read at a clock value: vehicles 1 to 3 were heard most of the time.
+pub fn store(r: &Random, list: &List, now: u32) -> Vec<u8> {
+    let mut store = match r.below(6) {
+        0 => strange(r, list, now),
+        _ => vec![0; STORE],
+    };
+    for vehicle in [1, 2, 3, r.within(1, 63) as usize] {
+        if r.one_in(12) {
+            continue;
+        }
+        let kind = kind(r, list);
+        let telegram = telegram(r, list, kind);
+        let stamp = now.wrapping_sub(age(r, list));
+        let slot = slot(&mut store, vehicle);
+        slot.fill(0);
+        slot[0] = 1;
+        slot[1..5].copy_from_slice(&stamp.to_be_bytes());
+        slot[5..5 + telegram.len()].copy_from_slice(&telegram);
+        if r.one_in(8) {
+            unsettle(r, slot);
+        }
+    }
+    store
+}
+
+/// What no taking leaves.
+fn unsettle(r: &Random, slot: &mut [u8]) {
+    match r.below(4) {
+        0 => slot[0] = r.of(&[0, 2, 3, 128, 255]),
+        1 => slot[5] = r.octet(),
+        2 => slot[5] = r.of(&[0x10, 0x14, 0x1F, 0x01, 0x21, 0x31, 0x02, 0xF3]),
+        _ => slot[45..].fill(0x5A),
+    }
+}
+
+fn strange(r: &Random, list: &List, now: u32) -> Vec<u8> {
+    let mut store = r.octets(STORE);
+    for slot in store.chunks_mut(SLOT) {
+        slot[0] = r.of(&[0, 1, 1, 1, 1, 2, 255]);
+        let stamp = now.wrapping_sub(age(r, list));
+        slot[1..5].copy_from_slice(&stamp.to_be_bytes());
+        slot[5] = r.of(&[
+            0x11, 0x12, 0x13, 0x11, 0x12, 0x13, 0x10, 0x14, 0x21, slot[5],
+        ]);
+        slot[6] = r.of(&[0, 1, 2, 255, slot[6]]);
+    }
+    store
+}

@@ -1,0 +1,155 @@
+//! Inputs that are few enough to try them all.
+
+use crate::case::{Call, Case};
+use crate::generate::REQUESTS;
+use crate::store::STORE;
+
+/// The list L of the bench examples.
+const L: [u8; 44] = [
+    0x00, 0x01, 0x01, 0x42, // checks
+    0x00, 0x01, 0x01, 0xA8, 0x04, 0x01, 0x01, 0x01, 0x00, 0x00, 0x13, 0x88, 0, 0, 0, 0, 0,
+    0, // signals
+    0x00, 0x02, 0x00, 0x00, 0x00, 0x00, 0x00, 0x06, 0x00, 0x00, 0x00, 0x0F, 0x00,
+    0x0F, // codes
+    0x00, 0x01, 0x00, 0x00, 0x01, 0x00, 0x00, 0x00, // routes
+];
+
+/// Numbers far above all that a call takes, among them those that are small once cut to fewer bits.
+fn large() -> impl Iterator<Item = u64> {
+    (10..64)
+        .flat_map(|power| [0, 1, 16, 64, 370].map(|n| (1 << power) + n))
+        .chain([u64::MAX])
+}
+
+pub fn each(mut try_one: impl FnMut(Case)) {
+    check_places(&mut try_one);
+    shows(&mut try_one);
+    addresses(&mut try_one);
+    e_telegrams(&mut try_one);
+    telegrams(&mut try_one);
+    lists(&mut try_one);
+    readings(&mut try_one);
+}
+
+fn check_places(try_one: &mut impl FnMut(Case)) {
+    for bit in (0..=1_100).chain(large()) {
+        try_one(Case::new(Call::CheckPlace, vec![], vec![bit]));
+    }
+}
+
+/// All kinds in all widths around the one that is taken, with raw values around each power of two and each border.
+fn shows(try_one: &mut impl FnMut(Case)) {
+    let raws: Vec<u64> = [0, 32_768, 49_152, 65_536]
+        .into_iter()
+        .flat_map(|n: u64| n.saturating_sub(3)..=n + 3)
+        .chain((0..64).map(|power| 1 << power))
+        .chain([u64::MAX])
+        .collect();
+    for kind in 0..=4 {
+        for width in (0..=20).chain([48, 64, 65_552, 1 << 32 | 16, u64::MAX]) {
+            for &raw in &raws {
+                try_one(Case::new(Call::Show, vec![], vec![kind, width, raw]));
+            }
+        }
+    }
+}
+
+/// Trains of every length with every address: nobody marked, all of a kind, and a mixed train.
+fn addresses(try_one: &mut impl FnMut(Case)) {
+    let mixed = |i: usize| [18, 5, 12, 2, 4, 0, 28][i % 7] & if i == 1 { 31 } else { 30 };
+    let trains: [&dyn Fn(usize) -> u8; 4] = [&|_| 0, &|_| 6, &|i| u8::from(i == 0), &mixed];
+    for len in 0..=65 {
+        for train in trains {
+            let marks: Vec<u8> = (0..len).map(train).collect();
+            for address in 0..=100 {
+                try_one(Case::new(Call::Resolve, vec![marks.clone()], vec![address]));
+            }
+        }
+    }
+    for address in large() {
+        try_one(Case::new(Call::Resolve, vec![vec![2; 63]], vec![address]));
+    }
+}
+
+/// Every code, read and answered, and every length around the two limits.
+fn e_telegrams(try_one: &mut impl FnMut(Case)) {
+    let telegram = |code: u16, len: usize| {
+        let mut telegram = vec![0xC7; len];
+        if let Some(octets) = telegram.get_mut(6..8) {
+            octets.copy_from_slice(&code.to_be_bytes());
+        }
+        telegram
+    };
+    for code in 0..=u16::MAX {
+        let read = telegram(code, 9);
+        try_one(Case::new(Call::ERead, vec![read.clone()], vec![]));
+        let areas = vec![read, vec![0x5A; 6], vec![0xEE; 10]];
+        try_one(Case::new(Call::EAnswer, areas, vec![code as u64 & 255]));
+    }
+    for len in 0..=1_100 {
+        try_one(Case::new(Call::ERead, vec![telegram(0x4002, len)], vec![]));
+    }
+    for code in REQUESTS {
+        for (head, out) in (0..=9).flat_map(|head| (0..=12).map(move |out| (head, out))) {
+            let areas = vec![telegram(code, 9), vec![0x5A; head], vec![0xEE; out]];
+            try_one(Case::new(Call::EAnswer, areas, vec![3]));
+        }
+    }
+}
+
+/// Every head with every length at a border.
+fn telegrams(try_one: &mut impl FnMut(Case)) {
+    for head in 0..=255 {
+        for len in [0, 1, 2, 3, 39, 40, 41, 127, 128, 129] {
+            let mut telegram = vec![0xA5; len];
+            if let Some(first) = telegram.first_mut() {
+                *first = head;
+            }
+            let areas = vec![vec![0x3C; STORE], telegram];
+            try_one(Case::new(
+                Call::Take,
+                areas,
+                vec![1 + u64::from(head) % 63, 7],
+            ));
+        }
+    }
+}
+
+/// The list L with every octet set to every value, and every head of it.
+fn lists(try_one: &mut impl FnMut(Case)) {
+    for at in 0..L.len() {
+        try_one(Case::new(Call::Judge, vec![L[..at].to_vec()], vec![]));
+        for octet in 0..=255 {
+            let mut list = L.to_vec();
+            list[at] = octet;
+            try_one(Case::new(Call::Judge, vec![list.clone()], vec![]));
+            try_one(Case::new(Call::Extends, vec![L.to_vec(), list], vec![]));
+        }
+    }
+}
+
+/// The list L read with every head, every version, every mark and every code, at the ages around its limit.
+fn readings(try_one: &mut impl FnMut(Case)) {
+    let mut read = |heard: u8, octets: [(usize, u8); 4], clock: u64| {
+        let mut store = vec![0; STORE];
+        store[0] = heard;
+        octets
+            .iter()
+            .for_each(|&(octet, value)| store[4 + octet] = value);
+        try_one(Case::new(
+            Call::Read,
+            vec![L.to_vec(), store],
+            vec![clock, 1, 0],
+        ));
+    };
+    for any in 0..=255 {
+        read(any, [(1, 0x11), (2, 1), (41, 0x10), (54, 0x40)], 5_000);
+        read(1, [(1, any), (2, 1), (41, 0x10), (54, 0x40)], 5_000);
+        read(1, [(1, 0x11), (2, any), (41, 0x10), (54, 0x40)], 5_000);
+        read(1, [(1, 0x11), (2, 1), (41, any), (54, 0x40)], 5_000);
+        read(1, [(1, 0x11), (2, 1), (41, 0x20), (54, any)], 5_000);
+    }
+    for clock in [0, 1, 4_999, 5_000, 5_001, u64::from(u32::MAX)] {
+        read(1, [(1, 0x11), (2, 1), (41, 0x10), (54, 0x40)], clock);
+    }
+}

@@ -1,0 +1,197 @@
+//! Dustferrule, the proved gateway library for UIC 556 train buses, for Rust programs.
+//!
+//! Every call is total: for all octets and numbers it answers or refuses, as document 01 says; a refusal changes no octet it was lent.
+//! Nothing here allocates, blocks or keeps state. The library itself is proved; these wrappers, which hand slices over and name what
+//! comes back, are not.
+
+#![warn(missing_docs)]
+
+mod answers;
+pub mod raw;
+
+pub use answers::{Counts, EReading, Extends, Kind, Members, Reading, Refusal, Shown};
+
+/// The length of a store: 63 slots of 133 octets, vehicle 1 first. A store of zeros has heard nobody.
+pub const STORE_OCTETS: usize = 8379;
+
+/// The answer, or the refusal where its number is not 0.
+fn unless_refused<T>(number: u32, carried: u64, answer: T) -> Result<T, Refusal> {
+    match number {
+        0 => Ok(answer),
+        _ => Err(Refusal {
+            number: number as u8,
+            carried,
+        }),
+    }
+}
+
+// SAFETY, of every `unsafe` below: a slice names as much memory as its length says, is never null, also when empty, and one that is
+// lent for writing overlaps no other.
+
+/// Judges a signal list. Refusals 1 to 4.
+pub fn judge(list: &[u8]) -> Result<Counts, Refusal> {
+    let judged = unsafe { raw::df_judge(list.as_ptr(), list.len()) };
+    let counts = Counts {
+        checks: judged.checks as usize,
+        signals: judged.signals as usize,
+        codes: judged.codes as usize,
+        routes: judged.routes as usize,
+        version: judged.version as usize,
+    };
+    unless_refused(judged.refusal, judged.carried, counts)
+}
+
+/// Whether list `b` extends list `a`.
+pub fn extends(a: &[u8], b: &[u8]) -> Extends {
+    let r = unsafe { raw::df_extends(a.as_ptr(), a.len(), b.as_ptr(), b.len()) };
+    match unless_refused(r.refusal, r.carried, r.extends) {
+        Ok(0) => Extends::No,
+        Ok(_) => Extends::Yes,
+        Err(refusal) if r.which == 1 => Extends::First(refusal),
+        Err(refusal) => Extends::Second(refusal),
+    }
+}
+
+/// The check place, as a bit address, of a bit of R1 octets 47-73. Refusal 27.
+pub fn check_place(bit: u64) -> Result<u64, Refusal> {
+    let r = unsafe { raw::df_check_place(bit) };
+    unless_refused(r.refusal, 0, r.place)
+}
+
+/// Takes an R-telegram of a vehicle (1-63) at a clock value into the store. Refusals 5 to 10.
+pub fn take(store: &mut [u8], vehicle: u64, now: u32, telegram: &[u8]) -> Result<(), Refusal> {
+    let r = unsafe {
+        raw::df_take(
+            store.as_mut_ptr(),
+            store.len(),
+            vehicle,
+            now,
+            telegram.as_ptr(),
+            telegram.len(),
+        )
+    };
+    unless_refused(r.refusal, r.carried, ())
+}
+
+/// Reads one signal (number from 0) of one vehicle. Refusals 1 to 4, then 5, 6, 11.
+pub fn read(
+    list: &[u8],
+    store: &[u8],
+    now: u32,
+    vehicle: u64,
+    signal: u64,
+) -> Result<Reading, Refusal> {
+    let r = unsafe {
+        raw::df_read(
+            list.as_ptr(),
+            list.len(),
+            store.as_ptr(),
+            store.len(),
+            now,
+            vehicle,
+            signal,
+        )
+    };
+    let reading = Reading {
+        value: r.value,
+        reason: r.reason as u8,
+    };
+    unless_refused(r.refusal, r.carried, reading)
+}
+
+/// Writes every route's value into its field of the data and gives the number of live ones. Refusals 1 to 5, 12.
+pub fn marshal(list: &[u8], store: &[u8], now: u32, data: &mut [u8]) -> Result<u64, Refusal> {
+    let r = unsafe {
+        raw::df_marshal(
+            list.as_ptr(),
+            list.len(),
+            store.as_ptr(),
+            store.len(),
+            now,
+            data.as_mut_ptr(),
+            data.len(),
+        )
+    };
+    unless_refused(r.refusal, r.carried, r.lives)
+}
+
+/// Composes the R-telegram of type `kind` (1-3) into `out`: one value for each signal, one mark (0-3) for each check. Refusals 1 to 4,
+/// then 9, 13 to 16.
+pub fn compose(
+    list: &[u8],
+    kind: u64,
+    values: &[u64],
+    marks: &[u8],
+    out: &mut [u8],
+) -> Result<(), Refusal> {
+    let r = unsafe {
+        raw::df_compose(
+            list.as_ptr(),
+            list.len(),
+            kind,
+            values.as_ptr(),
+            values.len(),
+            marks.as_ptr(),
+            marks.len(),
+            out.as_mut_ptr(),
+            out.len(),
+        )
+    };
+    unless_refused(r.refusal, r.carried, ())
+}
+
+/// Shows a raw value of a field of this width. The scaled kinds may be refused 26.
+pub fn show(kind: Kind, width: u64, raw: u64) -> Result<Shown, Refusal> {
+    let (r, shown): (_, fn(f32) -> Shown) = match kind {
+        Kind::Code => return Ok(Shown::Code(unsafe { raw::df_show_code(raw) })),
+        Kind::Speed => (unsafe { raw::df_show_speed(width, raw) }, Shown::Speed),
+        Kind::Percentage => (
+            unsafe { raw::df_show_percentage(width, raw) },
+            Shown::Percentage,
+        ),
+        Kind::SignedPercentage => (
+            unsafe { raw::df_show_signed_percentage(width, raw) },
+            Shown::Percentage,
+        ),
+        Kind::Current => (unsafe { raw::df_show_current(width, raw) }, Shown::Current),
+    };
+    unless_refused(r.refusal, 0, shown(r.value))
+}
+
+/// The vehicles of a train that meet an address. A vehicle is one octet of marks: 1 leading, 2 coach, 4 tractive, 8 led, 16 sleeping;
+/// the three high bits are not read. Refusals 17 to 20.
+pub fn resolve(marks: &[u8], address: u64) -> Result<Members, Refusal> {
+    let r = unsafe { raw::df_resolve(marks.as_ptr(), marks.len(), address) };
+    let members = Members {
+        set: r.set,
+        size: r.size,
+    };
+    unless_refused(r.refusal, 0, members)
+}
+
+/// Reads an E-telegram's code, request or report, and octet 9. Refusals 21, 22.
+pub fn e_read(telegram: &[u8]) -> Result<EReading, Refusal> {
+    let r = unsafe { raw::df_e_read(telegram.as_ptr(), telegram.len()) };
+    let reading = EReading {
+        code: r.code as u16,
+        report: r.report != 0,
+        status: r.status as u8,
+    };
+    unless_refused(r.refusal, 0, reading)
+}
+
+/// Answers a request: head (6 octets), report code and status into the first 9 octets of `out`. Refusals 21 to 25.
+pub fn e_answer(telegram: &[u8], head: &[u8], status: u8, out: &mut [u8]) -> Result<(), Refusal> {
+    let r = unsafe {
+        raw::df_e_answer(
+            telegram.as_ptr(),
+            telegram.len(),
+            head.as_ptr(),
+            head.len(),
+            status,
+            out.as_mut_ptr(),
+            out.len(),
+        )
+    };
+    unless_refused(r.refusal, r.carried, ())
+}

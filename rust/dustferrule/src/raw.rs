@@ -1,0 +1,153 @@
+//! `include/dustferrule.h`, line for line: what the proved library exports.
+//!
+//! What the caller owes: each pointer with its length names memory that can be read (and written, where it is `*mut`); an area that is
+//! written overlaps no other area of the same call; and no pointer is null, also with length 0.
+
+#![allow(non_camel_case_types, missing_docs)]
+
+#[repr(C)]
+#[derive(Debug, Clone, Copy)]
+pub struct df_outcome {
+    pub refusal: u32,
+    pub carried: u64,
+}
+
+#[repr(C)]
+#[derive(Debug, Clone, Copy)]
+pub struct df_judged {
+    pub refusal: u32,
+    pub carried: u64,
+    pub checks: u64,
+    pub signals: u64,
+    pub codes: u64,
+    pub routes: u64,
+    pub version: u64,
+}
+
+/// `which`: 0 no list was refused, 1 the first list, 2 the second; `extends`: 1 yes, 0 no.
+#[repr(C)]
+#[derive(Debug, Clone, Copy)]
+pub struct df_extending {
+    pub refusal: u32,
+    pub which: u32,
+    pub carried: u64,
+    pub extends: u32,
+}
+
+#[repr(C)]
+#[derive(Debug, Clone, Copy)]
+pub struct df_place {
+    pub refusal: u32,
+    pub place: u64,
+}
+
+#[repr(C)]
+#[derive(Debug, Clone, Copy)]
+pub struct df_reading {
+    pub refusal: u32,
+    pub reason: u32,
+    pub carried: u64,
+    pub value: u64,
+}
+
+#[repr(C)]
+#[derive(Debug, Clone, Copy)]
+pub struct df_marshalled {
+    pub refusal: u32,
+    pub carried: u64,
+    pub lives: u64,
+}
+
+#[repr(C)]
+#[derive(Debug, Clone, Copy)]
+pub struct df_shown {
+    pub refusal: u32,
+    pub value: f32,
+}
+
+#[repr(C)]
+#[derive(Debug, Clone, Copy)]
+pub struct df_members {
+    pub refusal: u32,
+    pub size: u32,
+    pub set: u64,
+}
+
+/// `report`: 1 a report, 0 a request.
+#[repr(C)]
+#[derive(Debug, Clone, Copy)]
+pub struct df_e_reading {
+    pub refusal: u32,
+    pub code: u32,
+    pub report: u32,
+    pub status: u32,
+}
+
+extern "C" {
+    pub fn df_judge(list: *const u8, list_len: usize) -> df_judged;
+
+    pub fn df_extends(a: *const u8, a_len: usize, b: *const u8, b_len: usize) -> df_extending;
+
+    pub fn df_check_place(bit: u64) -> df_place;
+
+    pub fn df_take(
+        store: *mut u8,
+        store_len: usize,
+        vehicle: u64,
+        clock: u32,
+        telegram: *const u8,
+        telegram_len: usize,
+    ) -> df_outcome;
+
+    pub fn df_read(
+        list: *const u8,
+        list_len: usize,
+        store: *const u8,
+        store_len: usize,
+        clock: u32,
+        vehicle: u64,
+        signal: u64,
+    ) -> df_reading;
+
+    pub fn df_marshal(
+        list: *const u8,
+        list_len: usize,
+        store: *const u8,
+        store_len: usize,
+        clock: u32,
+        data: *mut u8,
+        data_len: usize,
+    ) -> df_marshalled;
+
+    pub fn df_compose(
+        list: *const u8,
+        list_len: usize,
+        kind: u64,
+        values: *const u64,
+        values_len: usize,
+        marks: *const u8,
+        marks_len: usize,
+        out: *mut u8,
+        out_len: usize,
+    ) -> df_outcome;
+
+    pub fn df_show_code(raw: u64) -> u64;
+    pub fn df_show_speed(width: u64, raw: u64) -> df_shown;
+    pub fn df_show_percentage(width: u64, raw: u64) -> df_shown;
+    pub fn df_show_signed_percentage(width: u64, raw: u64) -> df_shown;
+    pub fn df_show_current(width: u64, raw: u64) -> df_shown;
+
+    pub fn df_resolve(marks: *const u8, marks_len: usize, address: u64) -> df_members;
+
+    pub fn df_e_read(telegram: *const u8, telegram_len: usize) -> df_e_reading;
+
+    pub fn df_e_answer(
+        telegram: *const u8,
+        telegram_len: usize,
+        head: *const u8,
+        head_len: usize,
+        status: u8,
+        out: *mut u8,
+        out_len: usize,
+    ) -> df_outcome;
+}

@@ -1,0 +1,35 @@
+//! The gateway library of document 01, written a second time and independently: taking R-telegrams into
+//! a store, reading and marshalling signals, composing R-telegrams, judging signal lists, resolving
+//! addresses, and reading and answering E-telegrams.
+//!
+//! Every function is total: it answers or refuses for every input and never panics. Every public call
+//! tests its own input, and a refusal changes no lent octet.
+
+#![forbid(unsafe_code)]
+#![warn(missing_docs)]
+
+mod compose;
+mod etelegram;
+mod extends;
+mod grouping;
+mod list;
+mod marshal;
+mod octets;
+mod reading;
+mod refusal;
+mod shown;
+mod store;
+mod train;
+
+pub use compose::compose;
+pub use etelegram::{e_answer, e_read, EReading};
+pub use extends::{extends, Extends};
+pub use grouping::check_place;
+pub use list::{judge, Counts};
+pub use marshal::marshal;
+pub use octets::{read_field, write_field};
+pub use reading::{read, Reading};
+pub use refusal::Refusal;
+pub use shown::{show, Kind, Shown};
+pub use store::take;
+pub use train::{resolve, Members};

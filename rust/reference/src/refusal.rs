@@ -1,0 +1,26 @@
+//! "Refusal numbers": "Each returns its number and changes no lent octet."
+
+/// A refusal of document 01's table.
+#[derive(Debug, Clone, Copy, PartialEq, Eq)]
+pub struct Refusal {
+    /// The number in the table, 1 to 27.
+    pub number: u8,
+    /// "1-4 also return the offset of the section's count (1, 2), of the entry (3) or of the first octet
+    /// too many (4); 15 returns the first signal at fault", counted from 0. 0 with every other number.
+    pub carried: u64,
+}
+
+impl Refusal {
+    /// A refusal that carries nothing.
+    pub(crate) const fn plain(number: u8) -> Self {
+        Refusal { number, carried: 0 }
+    }
+
+    /// A refusal with an offset (1-4) or a signal number (15).
+    pub(crate) const fn with(number: u8, carried: usize) -> Self {
+        Refusal {
+            number,
+            carried: carried as u64,
+        }
+    }
+}

@@ -1,0 +1,73 @@
+//! "The store is 8,379 octets: 63 slots of 133, vehicle 1 first. A slot is a heard octet (1 = heard, all
+//! else not), a 4-octet stamp and 128 telegram octets."
+
+use crate::refusal::Refusal;
+
+const VEHICLES: usize = 63;
+const SLOT: usize = 133;
+pub(crate) const TELEGRAM: usize = 128;
+
+/// A vehicle's slot as it stands.
+pub(crate) type Slot = [u8; SLOT];
+/// The slots of all vehicles.
+pub(crate) type Slots = [Slot; VEHICLES];
+
+/// The slots of a store, or refusal 5, "store not 8,379 octets".
+#[inline]
+pub(crate) fn slots(store: &[u8]) -> Result<&Slots, Refusal> {
+    match store.as_chunks() {
+        (slots, []) => slots.try_into().map_err(|_| Refusal::plain(5)),
+        _ => Err(Refusal::plain(5)),
+    }
+}
+
+/// As [`slots`], to be written.
+#[inline]
+fn slots_mut(store: &mut [u8]) -> Result<&mut Slots, Refusal> {
+    match store.as_chunks_mut() {
+        (slots, []) => slots.try_into().map_err(|_| Refusal::plain(5)),
+        _ => Err(Refusal::plain(5)),
+    }
+}
+
+/// The place of a vehicle's slot, from 0, or refusal 6, "vehicle not 1-63".
+#[inline]
+pub(crate) fn slot_of(vehicle: u64) -> Result<usize, Refusal> {
+    if (1..=VEHICLES as u64).contains(&vehicle) {
+        Ok(vehicle as usize - 1)
+    } else {
+        Err(Refusal::plain(6))
+    }
+}
+
+/// "R1 and R2 have 128 octets, R3 has 40." Refusal 9, "telegram type not 1-3".
+#[inline]
+pub(crate) fn length_of(telegram_type: u64) -> Result<usize, Refusal> {
+    match telegram_type {
+        1 | 2 => Ok(TELEGRAM),
+        3 => Ok(40),
+        _ => Err(Refusal::plain(9)),
+    }
+}
+
+/// "Taking a telegram writes its whole slot (R3 is followed by 88 zeros) and no other octet of the
+/// store." Refusals 5 to 10.
+pub fn take(store: &mut [u8], vehicle: u64, now: u32, telegram: &[u8]) -> Result<(), Refusal> {
+    let slots = slots_mut(store)?;
+    let slot = &mut slots[slot_of(vehicle)?];
+    let [head, _, ..] = *telegram else {
+        return Err(Refusal::plain(7));
+    };
+    if head >> 4 != 1 {
+        return Err(Refusal::plain(8));
+    }
+    if telegram.len() != length_of(u64::from(head & 15))? {
+        return Err(Refusal::plain(10));
+    }
+    slot[0] = 1;
+    slot[1..5].copy_from_slice(&now.to_be_bytes());
+    let (taken, behind) = slot[5..].split_at_mut(telegram.len());
+    taken.copy_from_slice(telegram);
+    behind.fill(0);
+    Ok(())
+}

@@ -1,0 +1,65 @@
+//! What the tests share: a generator of numbers, makers of lists, stores and telegrams, and document 01
+//! told a second time in the slowest and plainest way (bit by bit, rule by rule), to hold the library to.
+#![allow(dead_code)]
+
+pub mod make;
+pub mod plain;
+
+/// The list L of the bench examples.
+pub const L: [u8; 44] = [
+    0x00, 0x01, 0x01, 0x42, // checks
+    0x00, 0x01, 0x01, 0xA8, 0x04, 0x01, 0x01, 0x01, 0x00, 0x00, 0x13, 0x88, 0, 0, 0, 0, 0,
+    0, // signals
+    0x00, 0x02, 0x00, 0x00, 0x00, 0x00, 0x00, 0x06, 0x00, 0x00, 0x00, 0x0F, 0x00,
+    0x0F, // codes
+    0x00, 0x01, 0x00, 0x00, 0x01, 0x00, 0x00, 0x00, // routes
+];
+
+pub const STORE: usize = 8379;
+
+/// Rounds are divided by this, and the numbers of cases they must meet: an unoptimized build is slow.
+pub const EASE: usize = if cfg!(debug_assertions) { 10 } else { 1 };
+
+/// A refusal by its number and what it carries.
+pub fn refusal(number: u8, carried: u64) -> reference::Refusal {
+    reference::Refusal { number, carried }
+}
+
+/// xorshift64*.
+pub struct Random(u64);
+
+impl Random {
+    pub fn new(seed: u64) -> Self {
+        Random(seed.wrapping_mul(0x9E37_79B9_7F4A_7C15) | 1)
+    }
+
+    pub fn word(&mut self) -> u64 {
+        self.0 ^= self.0 >> 12;
+        self.0 ^= self.0 << 25;
+        self.0 ^= self.0 >> 27;
+        self.0.wrapping_mul(0x2545_F491_4F6C_DD1D)
+    }
+
+    /// A number below `end`.
+    pub fn below(&mut self, end: u64) -> u64 {
+        (self.word() >> 16) % end
+    }
+
+    pub fn within(&mut self, low: u64, high: u64) -> u64 {
+        low + self.below(high - low + 1)
+    }
+
+    pub fn one_in(&mut self, n: u64) -> bool {
+        self.below(n) == 0
+    }
+
+    pub fn of<T: Copy>(&mut self, things: &[T]) -> T {
+        things[self.below(things.len() as u64) as usize]
+    }
+
+    pub fn octets(&mut self, length: usize) -> Vec<u8> {
+        (0..length)
+            .map(|_| self.word() as u8 ^ (self.word() >> 40) as u8)
+            .collect()
+    }
+}

@@ -1,0 +1,412 @@
+//! Document 01 in its plainest form.
+
+use reference::{Counts, Reading, Refusal};
+
+pub fn bit(octets: &[u8], address: usize) -> bool {
+    octets[address / 8] & (0x80 >> (address % 8)) != 0
+}
+
+pub fn set_bit(octets: &mut [u8], address: usize, on: bool) {
+    let weight = 0x80 >> (address % 8);
+    if on {
+        octets[address / 8] |= weight;
+    } else {
+        octets[address / 8] &= !weight;
+    }
+}
+
+pub fn get(octets: &[u8], start: usize, width: usize) -> u64 {
+    (start..start + width).fold(0, |value, address| {
+        2 * value + u64::from(bit(octets, address))
+    })
+}
+
+pub fn put(octets: &mut [u8], start: usize, width: usize, value: u64) {
+    for i in 0..width {
+        set_bit(octets, start + i, (value >> (width - 1 - i)) & 1 == 1);
+    }
+}
+
+fn number(octets: &[u8]) -> u64 {
+    octets
+        .iter()
+        .fold(0, |value, &octet| 256 * value + u64::from(octet))
+}
+
+#[derive(Clone, Debug, PartialEq)]
+pub struct Signal {
+    pub start: u64,
+    pub width: u64,
+    pub kind: u64,
+    pub check: u64,
+    pub since: u64,
+    pub limit: u64,
+    pub replacement: u64,
+}
+
+impl Signal {
+    fn of(e: &[u8]) -> Signal {
+        Signal {
+            start: number(&e[0..2]),
+            width: number(&e[2..3]),
+            kind: number(&e[3..4]),
+            check: number(&e[4..5]),
+            since: number(&e[5..6]),
+            limit: number(&e[6..10]),
+            replacement: number(&e[10..16]),
+        }
+    }
+
+    fn end(&self) -> u64 {
+        self.start + self.width
+    }
+}
+
+#[derive(Clone, Debug, PartialEq)]
+pub struct Code {
+    pub signal: u64,
+    pub low: u64,
+    pub high: u64,
+}
+
+#[derive(Clone, Debug, PartialEq)]
+pub struct Route {
+    pub signal: u64,
+    pub vehicle: u64,
+    pub zero: u64,
+    pub start: u64,
+}
+
+#[derive(Clone, Debug, Default, PartialEq)]
+pub struct List {
+    pub checks: Vec<u64>,
+    pub signals: Vec<Signal>,
+    pub codes: Vec<Code>,
+    pub routes: Vec<Route>,
+}
+
+fn section(
+    list: &[u8],
+    at: &mut usize,
+    most: usize,
+    size: usize,
+) -> Result<Vec<(usize, Vec<u8>)>, Refusal> {
+    let short = Err(Refusal {
+        number: 1,
+        carried: *at as u64,
+    });
+    if list.len() < *at + 2 {
+        return short;
+    }
+    let count = number(&list[*at..*at + 2]) as usize;
+    if count > most {
+        return Err(Refusal {
+            number: 2,
+            carried: *at as u64,
+        });
+    }
+    if list.len() < *at + 2 + count * size {
+        return short;
+    }
+    let first = *at + 2;
+    *at = first + count * size;
+    Ok((0..count)
+        .map(|i| {
+            (
+                first + i * size,
+                list[first + i * size..first + (i + 1) * size].to_vec(),
+            )
+        })
+        .collect())
+}
+
+impl List {
+    pub fn judged(list: &[u8]) -> Result<List, Refusal> {
+        let mut good = List::default();
+        let mut at = 0;
+        let bad = |offset: usize| {
+            Err(Refusal {
+                number: 3,
+                carried: offset as u64,
+            })
+        };
+        for (offset, e) in section(list, &mut at, 64, 2)? {
+            let place = number(&e);
+            if place % 2 == 1
+                || !(16..=1022).contains(&place)
+                || good.checks.iter().any(|&c| c >= place)
+            {
+                return bad(offset);
+            }
+            good.checks.push(place);
+        }
+        for (offset, e) in section(list, &mut at, 256, 16)? {
+            let s = Signal::of(&e);
+            let rules = [
+                (1..=48).contains(&s.width),
+                s.kind <= 2,
+                if s.kind == 0 {
+                    s.start >= 16 && s.end() <= 320
+                } else {
+                    s.start >= 320 && s.end() <= 1024
+                },
+                s.check == 0
+                    || (s.check as usize <= good.checks.len()
+                        && (good.checks[s.check as usize - 1] < 320) == (s.kind == 0)),
+                s.since >= 1,
+                s.limit <= 600_000,
+                s.width < 64 && s.replacement < 1 << s.width,
+                good.signals.iter().all(|before| before.kind <= s.kind),
+                good.signals
+                    .iter()
+                    .all(|before| before.kind != s.kind || before.end() <= s.start),
+                (s.start..s.end()).all(|b| good.checks.iter().all(|&c| b != c && b != c + 1)),
+            ];
+            if rules.contains(&false) {
+                return bad(offset);
+            }
+            good.signals.push(s);
+        }
+        for (offset, e) in section(list, &mut at, 512, 6)? {
+            let c = Code {
+                signal: number(&e[0..2]),
+                low: number(&e[2..4]),
+                high: number(&e[4..6]),
+            };
+            let Some(s) = good.signals.get(c.signal as usize) else {
+                return bad(offset);
+            };
+            let rules = [
+                s.width <= 16,
+                c.low <= c.high,
+                c.high < 1 << s.width,
+                good.codes.iter().all(|before| before.signal <= c.signal),
+                good.codes
+                    .iter()
+                    .all(|before| before.signal != c.signal || c.low >= before.high + 2),
+            ];
+            if rules.contains(&false) {
+                return bad(offset);
+            }
+            good.codes.push(c);
+        }
+        for (offset, e) in section(list, &mut at, 512, 6)? {
+            let r = Route {
+                signal: number(&e[0..2]),
+                vehicle: number(&e[2..3]),
+                zero: number(&e[3..4]),
+                start: number(&e[4..6]),
+            };
+            let Some(s) = good.signals.get(r.signal as usize) else {
+                return bad(offset);
+            };
+            let rules = [
+                (1..=63).contains(&r.vehicle),
+                r.zero == 0,
+                r.start + s.width <= 2048,
+                good.routes.iter().all(|before| {
+                    before.start + good.signals[before.signal as usize].width <= r.start
+                }),
+            ];
+            if rules.contains(&false) {
+                return bad(offset);
+            }
+            good.routes.push(r);
+        }
+        if at < list.len() {
+            return Err(Refusal {
+                number: 4,
+                carried: at as u64,
+            });
+        }
+        Ok(good)
+    }
+
+    pub fn octets(&self) -> Vec<u8> {
+        let mut list = Vec::new();
+        let mut push =
+            |value: u64, octets: usize| list.extend_from_slice(&value.to_be_bytes()[8 - octets..]);
+        push(self.checks.len() as u64, 2);
+        for &check in &self.checks {
+            push(check, 2);
+        }
+        push(self.signals.len() as u64, 2);
+        for s in &self.signals {
+            push(s.start, 2);
+            push(s.width, 1);
+            push(s.kind, 1);
+            push(s.check, 1);
+            push(s.since, 1);
+            push(s.limit, 4);
+            push(s.replacement, 6);
+        }
+        push(self.codes.len() as u64, 2);
+        for c in &self.codes {
+            push(c.signal, 2);
+            push(c.low, 2);
+            push(c.high, 2);
+        }
+        push(self.routes.len() as u64, 2);
+        for r in &self.routes {
+            push(r.signal, 2);
+            push(r.vehicle, 1);
+            push(r.zero, 1);
+            push(r.start, 2);
+        }
+        list
+    }
+
+    pub fn version(&self) -> u64 {
+        self.signals.iter().map(|s| s.since).max().unwrap_or(1)
+    }
+
+    pub fn place(&self, signal: &Signal) -> Option<u64> {
+        (signal.check != 0).then(|| self.checks[signal.check as usize - 1])
+    }
+
+    pub fn knows(&self, signal: u64, value: u64) -> bool {
+        let mut of = self.codes.iter().filter(|c| c.signal == signal).peekable();
+        of.peek().is_none() || of.any(|c| (c.low..=c.high).contains(&value))
+    }
+}
+
+pub fn judge(list: &[u8]) -> Result<Counts, Refusal> {
+    List::judged(list).map(|list| Counts {
+        checks: list.checks.len(),
+        signals: list.signals.len(),
+        codes: list.codes.len(),
+        routes: list.routes.len(),
+        version: list.version() as usize,
+    })
+}
+
+/// Whether `b` extends `a`, code by code.
+pub fn extends(a: &List, b: &List) -> bool {
+    let alike = |of_a: &Signal, of_b: &Signal| {
+        of_a.kind == of_b.kind
+            && of_a.start == of_b.start
+            && of_a.width == of_b.width
+            && a.place(of_a) == b.place(of_b)
+            && of_a.since == of_b.since
+    };
+    let stands = a.signals.iter().enumerate().all(|(i, of_a)| {
+        b.signals.iter().enumerate().any(|(j, of_b)| {
+            alike(of_a, of_b)
+                && (of_a.width > 16
+                    || (0..1u64 << of_a.width)
+                        .all(|c| !a.knows(i as u64, c) || b.knows(j as u64, c)))
+        })
+    });
+    let new = b
+        .signals
+        .iter()
+        .all(|of_b| a.signals.iter().any(|of_a| alike(of_a, of_b)) || of_b.since > a.version());
+    stands && new
+}
+
+pub fn read(list: &List, store: &[u8], now: u32, vehicle: u64, signal: u64) -> Reading {
+    let s = &list.signals[signal as usize];
+    let slot = &store[133 * (vehicle as usize - 1)..133 * vehicle as usize];
+    let telegram = &slot[5..];
+    let age = (u64::from(now) + (1 << 32) - number(&slot[1..5])) % (1 << 32);
+    let kind = get(telegram, 4, 4);
+    let version = if telegram[1] == 0 {
+        1
+    } else {
+        u64::from(telegram[1])
+    };
+    let mark = list.place(s).map(|place| get(telegram, place as usize, 2));
+    let value = get(telegram, s.start as usize, s.width as usize);
+    let reason = if slot[0] != 1 || get(telegram, 0, 4) != 1 || !(1..=3).contains(&kind) {
+        2
+    } else if s.limit != 0 && age > s.limit {
+        3
+    } else if !(s.kind == 0 || s.kind == kind) {
+        4
+    } else if s.since > version {
+        5
+    } else if mark == Some(0) {
+        6
+    } else if mark == Some(3) {
+        7
+    } else if !list.knows(signal, value) {
+        8
+    } else {
+        u8::from(mark == Some(2))
+    };
+    Reading {
+        value: if reason < 2 { value } else { s.replacement },
+        reason,
+    }
+}
+
+pub fn marshal(list: &List, store: &[u8], now: u32, data: &mut [u8]) -> Result<u64, Refusal> {
+    for route in &list.routes {
+        if (8 * data.len() as u64) < route.start + list.signals[route.signal as usize].width {
+            return Err(Refusal {
+                number: 12,
+                carried: 0,
+            });
+        }
+    }
+    let mut live = 0;
+    for route in &list.routes {
+        let reading = read(list, store, now, route.vehicle, route.signal);
+        put(
+            data,
+            route.start as usize,
+            list.signals[route.signal as usize].width as usize,
+            reading.value,
+        );
+        live += u64::from(reading.reason < 2);
+    }
+    Ok(live)
+}
+
+pub fn compose(
+    list: &List,
+    kind: u64,
+    values: &[u64],
+    marks: &[u8],
+    out: &mut [u8],
+) -> Result<(), Refusal> {
+    let refuse = |number, carried| Err(Refusal { number, carried });
+    if !(1..=3).contains(&kind) {
+        return refuse(9, 0);
+    }
+    if values.len() != list.signals.len() || marks.len() != list.checks.len() {
+        return refuse(13, 0);
+    }
+    let length: usize = if kind == 3 { 40 } else { 128 };
+    let written = |check: u64| check + 2 <= 8 * length as u64;
+    for (&check, &mark) in list.checks.iter().zip(marks) {
+        if written(check) && mark > 3 {
+            return refuse(14, 0);
+        }
+    }
+    for (i, (s, &value)) in list.signals.iter().zip(values).enumerate() {
+        if (s.kind == 0 || s.kind == kind)
+            && (value >= 1 << s.width || !list.knows(i as u64, value))
+        {
+            return refuse(15, i as u64);
+        }
+    }
+    if out.len() != length {
+        return refuse(16, 0);
+    }
+    out.fill(0);
+    put(out, 0, 4, 1);
+    put(out, 4, 4, kind);
+    put(out, 8, 8, list.version());
+    for (&check, &mark) in list.checks.iter().zip(marks) {
+        if written(check) {
+            put(out, check as usize, 2, u64::from(mark));
+        }
+    }
+    for (s, &value) in list.signals.iter().zip(values) {
+        if s.kind == 0 || s.kind == kind {
+            put(out, s.start as usize, s.width as usize, value);
+        }
+    }
+    Ok(())
+}
