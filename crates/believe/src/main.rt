@@ -1,0 +1,211 @@
+// What a gateway believes: every signal of the vehicles heard, with place, value and reason.
+ghost use Prim.Native.Nat.{_<_};
+ghost use Rattle.paper.proofs.ListLaws.{Laid};
+ghost use Rattle.lists.specs.Judged.{countsOf};
+ghost use Rattle.saying.specs.Ready.{Ready, IsVehicle};
+use entries::Signal;
+use gateway::Reading;
+use libc::STDOUT_FILENO;
+use lists::Counts;
+use lists::Judged;
+use refusals::Refusal;
+use saying::Clock;
+use saying::Number;
+use saying::Totals;
+
+// How much is asked: with 3 words every vehicle, with 4 one, with 5 one signal of it.
+struct Asked {
+    words: usize,
+    vehicle: usize,
+    signal: usize,
+}
+
+fn help() {
+    io::write_all(
+        STDOUT_FILENO,
+        b"believe LIST STORE CLOCK [VEHICLE [SIGNAL]]
+
+What a gateway with the signal list LIST believes at CLOCK of the vehicles in
+STORE: of all that were heard, of one, or of one signal of it, counted from 0.
+
+LIST      a signal list; `judge LIST` says what is wrong with one
+STORE     a store; `take` makes one and fills it
+CLOCK     the millisecond counter now, 0 to 4294967295
+
+Prints for each vehicle a line with type, version and age of its telegram, then
+a line for each signal,  VEHICLE SIGNAL PLACE VALUE REASON,  and at the end the
+vehicles never heard, and how often each reason was given:
+  0 live ok        3 too old                   6 mark error
+  1 live forced    4 type does not carry it    7 mark undefined
+  2 never heard    5 newer than the telegram   8 code not known
+With 2 to 8 the value is the list's replacement. A common signal is called R3.
+Bad input gets one line that begins with `refused` and the number of document
+01, or with `error`.
+",
+    );
+}
+
+fn print_signal(vehicle: usize, k: usize, s: Signal, r: Reading) {
+    let l = saying::say_right(saying::empty(), 2, vehicle as u64);
+    let l = saying::say(saying::say_right(l, 7, k as u64), b"  ");
+    let l = saying::say_place(l, s.kind, s.start, s.width);
+    let l = saying::say(saying::say_right(l, 48, r.value), b"  ");
+    saying::print(saying::say_reason(l, r.reason));
+}
+
+fn one_signal(
+    list: &[u8],
+    n: Counts,
+    store: &[u8],
+    clock: u32,
+    vehicle: usize,
+    k: usize,
+    totals: Totals,
+) -> Totals
+    requires { ⌜ (Ready (now list) (countsOf n) (now store)) × (IsVehicle vehicle) × (k < n .signals) ⌝ }
+{
+    let s = saying::signal(list, n, k);
+    let r = gateway::read_at(list, n, store, clock, vehicle, k);
+    print_signal(vehicle, k, s, r);
+    saying::count_reason(totals, r.reason)
+}
+
+fn one_vehicle(
+    list: &[u8],
+    n: Counts,
+    store: &[u8],
+    clock: u32,
+    vehicle: usize,
+    totals: Totals,
+) -> Totals
+    requires { ⌜ (Ready (now list) (countsOf n) (now store)) × (IsVehicle vehicle) ⌝ }
+{
+    saying::print_head(store, clock, vehicle);
+    let mut t = totals;
+    let mut k = 0;
+    while k < n.signals {
+        t = one_signal(list, n, store, clock, vehicle, k, t);
+        k += 1;
+    }
+    t
+}
+
+fn all_vehicles(list: &[u8], n: Counts, store: &[u8], clock: u32) -> Totals
+    requires { ⌜ Ready (now list) (countsOf n) (now store) ⌝ }
+{
+    let mut t = saying::no_totals();
+    let mut v = 1;
+    while v < 64 {
+        if saying::is_heard(store, v) {
+            t = one_vehicle(list, n, store, clock, v, t);
+        }
+        v += 1;
+    }
+    saying::print_never(store);
+    t
+}
+
+fn print_one(list: &[u8], n: Counts, store: &[u8], clock: u32, vehicle: usize, k: usize)
+    requires { ⌜ (Ready (now list) (countsOf n) (now store)) × (IsVehicle vehicle) ⌝ }
+{
+    if n.signals <= k {
+        saying::print_refused(Refusal::NoSuchSignal);
+        return;
+    }
+    saying::print_head(store, clock, vehicle);
+    one_signal(list, n, store, clock, vehicle, k, saying::no_totals());
+}
+
+fn print_ready(list: &[u8], n: Counts, store: &[u8], clock: u32, vehicle: usize, asked: Asked)
+    requires { ⌜ (Ready (now list) (countsOf n) (now store)) × (IsVehicle vehicle) ⌝ }
+{
+    let words = asked.words;
+    if words == 3 {
+        saying::print_totals(all_vehicles(list, n, store, clock));
+        return;
+    }
+    if words == 4 {
+        saying::print_totals(one_vehicle(list, n, store, clock, vehicle, saying::no_totals()));
+        return;
+    }
+    print_one(list, n, store, clock, vehicle, asked.signal);
+}
+
+// Refused as a reading is: 1 to 4, then 5, 6 and 11.
+fn print_asked(list: &[u8], n: Counts, store: &[u8], clock: u32, asked: Asked)
+    requires { ⌜ Laid (now list) (countsOf n) ⌝ }
+{
+    let vehicle = asked.vehicle;
+    if !store::is_store(store) {
+        saying::print_refused(Refusal::StoreLength);
+        return;
+    }
+    if !store::is_vehicle(vehicle) {
+        saying::print_refused(Refusal::Vehicle);
+        return;
+    }
+    print_ready(list, n, store, clock, vehicle, asked);
+}
+
+fn judge(list: &[u8], store: &[u8], clock: u32, asked: Asked) {
+    let judged = lists::judge(list);
+    match judged {
+        Judged::Refused(f) => saying::print_refused(f),
+        Judged::Accepted(n) => print_asked(list, n, store, clock, asked),
+    }
+}
+
+fn read_files(clock: u32, asked: Asked) {
+    let mut list = [0u8; 10377];
+    let l = saying::read(1, b"LIST", &mut list);
+    if !l.ok {
+        return;
+    }
+    let mut store = [0u8; 8380];
+    let s = saying::read(2, b"STORE", &mut store);
+    if !s.ok {
+        return;
+    }
+    let n = l.octets;
+    let m = s.octets;
+    judge(&list[..n], &store[..m], clock, asked);
+}
+
+fn ask(words: usize) {
+    let Clock::At(clock) = saying::clock_argument(3) else {
+        return;
+    };
+    let Number::Is(vehicle) = saying::number_or(words, 4, b"VEHICLE", 1) else {
+        return;
+    };
+    let Number::Is(signal) = saying::number_or(words, 5, b"SIGNAL", 0) else {
+        return;
+    };
+    let asked = Asked {
+        words,
+        vehicle: vehicle as usize,
+        signal: signal as usize,
+    };
+    read_files(clock, asked);
+}
+
+fn main() {
+    let n = os::arg_count();
+    if n < 2 {
+        help();
+        return;
+    }
+    if (n == 2) & saying::is_word(1, b"help") {
+        help();
+        return;
+    }
+    if n < 4 {
+        saying::print_usage(b"believe LIST STORE CLOCK [VEHICLE [SIGNAL]]");
+        return;
+    }
+    if 6 < n {
+        saying::print_usage(b"believe LIST STORE CLOCK [VEHICLE [SIGNAL]]");
+        return;
+    }
+    ask(n - 1);
+}

@@ -1,0 +1,206 @@
+// Composes a telegram out of a text file of values and marks.
+ghost use mathlib.Core.Path.{_≡_};
+ghost use Prim.Native.Nat.{_≤_};
+ghost use lib.ListN.{length};
+ghost use Rattle.paper.proofs.ListLaws.{Laid};
+ghost use Rattle.lists.specs.Judged.{countsOf};
+
+mod text;
+
+use libc::STDOUT_FILENO;
+use lists::Counts;
+use lists::Judged;
+use refusals::Outcome;
+use saying::Number;
+
+fn help() {
+    io::write_all(
+        STDOUT_FILENO,
+        b"compose LIST TYPE VALUES OUT
+
+Composes an R-telegram under the signal list LIST and writes it to OUT.
+
+LIST      a signal list; `judge LIST` says what is wrong with one
+TYPE      R1, R2 or R3, or the type's number
+VALUES    a text file of lines, where # begins a comment:
+            value SIGNAL VALUE    SIGNAL is counted from 0, as `believe` does
+            mark CHECK MARK       CHECK is counted from 1, in the list's order;
+                                  MARK is error, ok, forced, undefined or 0 to 3
+          A value that is not given is the signal's replacement in LIST, a mark
+          that is not given is ok. Of two lines for one entry the last counts.
+
+Prints `composed R1 version 3 octets 128`. Where nothing was composed it prints
+one line that begins with `refused` and the number of document 01, or with
+`error`, and OUT is as it was. The telegram is written to OUT.new, which then
+takes the name of OUT.
+",
+    );
+}
+
+// What is not given is the list's replacement: 0 need not be a known code.
+fn replacements(list: &[u8], n: Counts, values: &mut [u64])
+    requires { ⌜ (Laid (now list) (countsOf n)) × (length (now values) ≤ n .signals) ⌝ }
+{
+    let mut k = 0;
+    while k < values.len() {
+        let s = saying::signal(list, n, k);
+        values[k] = s.replacement;
+        k += 1;
+    }
+}
+
+fn print_composed(kind: usize, version: usize, octets: usize) {
+    let l = saying::say_telegram(saying::say(saying::empty(), b"composed "), kind);
+    let l = saying::say_number(saying::say(l, b" version "), version as u64);
+    let l = saying::say_number(saying::say(l, b" octets "), octets as u64);
+    saying::print(l);
+}
+
+// The telegram takes the name of OUT once all of it is written.
+fn write_out(kind: usize, version: usize, out: &[u8]) {
+    let fd = saying::begin(4, b"OUT");
+    if fd < 0 {
+        return;
+    }
+    if saying::commit(4, b"OUT", fd, out) {
+        print_composed(kind, version, out.len());
+    }
+}
+
+fn compose_out(list: &[u8], n: Counts, kind: usize, values: &[u64], marks: &[u8], out: &mut [u8]) {
+    let outcome = composing::compose(list, kind, values, marks, out);
+    match outcome {
+        Outcome::Refused(f) => saying::print_refused(f),
+        Outcome::Done => write_out(kind, n.version, out),
+    }
+}
+
+// A telegram of the type's length; the type itself is tested by the composing.
+fn compose_kind(list: &[u8], n: Counts, kind: usize, values: &[u64], marks: &[u8]) {
+    if store::type_length(kind) == 40 {
+        let mut out = [0u8; 40];
+        compose_out(list, n, kind, values, marks, &mut out);
+    } else {
+        let mut out = [0u8; 128];
+        compose_out(list, n, kind, values, marks, &mut out);
+    }
+}
+
+fn compose_given(
+    list: &[u8],
+    n: Counts,
+    kind: usize,
+    given: &[u8],
+    values: &mut [u64],
+    marks: &mut [u8],
+)
+    requires { ⌜ (Laid (now list) (countsOf n)) × (length (now values) ≤ n .signals) ⌝ }
+{
+    replacements(list, n, values);
+    if text::read_lines(given, values, marks) {
+        compose_kind(list, n, kind, values, marks);
+    }
+}
+
+fn no_values() -> [u64; 256]
+    ensures { λ r. ⌜ 256 ≡ length r ⌝ }
+{
+    [0u64; 256]
+}
+
+fn all_ok() -> [u8; 64]
+    ensures { λ r. ⌜ 64 ≡ length r ⌝ }
+{
+    [1u8; 64]
+}
+
+fn compose_under(list: &[u8], n: Counts, kind: usize, given: &[u8])
+    requires { ⌜ Laid (now list) (countsOf n) ⌝ }
+{
+    let signals = n.signals;
+    let checks = n.checks;
+    let mut values = no_values();
+    let mut marks = all_ok();
+    compose_given(
+        list,
+        n,
+        kind,
+        given,
+        &mut values[..signals],
+        &mut marks[..checks],
+    );
+}
+
+fn judge(list: &[u8], kind: usize, given: &[u8]) {
+    let judged = lists::judge(list);
+    match judged {
+        Judged::Refused(f) => saying::print_refused(f),
+        Judged::Accepted(n) => compose_under(list, n, kind, given),
+    }
+}
+
+fn read_values(list: &[u8], kind: usize) {
+    let mut given = [0u8; 65537];
+    let v = saying::read(3, b"VALUES", &mut given);
+    if !v.ok {
+        return;
+    }
+    let n = v.octets;
+    if n == 65537 {
+        saying::print_long(3, b"VALUES", 65536);
+        return;
+    }
+    judge(list, kind, &given[..n]);
+}
+
+fn read_files(kind: usize) {
+    let mut list = [0u8; 10377];
+    let l = saying::read(1, b"LIST", &mut list);
+    if !l.ok {
+        return;
+    }
+    let n = l.octets;
+    read_values(&list[..n], kind);
+}
+
+// R1, R2 or R3, or the type's number.
+fn type_argument() -> Number {
+    if saying::is_word(2, b"R1") {
+        return Number::Is(1);
+    }
+    if saying::is_word(2, b"R2") {
+        return Number::Is(2);
+    }
+    if saying::is_word(2, b"R3") {
+        return Number::Is(3);
+    }
+    let n = saying::number_of(2, 4294967295);
+    if let Number::Not = n {
+        saying::print_word(2, b"TYPE", b"not R1, R2 or R3");
+    }
+    n
+}
+
+fn ask() {
+    let Number::Is(kind) = type_argument() else {
+        return;
+    };
+    read_files(kind as usize);
+}
+
+fn main() {
+    let n = os::arg_count();
+    if n < 2 {
+        help();
+        return;
+    }
+    if (n == 2) & saying::is_word(1, b"help") {
+        help();
+        return;
+    }
+    if n == 5 {
+        ask();
+        return;
+    }
+    saying::print_usage(b"compose LIST TYPE VALUES OUT");
+}

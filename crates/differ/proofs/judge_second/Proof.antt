@@ -1,0 +1,23 @@
+-- `differ::judge_second` is safe and ends. Assumes nothing.
+use borrow.Author.Needs.{needs}
+use Rattle.saying.proofs.Laws.{laid-of}
+use Rattle.differ.proofs.judge_second.Statement.{statement}
+use Rattle.differ.proofs.judge_second.Tie as tie
+
+print-asked-requires : tie.Need-print-asked-requires
+print-asked-requires c κs =
+    let m = c .before in
+    (m .before .before .before .before .before .before .pre, laid-of _ _ _ (m .judged2 .given .1) (m .before .before .judge .ensures))
+
+pub judge-second-spec : {M : Type 1} → statement M
+judge-second-spec =
+    tie.close
+    (tie.spec
+    (λ c κs. search needs)
+    (λ c. search needs)
+    (λ c. search needs)
+    (λ c κs. search needs)
+    (λ c. search needs)
+    print-asked-requires
+    (λ c. search needs)
+    (λ c. search needs))

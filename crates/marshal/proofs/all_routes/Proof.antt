@@ -1,0 +1,16 @@
+-- `marshal::all_routes` is safe and ends. Assumes nothing.
+use Prim.Native.Nat.{_-_}
+use borrow.Author.Needs.{needs}
+use Rattle.marshal.proofs.all_routes.Statement.{statement}
+use Rattle.marshal.proofs.all_routes.Tie as tie
+
+abbrev Inv-loop : tie.InvT-loop
+Inv-loop list n store clock r₀ r = Unit {0}
+
+abbrev μ-loop : tie.MeasureT-loop
+μ-loop list n store clock r₀ r = n .routes - r
+
+pub all-routes-spec : {M : Type 1} → statement M
+all-routes-spec =
+    tie.close
+    (tie.spec Inv-loop μ-loop (λ c. search needs) (λ c κs. search needs) (λ c. search needs) (λ c. search needs) (λ c. search needs) (λ c. search needs))

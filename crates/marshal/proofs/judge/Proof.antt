@@ -1,0 +1,22 @@
+-- `marshal::judge` is safe and ends. Assumes nothing.
+use borrow.Author.Needs.{needs}
+use Rattle.saying.proofs.Laws.{laid-of}
+use Rattle.marshal.proofs.judge.Statement.{statement}
+use Rattle.marshal.proofs.judge.Tie as tie
+
+marshal-under-requires : tie.Need-marshal-under-requires
+marshal-under-requires c κs =
+    let m = c .before in
+    laid-of _ _ _ (m .judged2 .given .1) (m .before .before .judge .ensures)
+
+pub judge-spec : {M : Type 1} → statement M
+judge-spec =
+    tie.close
+    (tie.spec
+    (λ c κs. search needs)
+    (λ c. search needs)
+    (λ c κs. search needs)
+    (λ c. search needs)
+    marshal-under-requires
+    (λ c. search needs)
+    (λ c. search needs))

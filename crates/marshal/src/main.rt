@@ -1,0 +1,189 @@
+// Marshals routed signals out of a store into a file of vehicle bus data, and shows each route.
+ghost use Prim.Native.Nat.{_<_};
+ghost use Rattle.paper.proofs.ListLaws.{Laid};
+ghost use Rattle.lists.specs.Judged.{countsOf};
+ghost use Rattle.saying.specs.Ready.{Ready};
+use entries::Route;
+use entries::Signal;
+use gateway::Reading;
+use libc::STDOUT_FILENO;
+use lists::Counts;
+use lists::Judged;
+use marshalling::Marshalled;
+use saying::Clock;
+
+fn help() {
+    io::write_all(
+        STDOUT_FILENO,
+        b"marshal LIST STORE CLOCK DATA [routes]
+
+Writes the value of each route of LIST, read out of STORE at CLOCK, into its
+field of the vehicle bus data in the file DATA, and changes no other bit of it.
+
+LIST      a signal list; `judge LIST` says what is wrong with one
+STORE     a store; `take` makes one and fills it
+CLOCK     the millisecond counter now, 0 to 4294967295
+DATA      up to 4096 octets, long enough for every route
+
+Prints `marshalled 14 routes, 11 live`; live are the reasons 0 and 1. With the
+word `routes` it prints above that a line for each route,
+ROUTE FIELD-OF-DATA VEHICLE PLACE VALUE REASON.
+`believe help` lists the reasons.
+Where nothing was marshalled it prints one line that begins with `refused` and
+the number of document 01, or with `error`, and DATA is as it was. The new data
+are written to DATA.new, which then takes the name of DATA.
+",
+    );
+}
+
+fn print_route(r: usize, t: Route, s: Signal, x: Reading) {
+    let l = saying::say(saying::say_right(saying::empty(), 3, r as u64), b"  ");
+    let l = saying::say_right(saying::say_field(l, t.start, s.width), 36, t.vehicle as u64);
+    let l = saying::say_place(saying::say(l, b"  "), s.kind, s.start, s.width);
+    let l = saying::say(saying::say_right(l, 77, x.value), b"  ");
+    saying::print(saying::say_reason(l, x.reason));
+}
+
+fn one_route(list: &[u8], n: Counts, store: &[u8], clock: u32, r: usize)
+    requires { ⌜ (Ready (now list) (countsOf n) (now store)) × (r < n .routes) ⌝ }
+{
+    let t = saying::route(list, n, r);
+    let s = saying::signal(list, n, t.signal);
+    let x = gateway::read_at(list, n, store, clock, t.vehicle, t.signal);
+    print_route(r, t, s, x);
+}
+
+fn all_routes(list: &[u8], n: Counts, store: &[u8], clock: u32)
+    requires { ⌜ Ready (now list) (countsOf n) (now store) ⌝ }
+{
+    let mut r = 0;
+    while r < n.routes {
+        one_route(list, n, store, clock, r);
+        r += 1;
+    }
+}
+
+fn print_routes(list: &[u8], n: Counts, store: &[u8], clock: u32)
+    requires { ⌜ Laid (now list) (countsOf n) ⌝ }
+{
+    if store::is_store(store) {
+        all_routes(list, n, store, clock);
+    }
+}
+
+fn print_count(n: Counts, live: usize) {
+    let l = saying::say_number(
+        saying::say(saying::empty(), b"marshalled "),
+        n.routes as u64,
+    );
+    let l = saying::say_number(saying::say(l, b" routes, "), live as u64);
+    saying::print(saying::say(l, b" live"));
+}
+
+fn marshal_bus(
+    fd: i32,
+    list: &[u8],
+    n: Counts,
+    store: &[u8],
+    clock: u32,
+    routes: bool,
+    bus: &mut [u8],
+)
+    requires { ⌜ Laid (now list) (countsOf n) ⌝ }
+{
+    let outcome = marshalling::marshal(list, store, clock, bus);
+    match outcome {
+        Marshalled::Refused(f) => {
+            saying::drop_new(4, fd);
+            saying::print_refused(f);
+        }
+        Marshalled::Live(live) => {
+            if saying::commit(4, b"DATA", fd, bus) {
+                if routes {
+                    print_routes(list, n, store, clock);
+                }
+                print_count(n, live);
+            }
+        }
+    }
+}
+
+// The data are read and replaced while DATA.new, open as fd, keeps other programs away.
+fn marshal_into(fd: i32, list: &[u8], n: Counts, store: &[u8], clock: u32, routes: bool)
+    requires { ⌜ Laid (now list) (countsOf n) ⌝ }
+{
+    let mut bus = [0u8; 4097];
+    let d = saying::read(4, b"DATA", &mut bus);
+    if !d.ok {
+        saying::drop_new(4, fd);
+        return;
+    }
+    let k = d.octets;
+    if k == 4097 {
+        saying::drop_new(4, fd);
+        saying::print_long(4, b"DATA", 4096);
+        return;
+    }
+    marshal_bus(fd, list, n, store, clock, routes, &mut bus[..k]);
+}
+
+fn marshal_under(list: &[u8], n: Counts, store: &[u8], clock: u32, routes: bool)
+    requires { ⌜ Laid (now list) (countsOf n) ⌝ }
+{
+    let fd = saying::begin(4, b"DATA");
+    if fd >= 0 {
+        marshal_into(fd, list, n, store, clock, routes);
+    }
+}
+
+fn judge(list: &[u8], store: &[u8], clock: u32, routes: bool) {
+    let judged = lists::judge(list);
+    match judged {
+        Judged::Refused(f) => saying::print_refused(f),
+        Judged::Accepted(n) => marshal_under(list, n, store, clock, routes),
+    }
+}
+
+fn read_files(clock: u32, routes: bool) {
+    let mut list = [0u8; 10377];
+    let l = saying::read(1, b"LIST", &mut list);
+    if !l.ok {
+        return;
+    }
+    let mut store = [0u8; 8380];
+    let s = saying::read(2, b"STORE", &mut store);
+    if !s.ok {
+        return;
+    }
+    let n = l.octets;
+    let m = s.octets;
+    judge(&list[..n], &store[..m], clock, routes);
+}
+
+fn ask(routes: bool) {
+    let Clock::At(clock) = saying::clock_argument(3) else {
+        return;
+    };
+    read_files(clock, routes);
+}
+
+fn main() {
+    let n = os::arg_count();
+    if n < 2 {
+        help();
+        return;
+    }
+    if (n == 2) & saying::is_word(1, b"help") {
+        help();
+        return;
+    }
+    if n == 5 {
+        ask(false);
+        return;
+    }
+    if (n == 6) & saying::is_word(5, b"routes") {
+        ask(true);
+        return;
+    }
+    saying::print_usage(b"marshal LIST STORE CLOCK DATA [routes]");
+}

@@ -1,0 +1,2 @@
+-- The laws that the proofs of `saying` cite.
+pub mod Laws

@@ -1,0 +1,169 @@
+// What stands in a store, and what is read out of it, in words.
+ghost use mathlib.Core.Path.{_≡_};
+ghost use Prim.Native.Nat.{_≤_, _<_};
+ghost use lib.ListN.{length};
+ghost use Rattle.paper.specs.SignalList.{signalsPart};
+ghost use Rattle.paper.specs.Store.{slotOctets};
+ghost use Rattle.paper.proofs.ListLaws.{Laid};
+ghost use Rattle.entries.specs.Entries.{SignalRead};
+ghost use Rattle.lists.specs.Judged.{countsOf};
+ghost use Rattle.saying.specs.Ready.{RouteReady};
+use crate::line::Line;
+use crate::line::empty;
+use crate::line::print;
+use crate::line::put;
+use crate::line::say;
+use crate::line::say_number;
+use crate::line::say_right;
+use crate::words::say_reason;
+use crate::words::say_telegram;
+use entries::Route;
+use entries::Signal;
+use lists::Counts;
+
+// Inner: signal k of a list that was accepted with these counts.
+pub fn signal(list: &[u8], n: Counts, k: usize) -> Signal
+    requires { ⌜ (Laid (now list) (countsOf n)) × (k < n .signals) ⌝ }
+    ensures { λ r. ⌜ SignalRead (signalsPart (now (list .entry)) (countsOf n)) k r ⌝ }
+{
+    entries::signal_at(gateway::signals_part(list, n), k)
+}
+
+// Inner: route r of such a list.
+pub fn route(list: &[u8], n: Counts, r: usize) -> Route
+    requires { ⌜ (Laid (now list) (countsOf n)) × (r < n .routes) ⌝ }
+    ensures { λ t. ⌜ RouteReady (n .signals) t ⌝ }
+{
+    entries::route_at(lists::rest(gateway::codes_part(list, n), 6, n.codes), r)
+}
+
+// What a vehicle's slot holds.
+struct Held {
+    pub heard: bool,
+    pub kind: usize,
+    pub version: usize,
+    pub age: u32,
+}
+
+fn nothing() -> Held {
+    Held {
+        heard: false,
+        kind: 0,
+        version: 0,
+        age: 0,
+    }
+}
+
+fn held_in(slot: &[u8], clock: u32) -> Held
+    requires { ⌜ length (now slot) ≡ slotOctets ⌝ }
+{
+    if !store::is_heard(slot) {
+        return nothing();
+    }
+    let t = store::telegram(slot);
+    Held {
+        heard: true,
+        kind: store::telegram_type(t),
+        version: store::data_version(t),
+        age: store::age(clock, store::stamp(slot)),
+    }
+}
+
+// What is held of a vehicle: nothing in what is no store.
+fn held_of(store: &[u8], clock: u32, vehicle: usize) -> Held {
+    if !store::is_store(store) {
+        return nothing();
+    }
+    if !store::is_vehicle(vehicle) {
+        return nothing();
+    }
+    held_in(store::slot(store, vehicle), clock)
+}
+
+// The head line of a vehicle.
+pub fn print_head(store: &[u8], clock: u32, vehicle: usize) {
+    let l = say(say_number(say(empty(), b"vehicle "), vehicle as u64), b": ");
+    let h = held_of(store, clock, vehicle);
+    if !h.heard {
+        print(say(l, b"never heard"));
+        return;
+    }
+    let l = say_number(say(say_telegram(l, h.kind), b" version "), h.version as u64);
+    print(say(say_number(say(l, b" age "), h.age as u64), b" ms"));
+}
+
+pub fn is_heard(store: &[u8], vehicle: usize) -> bool {
+    let h = held_of(store, 0, vehicle);
+    h.heard
+}
+
+// One vehicle of a line of ranges: where a range begins, its number, where a longer one ends, the dash and its number.
+fn say_never(line: Line, store: &[u8], vehicle: usize) -> Line
+    requires { ⌜ (1 ≤ vehicle) × (vehicle < 64) ⌝ }
+{
+    if is_heard(store, vehicle) {
+        return line;
+    }
+    if (vehicle == 1) | is_heard(store, vehicle - 1) {
+        return say_number(put(line, b' '), vehicle as u64);
+    }
+    if (vehicle == 63) | is_heard(store, vehicle + 1) {
+        return say_number(put(line, b'-'), vehicle as u64);
+    }
+    line
+}
+
+fn say_ranges(line: Line, store: &[u8]) -> Line {
+    let mut l = line;
+    let mut v = 1;
+    while v < 64 {
+        l = say_never(l, store, v);
+        v += 1;
+    }
+    l
+}
+
+// The vehicles that were never heard, in one line.
+pub fn print_never(store: &[u8]) {
+    let head = say(empty(), b"never heard:");
+    let l = say_ranges(head, store);
+    if l.at == head.at {
+        print(say(l, b" none"));
+        return;
+    }
+    print(l);
+}
+
+// How often each reason was given.
+pub struct Totals {
+    pub of: [u64; 9],
+}
+
+pub fn no_totals() -> Totals {
+    Totals { of: [0u64; 9] }
+}
+
+pub fn count_reason(totals: Totals, reason: u8) -> Totals {
+    let mut t = totals;
+    let i = reason as usize;
+    if i < 9 {
+        t.of[i] = std::num::wrapping_add_u64(t.of[i], 1);
+    }
+    t
+}
+
+fn print_total(reason: u8, n: u64) {
+    if 0 < n {
+        let l = say_right(say(empty(), b"total"), 12, n);
+        print(say_reason(say(l, b"  "), reason));
+    }
+}
+
+// A line for each reason that was given.
+pub fn print_totals(totals: Totals) {
+    let mut r: u8 = 0;
+    while r < 9 {
+        print_total(r, totals.of[r as usize]);
+        r += 1;
+    }
+}

@@ -1,0 +1,160 @@
+// Document 01's reasons, refusals and places in words.
+use crate::line::Line;
+use crate::line::empty;
+use crate::line::print;
+use crate::line::put;
+use crate::line::say;
+use crate::line::say_number;
+use refusals::Refusal;
+
+pub fn say_reason(line: Line, reason: u8) -> Line {
+    match reason {
+        0 => say(line, b"0 live ok"),
+        1 => say(line, b"1 live forced"),
+        2 => say(line, b"2 never heard"),
+        3 => say(line, b"3 too old"),
+        4 => say(line, b"4 type does not carry it"),
+        5 => say(line, b"5 newer than the telegram"),
+        6 => say(line, b"6 mark error"),
+        7 => say(line, b"7 mark undefined"),
+        8 => say(line, b"8 code not known"),
+        _ => line,
+    }
+}
+
+// A common signal, type 0, is called R3, as Appendix B lists it.
+pub fn say_telegram(line: Line, kind: usize) -> Line {
+    match kind {
+        0 | 3 => say(line, b"R3"),
+        1 => say(line, b"R1"),
+        2 => say(line, b"R2"),
+        _ => say(line, b"R?"),
+    }
+}
+
+fn say_octet(line: Line, bit: usize) -> Line {
+    say_number(say(line, b"octet "), (bit / 8 + 1) as u64)
+}
+
+fn say_octets(line: Line, first: usize, last: usize) -> Line {
+    let l = say_number(say(line, b"octets "), (first / 8 + 1) as u64);
+    say_number(put(l, b'-'), (last / 8 + 1) as u64)
+}
+
+fn say_bits(line: Line, first: usize, last: usize) -> Line {
+    let l = say_number(say(say_octet(line, first), b" bits "), (first % 8) as u64);
+    say_number(put(l, b'-'), (last % 8) as u64)
+}
+
+fn say_bit(line: Line, bit: usize) -> Line {
+    say_number(say(say_octet(line, bit), b" bit "), (bit % 8) as u64)
+}
+
+fn say_span(line: Line, first: usize, last: usize) -> Line {
+    let l = say_number(say(say_bit(line, first), b" to "), (last / 8 + 1) as u64);
+    say_number(say(l, b" bit "), (last % 8) as u64)
+}
+
+// A field from its first bit to its last, as a person writes it.
+fn say_run(line: Line, first: usize, last: usize) -> Line {
+    if first == last {
+        return say_bit(line, first);
+    }
+    if (first % 8 == 0) & (last % 8 == 7) {
+        if first / 8 == last / 8 {
+            return say_octet(line, first);
+        }
+        return say_octets(line, first, last);
+    }
+    if first / 8 == last / 8 {
+        return say_bits(line, first, last);
+    }
+    say_span(line, first, last)
+}
+
+// A field by its start and width. No field of a list lies past bit 2048 or has no bit.
+pub fn say_field(line: Line, start: usize, width: usize) -> Line {
+    if 65535 < start {
+        return say(line, b"nowhere");
+    }
+    if 255 < width {
+        return say(line, b"nowhere");
+    }
+    if width == 0 {
+        return say(line, b"nowhere");
+    }
+    say_run(line, start, start + width - 1)
+}
+
+pub fn say_place(line: Line, kind: usize, start: usize, width: usize) -> Line {
+    say_field(put(say_telegram(line, kind), b' '), start, width)
+}
+
+fn say_list_refusal(line: Line, number: u8) -> Line {
+    match number {
+        1 => say(line, b"list ends inside a count or a section"),
+        2 => say(line, b"count above its limit"),
+        3 => say(line, b"entry breaks its rule"),
+        _ => say(line, b"octets after the routes"),
+    }
+}
+
+fn say_taking_refusal(line: Line, number: u8) -> Line {
+    match number {
+        5 => say(line, b"store not 8,379 octets"),
+        6 => say(line, b"vehicle not 1-63"),
+        7 => say(line, b"R-telegram under 2 octets"),
+        8 => say(line, b"application type not 1"),
+        9 => say(line, b"telegram type not 1-3"),
+        _ => say(line, b"length not the type's"),
+    }
+}
+
+// No program here meets a number above 16.
+fn say_other_refusal(line: Line, number: u8) -> Line {
+    match number {
+        11 => say(line, b"no such signal"),
+        12 => say(line, b"data shorter than a route's end"),
+        13 => say(line, b"values or marks not one per entry"),
+        14 => say(line, b"a written mark above 3"),
+        15 => say(
+            line,
+            b"a written value at or above 2^width, or its code not known",
+        ),
+        16 => say(line, b"output length not the type's"),
+        _ => say(line, b"see the table of refusals"),
+    }
+}
+
+fn say_refusal(line: Line, number: u8) -> Line {
+    if number <= 4 {
+        return say_list_refusal(line, number);
+    }
+    if number <= 10 {
+        return say_taking_refusal(line, number);
+    }
+    say_other_refusal(line, number)
+}
+
+// What a refusal carries: 1-4 an offset, 15 a signal.
+fn say_carried(line: Line, number: u8, carried: usize) -> Line {
+    if number <= 4 {
+        return say_number(say(line, b" at "), carried as u64);
+    }
+    if number == 15 {
+        return say_number(say(line, b" signal "), carried as u64);
+    }
+    line
+}
+
+// `of` says which file of several was refused.
+pub fn print_refused_of(f: Refusal, of: &[u8]) {
+    let number = refusals::number(f);
+    let l = say_number(say(empty(), b"refused "), number as u64);
+    let l = say(say_carried(l, number, refusals::carried(f)), of);
+    print(say_refusal(say(l, b": "), number));
+}
+
+pub fn print_refused(f: Refusal) {
+    print_refused_of(f, b"");
+}

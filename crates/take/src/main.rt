@@ -1,0 +1,113 @@
+// Takes a telegram of a vehicle into a store file, or makes a new store.
+use libc::STDOUT_FILENO;
+use refusals::Outcome;
+use saying::Clock;
+use saying::Number;
+
+fn help() {
+    io::write_all(
+        STDOUT_FILENO,
+        b"take STORE VEHICLE CLOCK TELEGRAM   takes a telegram of a vehicle into a store
+take new STORE                      makes a store in which no vehicle was heard
+
+STORE     the store: 8379 octets, 63 slots of 133
+VEHICLE   1 to 63
+CLOCK     the millisecond counter when the telegram was heard, 0 to 4294967295
+TELEGRAM  the octets of an R1 or R2 (128) or of an R3 (40)
+
+Prints one line, as `taken R1 version 2 vehicle 1 at 5000`. Where nothing was
+taken the line begins with `refused` and the number of document 01, or with
+`error`, and STORE is as it was. The new store is written to STORE.new, which
+then takes the name of STORE; while it is there no other take touches STORE.
+",
+    );
+}
+
+fn make_store() {
+    let store = [0u8; 8379];
+    if saying::make(2, b"STORE", &store) {
+        io::write_all(STDOUT_FILENO, b"made a store, no vehicle heard\n");
+    }
+}
+
+fn print_taken(vehicle: usize, clock: u32, telegram: &[u8]) {
+    if telegram.len() < 2 {
+        return;
+    }
+    let l = saying::say(saying::empty(), b"taken ");
+    let l = saying::say_telegram(l, store::telegram_type(telegram));
+    let l = saying::say_number(
+        saying::say(l, b" version "),
+        store::data_version(telegram) as u64,
+    );
+    let l = saying::say_number(saying::say(l, b" vehicle "), vehicle as u64);
+    saying::print(saying::say_number(saying::say(l, b" at "), clock as u64));
+}
+
+fn take_store(fd: i32, vehicle: usize, clock: u32, telegram: &[u8], store: &mut [u8]) {
+    let outcome = store::take(store, vehicle, clock, telegram);
+    match outcome {
+        Outcome::Refused(f) => {
+            saying::drop_new(1, fd);
+            saying::print_refused(f);
+        }
+        Outcome::Done => {
+            if saying::commit(1, b"STORE", fd, store) {
+                print_taken(vehicle, clock, telegram);
+            }
+        }
+    }
+}
+
+// The store is read and replaced while STORE.new, open as fd, keeps other takes away.
+fn take_into(fd: i32, vehicle: usize, clock: u32, telegram: &[u8]) {
+    let mut store = [0u8; 8380];
+    let s = saying::read(1, b"STORE", &mut store);
+    if !s.ok {
+        saying::drop_new(1, fd);
+        return;
+    }
+    let n = s.octets;
+    take_store(fd, vehicle, clock, telegram, &mut store[..n]);
+}
+
+fn take_words() {
+    let Number::Is(vehicle) = saying::number_argument(2, b"VEHICLE", 4294967295) else {
+        return;
+    };
+    let Clock::At(clock) = saying::clock_argument(3) else {
+        return;
+    };
+    let mut telegram = [0u8; 129];
+    let t = saying::read(4, b"TELEGRAM", &mut telegram);
+    if !t.ok {
+        return;
+    }
+    let n = t.octets;
+    let fd = saying::begin(1, b"STORE");
+    if fd < 0 {
+        return;
+    }
+    take_into(fd, vehicle as usize, clock, &telegram[..n]);
+}
+
+fn main() {
+    let n = os::arg_count();
+    if n < 2 {
+        help();
+        return;
+    }
+    if (n == 2) & saying::is_word(1, b"help") {
+        help();
+        return;
+    }
+    if (n == 3) & saying::is_word(1, b"new") {
+        make_store();
+        return;
+    }
+    if n == 5 {
+        take_words();
+        return;
+    }
+    saying::print_usage(b"take STORE VEHICLE CLOCK TELEGRAM, or take new STORE");
+}

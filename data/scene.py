@@ -1,0 +1,111 @@
+#!/usr/bin/env python3
+"""Writes the telegrams of scene/, a short train at work, packed from signals.csv alone. data/README.md says what they are for.
+
+    data/scene.py            writes them, and for the first the values file that `compose` makes it from
+    data/scene.py --check    only says whether they are as they would be written
+"""
+import csv
+import os
+import sys
+
+HERE = os.path.dirname(os.path.abspath(__file__))
+ERROR, OK, FORCED = 0, 1, 2
+LENGTHS = {"R1": 128, "R2": 128, "R3": 40}
+HEADS = {"R1": 0x11, "R2": 0x12, "R3": 0x13}
+# every check place printed in Appendix B
+CHECKS = list(range(16, 64, 2)) + list(range(320, 368, 2))
+
+# what every vehicle of the train says (R3, start: value): set up, train line on, battery charged, lighting on, both door sides locked,
+# brakes released, main reservoir pipe filled, towards vehicle 01 at 160 km/h, and the time 1 789 459 200 s
+COMMON = {64: 1, 79: 1, 80: 160 * 64, 96: 1789459200 << 16, 144: 1, 147: 1, 148: 1, 156: 1, 157: 1, 176: 1, 178: 1, 180: 1, 186: 1}
+
+# vehicle 1, the leading tractive unit, with software for coach-next.list: it says 2 in octet 48 bits 4-7, which coach.list does not know,
+# and fills octet 66 bits 4-7, which is blocked in coach.list
+LEADING = {
+    "R3": {**COMMON, 65: 1, 66: 1, 68: 1},
+    "R1": {372: 1, 376: 2, 378: 2, 380: 2, 384: 8192, 400: 160 * 64, 416: 1, 424: 3, 428: 4, 432: 6000, 448: 2, 450: 2, 458: 2,
+           464: 1, 492: 2, 524: 2, 546: 1},
+}
+# vehicle 2, a led tractive unit of version 2
+LED = {
+    "R3": {**COMMON, 69: 1},
+    "R2": {368: 1, 369: 1, 372: 1, 373: 1, 376: 2, 378: 2, 380: 1, 384: 8192, 400: 7000, 416: 3, 420: 2, 424: 1, 425: 1, 432: 2500, 448: 250,
+           456: 1, 458: 2, 480: 12000, 496: 9000, 512: 1, 524: 0},
+}
+# vehicle 3, a coach that was last heard long ago; its right doors are not locked
+COACH = {"R3": {**COMMON, 157: 0, 72: 1, 73: 1}}
+
+
+def added():
+    """The signal that coach-next.list adds."""
+    return {"telegram": "R1", "start": "524", "width": "4", "check": "338", "known_codes": "0-3"}
+
+
+def signals(with_added):
+    with open(os.path.join(HERE, "signals.csv"), newline="") as f:
+        rows = list(csv.DictReader(f)) + ([added()] if with_added else [])
+    order = {"R3": 0, "R1": 1, "R2": 2}
+    return sorted(rows, key=lambda r: (order[r["telegram"]], int(r["start"])))
+
+
+def lowest(row):
+    return 0 if row["known_codes"] == "all" else int(row["known_codes"].split(";")[0].split("-")[0])
+
+
+def said(row, values):
+    return values.get(row["telegram"], {}).get(int(row["start"]), lowest(row))
+
+
+def set_bits(octets, start, width, value):
+    """Bit 0 of an octet is its most significant; the first bit of a field is the most significant of its value."""
+    assert value < 1 << width, (start, width, value)
+    for i in range(width):
+        if value >> (width - 1 - i) & 1:
+            octets[(start + i) // 8] |= 0x80 >> (start + i) % 8
+
+
+def telegram(kind, version, values, marks=(), with_added=False):
+    octets = bytearray(LENGTHS[kind])
+    octets[0], octets[1] = HEADS[kind], version
+    for row in signals(with_added):
+        if row["telegram"] in ("R3", kind):
+            set_bits(octets, int(row["start"]), int(row["width"]), said(row, values))
+    for place in CHECKS:
+        if place + 2 <= 8 * len(octets):
+            set_bits(octets, place, 2, dict(marks).get(place, OK))
+    return bytes(octets)
+
+
+def values_file(kind, values):
+    lines = [f"# vehicle 1 of data/scene, an {kind} under data/coach-next.list: what is not given is the list's replacement, marked ok"]
+    for k, row in enumerate(signals(True)):
+        if row["telegram"] in ("R3", kind) and int(row["start"]) in values.get(row["telegram"], {}):
+            lines.append(f"value {k} {said(row, values)}   # {row['telegram']} octet {int(row['start']) // 8 + 1}")
+    lines.append("mark 28 forced   # octet 41 bits 6-7: brakes")
+    return ("\n".join(lines) + "\n").encode()
+
+
+def main():
+    os.makedirs(os.path.join(HERE, "scene"), exist_ok=True)
+    files = {
+        "1-R1.telegram": telegram("R1", 3, LEADING, {326: FORCED}, True),
+        "1-R1.values": values_file("R1", LEADING),
+        "2-R2.telegram": telegram("R2", 2, LED, {324: FORCED, 330: ERROR}),
+        "3-R3.telegram": telegram("R3", 1, COACH),
+    }
+    bad = 0
+    for name, octets in files.items():
+        path = os.path.join(HERE, "scene", name)
+        if "--check" in sys.argv:
+            if not os.path.exists(path) or open(path, "rb").read() != octets:
+                print(f"scene/{name} is not what scene.py writes")
+                bad = 1
+        else:
+            with open(path, "wb") as f:
+                f.write(octets)
+            print(f"scene/{name}: {len(octets)} octets")
+    return bad
+
+
+if __name__ == "__main__":
+    sys.exit(main())

@@ -1,0 +1,367 @@
+#!/usr/bin/env python3
+"""The table of the main programs' runs: the words, what is printed, and which files change. Run from the root, after the programs are built.
+
+    runs/programs.py            runs the table
+    runs/programs.py --write    writes expected/*.txt anew from what the programs print, to be read before it is kept
+"""
+import os
+import resource
+import shutil
+import signal
+import subprocess
+import sys
+import tempfile
+
+import judge as lists
+
+ROOT = os.path.dirname(os.path.dirname(os.path.abspath(__file__)))
+EXPECTED = os.path.join(ROOT, "runs", "expected")
+CLOCK = "9000"
+MOST = "not a whole number from 0 to 4294967295"
+NO_FILE = "no such file or folder"
+BUSY = "exists: another program is at work, or was cut short and left it"
+
+
+def data(name):
+    with open(os.path.join(ROOT, "data", name), "rb") as f:
+        return f.read()
+
+
+def slot(clock, telegram):
+    return b"\1" + clock.to_bytes(4, "big") + telegram + bytes(128 - len(telegram))
+
+
+R1, R2, R3 = data("scene/1-R1.telegram"), data("scene/2-R2.telegram"), data("scene/3-R3.telegram")
+NEW = bytes(8379)
+TRAIN = slot(6000, R1) + slot(7500, R2) + slot(1000, R3) + bytes(60 * 133)
+FULL = slot(5000, R1) * 63
+
+# a field across octets, one of a whole octet and one of two; and the same places with another width, another limit and one signal less
+ACROSS = lists.pack([], [lists.signal(372, 12), lists.signal(384, 8), lists.signal(400, 16)], [], [lists.route(0, 1, 4), lists.route(1, 1, 16)])
+ACROSS_2 = lists.pack([], [lists.signal(372, 11), lists.signal(384, 8, limit=600000, replacement=7)])
+
+FILES = {
+    "coach.list": data("coach.list"), "next.list": data("coach-next.list"), "L.list": lists.L, "across.list": ACROSS, "across-2.list": ACROSS_2,
+    "ends.list": lists.L[:-1], "above.list": b"\xff\xff", "broken.list": lists.pack([lists.check(17)]), "more.list": lists.L + b"\0",
+    "huge.list": lists.LONGEST + bytes(1000), "longest.list": lists.LONGEST,
+    "r1": R1, "r2": R2, "r3": R3, "values": data("scene/1-R1.values"),
+    "empty": b"", "one": b"\x11", "app": b"\x21" + R1[1:], "kind": b"\x14" + R1[1:], "r1-127": R1[:127], "r1-129": R1 + b"\0", "r3-128": R3 + bytes(88),
+    "train": TRAIN, "full": FULL, "store-1": NEW[1:], "store+1": NEW + b"\0", "store": NEW, "locked": NEW, "locked.new": b"left\n",
+    "bus": b"\xff" * 20, "bus-17": b"\xff" * 17, "bus-18": b"\xff" * 18, "bus-4096": b"\xff" * 4096, "bus-4097": bytes(4097),
+}
+
+
+class Expect:
+    """What a run prints, by a file of expected/, and the files that it changes."""
+
+    def __init__(self, text=None, file=None, **changes):
+        self.text, self.file = text, file
+        self.changes = {name.replace("_", "-"): octets for name, octets in changes.items()}
+
+
+def says(line, **changes):
+    return Expect(text=line + "\n", **changes)
+
+
+def as_in(file, **changes):
+    return Expect(file=file, **changes)
+
+
+def error(line):
+    return says("error: " + line)
+
+
+def refused(line):
+    return says("refused " + line)
+
+
+def no_number(name, words, i, bad=("", "x", "-1", "+1", "1.0", " 1", "1 ", "0x1", "4294967296", "18446744073709551616", "9" * 60)):
+    """The words with each of the bad numbers in place i."""
+    for b in bad:
+        yield words[:i] + [b] + words[i + 1:], error(f"{name} '{b}': {MOST}")
+
+
+def no_list(words, i, name="LIST", of=""):
+    """The words with each bad list in place i."""
+    for file, line in (
+        ("ends.list", f"1 at 36{of}: list ends inside a count or a section"), ("empty", f"1 at 0{of}: list ends inside a count or a section"),
+        ("above.list", f"2 at 0{of}: count above its limit"), ("broken.list", f"3 at 2{of}: entry breaks its rule"),
+        ("more.list", f"4 at 44{of}: octets after the routes"), ("huge.list", f"4 at 10376{of}: octets after the routes"),
+    ):
+        yield words[:i] + [file] + words[i + 1:], refused(line)
+    yield from no_file(name, words, i)
+
+
+def no_file(name, words, i):
+    """The words with each name in place i under which no file can be read."""
+    for file, why in (("none", NO_FILE), ("none/x", NO_FILE), ("", NO_FILE), ("folder", "is a folder"), ("r1/x", "not in a folder")):
+        yield words[:i] + [file] + words[i + 1:], error(f"{name} '{file}': {why}")
+
+
+def usage(program, words, text):
+    for n in (1, 2, 3, 4, 5, 6, 7, 8):
+        if n not in words:
+            yield [program] + ["1"] * n, error("usage: " + text)
+    yield [program, "help", "1"], error("usage: " + text)
+
+
+def take_table():
+    words = ["take", "store", "1", "5000", "r1"]
+    yield ["take"], as_in("take-help")
+    yield ["take", "help"], as_in("take-help")
+    yield from usage("take", (4,), "take STORE VEHICLE CLOCK TELEGRAM, or take new STORE")
+    yield ["take", "new", "made"], says("made a store, no vehicle heard", made=NEW)
+    yield ["take", "new", "store"], error("STORE 'store': exists already")
+    yield ["take", "new", "folder"], error("STORE 'folder': exists already")
+    yield ["take", "new", "none/x"], error("STORE 'none/x': " + NO_FILE)
+    yield ["take", "new", ""], error("STORE '': " + NO_FILE)
+    yield words, says("taken R1 version 3 vehicle 1 at 5000", store=slot(5000, R1) + NEW[133:])
+    yield ["take", "store", "2", "0", "r2"], says("taken R2 version 2 vehicle 2 at 0", store=NEW[:133] + slot(0, R2) + NEW[266:])
+    yield ["take", "store", "63", "4294967295", "r3"], says("taken R3 version 1 vehicle 63 at 4294967295", store=NEW[:-133] + slot(4294967295, R3))
+    yield ["take", "full", "7", "7", "r3"], says("taken R3 version 1 vehicle 7 at 7", full=FULL[:798] + slot(7, R3) + FULL[931:])
+    yield ["take", "store", "007", "7", "r3"], says("taken R3 version 1 vehicle 7 at 7", store=NEW[:798] + slot(7, R3) + NEW[931:])
+    yield ["take", "store-1", "99", "1", "one"], refused("5: store not 8,379 octets")
+    yield ["take", "store+1", "1", "1", "r1"], refused("5: store not 8,379 octets")
+    yield ["take", "store", "0", "1", "one"], refused("6: vehicle not 1-63")
+    yield ["take", "store", "64", "1", "r1"], refused("6: vehicle not 1-63")
+    yield ["take", "store", "4294967295", "1", "r1"], refused("6: vehicle not 1-63")
+    yield ["take", "store", "1", "1", "empty"], refused("7: R-telegram under 2 octets")
+    yield ["take", "store", "1", "1", "one"], refused("7: R-telegram under 2 octets")
+    yield ["take", "store", "1", "1", "app"], refused("8: application type not 1")
+    yield ["take", "store", "1", "1", "kind"], refused("9: telegram type not 1-3")
+    for telegram in ("r1-127", "r1-129", "r3-128"):
+        yield ["take", "store", "1", "1", telegram], refused("10: length not the type's")
+    yield from no_number("VEHICLE", words, 2)
+    yield from no_number("CLOCK", words, 3)
+    yield ["take", "store", "1\n2", "1", "r1"], error(f"VEHICLE '1?2': {MOST}")
+    yield from no_file("TELEGRAM", words, 4)
+    yield ["take", "none", "1", "1", "r1"], error("STORE 'none': " + NO_FILE)
+    yield ["take", "folder", "1", "1", "r1"], error("STORE 'folder': is a folder")
+    yield ["take", "", "1", "1", "r1"], error("STORE '.new': " + NO_FILE)
+    yield ["take", "locked", "1", "1", "r1"], error("STORE 'locked.new': " + BUSY)
+    yield ["take", "a" * 300, "1", "1", "r1"], error("STORE '" + "a" * 100 + "...new': cannot be used")
+
+
+def believe_table():
+    words = ["believe", "coach.list", "train", CLOCK, "1", "94"]
+    yield ["believe"], as_in("believe-help")
+    yield ["believe", "help"], as_in("believe-help")
+    yield from usage("believe", (3, 4, 5), "believe LIST STORE CLOCK [VEHICLE [SIGNAL]]")
+    yield words[:4], as_in("believe-train")
+    yield ["believe", "next.list", "train", CLOCK], as_in("believe-train-next")
+    yield ["believe", "coach.list", "train", "6000", "3"], as_in("believe-old-version")
+    yield ["believe", "across.list", "train", CLOCK], as_in("believe-across")
+    yield ["believe", "coach.list", "store", CLOCK], says("never heard: 1-63")
+    yield ["believe", "L.list", "store", CLOCK, "5"], as_in("believe-never")
+    yield ["believe", "L.list", "full", CLOCK], as_in("believe-full")
+    yield words, says("vehicle 1: R1 version 3 age 3000 ms\n 1   94  R1 octet 54 bits 0-3                  3  0 live ok")
+    yield ["believe", "L.list", "train", "5999", "1", "0"], says("vehicle 1: R1 version 3 age 4294967295 ms\n 1    0  R1 octet 54 bits 0-3                  0  3 too old")
+    yield ["believe", "coach.list", "train", CLOCK, "0"], refused("6: vehicle not 1-63")
+    yield ["believe", "coach.list", "train", CLOCK, "64", "999"], refused("6: vehicle not 1-63")
+    yield ["believe", "coach.list", "train", CLOCK, "1", "165"], refused("11: no such signal")
+    yield ["believe", "coach.list", "store-1", CLOCK, "64", "999"], refused("5: store not 8,379 octets")
+    yield ["believe", "coach.list", "store+1", CLOCK], refused("5: store not 8,379 octets")
+    yield from no_list(["believe", "L.list", "store-1", CLOCK, "64"], 1)
+    yield from no_file("STORE", words, 2)
+    yield from no_number("CLOCK", words, 3)
+    yield from no_number("VEHICLE", words, 4)
+    yield from no_number("SIGNAL", words, 5)
+
+
+def differ_table():
+    words = ["differ", "coach.list", "next.list", "train", CLOCK, "1"]
+    yield ["differ"], as_in("differ-help")
+    yield ["differ", "help"], as_in("differ-help")
+    yield from usage("differ", (4, 5), "differ LIST LIST STORE CLOCK [VEHICLE]")
+    yield words[:5], as_in("differ-train")
+    yield ["differ", "next.list", "coach.list", "train", CLOCK, "2"], as_in("differ-turned")
+    yield ["differ", "across.list", "across-2.list", "train", "12000"], as_in("differ-widths")
+    yield ["differ", "L.list", "L.list", "store", CLOCK, "63"], as_in("differ-never")
+    yield ["differ", "coach.list", "next.list", "train", CLOCK, "64"], refused("6: vehicle not 1-63")
+    yield ["differ", "coach.list", "next.list", "store+1", CLOCK, "64"], refused("5: store not 8,379 octets")
+    yield ["differ", "broken.list", "ends.list", "store+1", CLOCK], refused("3 at 2 of the first list: entry breaks its rule")
+    yield from no_list(["differ", "L.list", "L.list", "store-1", CLOCK], 1, "first LIST", " of the first list")
+    yield from no_list(["differ", "L.list", "L.list", "store-1", CLOCK], 2, "second LIST", " of the second list")
+    yield from no_file("STORE", words, 3)
+    yield from no_number("CLOCK", words, 4)
+    yield from no_number("VEHICLE", words, 5)
+
+
+def marshal_table():
+    words = ["marshal", "coach.list", "train", CLOCK, "bus"]
+    routed = bytes.fromhex("F334 2000 2800 3F FF 1B58 2800 000000000000")
+    yield ["marshal"], as_in("marshal-help")
+    yield ["marshal", "help"], as_in("marshal-help")
+    yield from usage("marshal", (4,), "marshal LIST STORE CLOCK DATA [routes]")
+    yield words + ["route"], error("usage: marshal LIST STORE CLOCK DATA [routes]")
+    yield words, says("marshalled 14 routes, 11 live", bus=routed + b"\xff\xff")
+    yield words + ["routes"], as_in("marshal-routes", bus=routed + b"\xff\xff")
+    yield words[:4] + ["bus-18"], says("marshalled 14 routes, 11 live", bus_18=routed)
+    yield ["marshal", "next.list", "train", CLOCK, "bus"], says("marshalled 14 routes, 10 live", bus=routed[:1] + b"\xf4" + routed[2:] + b"\xff\xff")
+    yield ["marshal", "coach.list", "store", CLOCK, "bus"], says("marshalled 14 routes, 0 live", bus=b"\x03\x00" + bytes(4) + b"\x0f\xff" + bytes(10) + b"\xff\xff")
+    yield ["marshal", "across.list", "train", CLOCK, "bus", "routes"], as_in("marshal-across", bus=b"\xf8\xa2\x20" + b"\xff" * 17)
+    yield ["marshal", "longest.list", "full", CLOCK, "bus-4096"], says("marshalled 512 routes, 0 live", bus_4096=bytes(256) + b"\xff" * 3840)
+    yield words[:4] + ["bus-17"], refused("12: data shorter than a route's end")
+    yield words[:4] + ["empty"], refused("12: data shorter than a route's end")
+    yield ["marshal", "coach.list", "store-1", CLOCK, "empty"], refused("5: store not 8,379 octets")
+    yield words[:4] + ["bus-4097"], error("DATA 'bus-4097': more than 4096 octets")
+    yield words[:4] + ["none"], error("DATA 'none': " + NO_FILE)
+    yield words[:4] + ["folder"], error("DATA 'folder': is a folder")
+    yield words[:4] + ["locked"], error("DATA 'locked.new': " + BUSY)
+    yield words[:4] + ["none/x"], error("DATA 'none/x.new': " + NO_FILE)
+    yield from no_list(["marshal", "L.list", "store-1", CLOCK, "none"], 1)
+    yield from no_file("STORE", words, 2)
+    yield from no_number("CLOCK", words, 3)
+
+
+def values(**files):
+    return {name.replace("_", "-"): text.encode() for name, text in files.items()}
+
+
+VALUES = values(
+    v_L="\n  # a comment\n\tvalue 0 4 # 25 kV\r\nmark 1 forced", v_last="value 0 99\nvalue 0 4\nmark 1 0\nmark 1 2\n", v_wide="value 0 16\n", v_unknown="value 0 7\n",
+    v_mark="mark 1 4\n", v_mark_words="mark 1 good\n", v_mark_256="mark 1 256\n", v_signal="value 1 0\n", v_signal_word="\nvalue x 0\n", v_check="mark 2 ok\n",
+    v_check_0="mark 0 ok\n", v_word="vale 0 4\n", v_few="value 0\n", v_many="value 0 4 5\n", v_value="value 0 -1\n", v_large="value 0 18446744073709551616\n",
+    v_most="value 0 18446744073709551615\n", v_both="mark 1 4\nvalue 0 16\n", v_long="#" * 65537, v_65536="#" * 65536, v_zero="value 90 3\n",
+)
+
+
+def compose_table():
+    def line(file, n, what):
+        return ["compose", "L.list", "R1", file, "out"], error(f"VALUES '{file}' line {n}: {what}")
+
+    words = ["compose", "next.list", "R1", "values", "out"]
+    neither = "neither `value SIGNAL VALUE` nor `mark CHECK MARK`"
+    forced = bytes.fromhex("1101") + bytes(38) + b"\x20" + bytes(12) + b"\x40" + bytes(74)
+    plain = bytes.fromhex("1101") + bytes(38) + b"\x10" + bytes(87)
+    yield ["compose"], as_in("compose-help")
+    yield ["compose", "help"], as_in("compose-help")
+    yield from usage("compose", (4,), "compose LIST TYPE VALUES OUT")
+    yield words, says("composed R1 version 3 octets 128", out=R1)
+    yield words[:2] + ["1", "values", "bus"], says("composed R1 version 3 octets 128", bus=R1)
+    yield ["compose", "L.list", "R1", "v-L", "out"], says("composed R1 version 1 octets 128", out=forced)
+    yield ["compose", "L.list", "R1", "v-last", "out"], says("composed R1 version 1 octets 128", out=forced)
+    yield ["compose", "L.list", "R1", "empty", "out"], says("composed R1 version 1 octets 128", out=plain)
+    yield ["compose", "L.list", "R1", "v-65536", "out"], says("composed R1 version 1 octets 128", out=plain)
+    yield ["compose", "L.list", "R3", "v-wide", "out"], says("composed R3 version 1 octets 40", out=b"\x13\x01" + bytes(38))
+    yield ["compose", "L.list", "R2", "v-unknown", "out"], says("composed R2 version 1 octets 128", out=b"\x12\x01" + plain[2:])
+    yield ["compose", "L.list", "4", "v-both", "out"], refused("9: telegram type not 1-3")
+    yield ["compose", "L.list", "0", "empty", "out"], refused("9: telegram type not 1-3")
+    yield ["compose", "L.list", "R1", "v-mark", "out"], refused("14: a written mark above 3")
+    yield ["compose", "L.list", "R1", "v-both", "out"], refused("14: a written mark above 3")
+    for file in ("v-wide", "v-unknown", "v-most"):
+        yield ["compose", "L.list", "R1", file, "out"], refused("15 signal 0: a written value at or above 2^width, or its code not known")
+    yield ["compose", "coach.list", "R1", "v-zero", "out"], refused("15 signal 90: a written value at or above 2^width, or its code not known")
+    yield line("v-word", 1, neither)
+    yield line("v-many", 1, neither)
+    yield line("v-few", 1, "value not a whole number below 2^64")
+    yield line("v-value", 1, "value not a whole number below 2^64")
+    yield line("v-large", 1, "value not a whole number below 2^64")
+    yield line("v-signal", 1, "no such signal")
+    yield line("v-signal-word", 2, "no such signal")
+    yield line("v-check", 1, "no such check")
+    yield line("v-check-0", 1, "no such check")
+    yield line("v-mark-words", 1, "mark not error, ok, forced, undefined or 0 to 255")
+    yield line("v-mark-256", 1, "mark not error, ok, forced, undefined or 0 to 255")
+    yield line("r1", 1, neither)
+    yield ["compose", "L.list", "R1", "v-long", "out"], error("VALUES 'v-long': more than 65536 octets")
+    yield ["compose", "L.list", "R4", "v-word", "out"], error("TYPE 'R4': not R1, R2 or R3")
+    yield ["compose", "L.list", "", "v-word", "out"], error("TYPE '': not R1, R2 or R3")
+    yield words[:4] + ["locked"], error("OUT 'locked.new': " + BUSY)
+    yield words[:4] + ["none/x"], error("OUT 'none/x.new': " + NO_FILE)
+    yield words[:4] + ["folder"], error("OUT 'folder.new': cannot be written")
+    yield from no_list(["compose", "L.list", "R1", "v-word", "out"], 1)
+    yield from no_file("VALUES", words, 3)
+
+
+def fill(folder):
+    os.mkdir(os.path.join(folder, "folder"))
+    for name, octets in {**FILES, **VALUES}.items():
+        with open(os.path.join(folder, name), "wb") as f:
+            f.write(octets)
+
+
+def held(folder):
+    out = {}
+    for name in os.listdir(folder):
+        path = os.path.join(folder, name)
+        if os.path.isfile(path):
+            with open(path, "rb") as f:
+                out[name] = f.read()
+    return out
+
+
+def small_files():
+    """A file may have 64 octets, and a write past that fails."""
+    signal.signal(signal.SIGXFSZ, signal.SIG_IGN)
+    resource.setrlimit(resource.RLIMIT_FSIZE, (64, 64))
+
+
+def run(folder, words, before=None):
+    done = subprocess.run([os.path.join(ROOT, "run")] + words, cwd=folder, stdout=subprocess.PIPE, stderr=subprocess.STDOUT, timeout=60, preexec_fn=before)
+    return done.stdout.decode(), done.returncode
+
+
+def put_back(folder, files):
+    for name in set(held(folder)) | set(files):
+        path = os.path.join(folder, name)
+        if name not in files:
+            os.remove(path)
+        else:
+            with open(path, "wb") as f:
+                f.write(files[name])
+
+
+def wrong(folder, words, expect, write, before=None):
+    """What is wrong with a run; an empty list where nothing is. The files are put back."""
+    files = {**FILES, **VALUES}
+    printed, status = run(folder, words, before)
+    if expect.file and write:
+        with open(os.path.join(EXPECTED, expect.file + ".txt"), "w") as f:
+            f.write(printed)
+    if expect.file:
+        with open(os.path.join(EXPECTED, expect.file + ".txt")) as f:
+            expect.text = f.read()
+    found = []
+    if printed != expect.text:
+        found.append(f"expected {expect.text!r}, got {printed!r}")
+    first = expect.text.split(" ")[0].rstrip(":")
+    if status != {"refused": 1, "error": 2}.get(first, 0):
+        found.append(f"exit status {status}")
+    now = held(folder)
+    then = {**files, **expect.changes}
+    if now != then:
+        found.append("files changed: " + ", ".join(sorted(n for n in set(now) | set(then) if now.get(n) != then.get(n))))
+        put_back(folder, files)
+    elif expect.changes:
+        put_back(folder, files)
+    return found
+
+
+def main():
+    write = "--write" in sys.argv
+    count = bad = 0
+    folder = tempfile.mkdtemp()
+    try:
+        fill(folder)
+        tables = [row for table in (take_table, believe_table, differ_table, marshal_table, compose_table) for row in table()]
+        failing = [
+            (["take", "store", "1", "5000", "r1"], error("STORE 'store.new': cannot be written")),
+            (["take", "new", "made"], error("STORE 'made': cannot be written")),
+            (["marshal", "L.list", "train", CLOCK, "bus-4096"], error("DATA 'bus-4096.new': cannot be written")),
+            (["compose", "L.list", "R1", "v-L", "out"], error("OUT 'out.new': cannot be written")),
+            (["compose", "L.list", "R1", "v-L", "bus"], error("OUT 'bus.new': cannot be written")),
+        ]
+        for words, expect, before in [(w, e, None) for w, e in tables] + [(w, e, small_files) for w, e in failing]:
+            count += 1
+            for what in wrong(folder, words, expect, write, before):
+                print(f"{' '.join(words)!r}: {what[:2000]}")
+                bad += 1
+    finally:
+        shutil.rmtree(folder)
+    print(f"programs: {count} runs, {bad} wrong")
+    return 1 if bad else 0
+
+
+if __name__ == "__main__":
+    sys.exit(main())
