@@ -1,5 +1,5 @@
 #!/usr/bin/env python3
-"""Writes the telegrams of scene/, a short train at work, packed from signals.csv alone. data/README.md says what they are for.
+"""Writes the telegrams of scene/, a short train at work, packed from signals.csv alone. scene/README.md says what they are for.
 
     data/scene.py            writes them, and for the first the values file that `compose` makes it from
     data/scene.py --check    only says whether they are as they would be written

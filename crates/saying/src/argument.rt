@@ -99,22 +99,23 @@ pub fn say_argument(line: Line, i: usize, behind: &[u8]) -> Line {
     put(say(say_shown(l, &word[..n]), behind), b'\'')
 }
 
-fn say_word(i: usize, name: &[u8]) -> Line {
+// The error line on argument i, up to what is wrong with it.
+pub fn say_error(i: usize, name: &[u8], behind: &[u8]) -> Line {
     let l = put(say(say(empty(), b"error: "), name), b' ');
-    say(say_argument(l, i, b""), b": ")
+    say(say_argument(l, i, behind), b": ")
 }
 
 // The error line for argument i, which is not what it has to be.
 pub fn print_word(i: usize, name: &[u8], what: &[u8]) {
-    print(say(say_word(i, name), what));
+    print(say(say_error(i, name, b""), what));
 }
 
 // Argument i as a number; where it is none, an error line names it.
 pub fn number_argument(i: usize, name: &[u8], most: u64) -> Number {
     let n = number_of(i, most);
     if let Number::Not = n {
-        let l = say(say_word(i, name), b"not a whole number from 0 to ");
-        print(say_number(l, most));
+        let l = say_error(i, name, b"");
+        print(say_number(say(l, b"not a whole number from 0 to "), most));
     }
     n
 }

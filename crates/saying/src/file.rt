@@ -1,10 +1,8 @@
 // The files that a program's arguments name, read whole and replaced whole.
 ghost use Rattle.io.specs.Counts.{Counts};
-use crate::argument::say_argument;
+use crate::argument::say_error;
 use crate::line::Line;
-use crate::line::empty;
 use crate::line::print;
-use crate::line::put;
 use crate::line::say;
 use crate::line::say_number;
 
@@ -47,17 +45,14 @@ fn say_why(line: Line, error: i32) -> Line {
     say(line, b"cannot be used")
 }
 
-// An error line on the file of argument i; `name` is the argument's, `behind` what stands behind the file's name.
+// `behind` is what stands behind the file's name.
 fn print_error(i: usize, name: &[u8], behind: &[u8], error: i32) {
-    let l = put(say(say(empty(), b"error: "), name), b' ');
-    let l = say(say_argument(l, i, behind), b": ");
-    print(say_why(l, error));
+    print(say_why(say_error(i, name, behind), error));
 }
 
-// The same for a file that is longer than it can be.
+// The error line for a file that is longer than it can be.
 pub fn print_long(i: usize, name: &[u8], most: u64) {
-    let l = put(say(say(empty(), b"error: "), name), b' ');
-    let l = say_number(say(say_argument(l, i, b""), b": more than "), most);
+    let l = say_number(say(say_error(i, name, b""), b"more than "), most);
     print(say(l, b" octets"));
 }
 
@@ -183,14 +178,18 @@ fn busy(error: i32) -> i32 {
 
 // Ends what `begin` began: the new file takes the old one's name once all octets are written. Otherwise the old one stays as it was.
 pub fn commit(i: usize, name: &[u8], fd: i32, octets: &[u8]) -> bool {
-    if write_closed(fd, octets) {
-        if rename_new(i) {
-            return true;
-        }
+    if !write_closed(fd, octets) {
+        remove_new(i);
+        print_error(i, name, b".new", UNWRITTEN);
+        return false;
     }
-    remove_new(i);
-    print_error(i, name, b".new", UNWRITTEN);
-    false
+    if !rename_new(i) {
+        let error = os::errno();
+        remove_new(i);
+        print_error(i, name, b"", error);
+        return false;
+    }
+    true
 }
 
 // Ends what `begin` began, with the old file as it was.
