@@ -4,7 +4,7 @@ ghost use Rattle.paper.proofs.ListLaws.{Laid};
 ghost use Rattle.lists.specs.Judged.{countsOf};
 ghost use Rattle.saying.specs.Ready.{Ready, IsVehicle};
 use entries::Signal;
-use gateway::Reading;
+use reading::Reading;
 use libc::STDOUT_FILENO;
 use lists::Counts;
 use lists::Judged;
@@ -65,7 +65,7 @@ fn one_signal(
     requires { ⌜ (Ready (now list) (countsOf n) (now store)) × (IsVehicle vehicle) × (k < n .signals) ⌝ }
 {
     let s = saying::signal(list, n, k);
-    let r = gateway::read_at(list, n, store, clock, vehicle, k);
+    let r = reading::read_at(list, n, store, clock, vehicle, k);
     print_signal(vehicle, k, s, r);
     saying::count_reason(totals, r.reason)
 }

@@ -69,7 +69,7 @@ fn side_at(list: &[u8], n: Counts, store: &[u8], clock: u32, vehicle: usize, k: 
         return missing();
     }
     let s = saying::signal(list, n, k);
-    let r = gateway::read_at(list, n, store, clock, vehicle, k);
+    let r = reading::read_at(list, n, store, clock, vehicle, k);
     Side {
         there: true,
         kind: s.kind,

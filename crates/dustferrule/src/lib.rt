@@ -20,14 +20,14 @@ ghost use Rattle.lists.specs.Judged.{judgedAnswer};
 ghost use Rattle.extending.specs.Extending.{extendsAnswer};
 ghost use Rattle.marshalling.specs.Marshalling.{liveAnswer};
 ghost use Rattle.grouping.specs.Place.{placeAnswer};
-ghost use Rattle.gateway.specs.Reading.{readAnswer};
+ghost use Rattle.reading.specs.Reading.{readAnswer};
 ghost use Rattle.shown.specs.Show.{kindOf, shownOf, showingAnswer};
 ghost use Rattle.train.specs.Marks.{vehicleOf, resolvedAnswer};
 ghost use Rattle.etelegrams.specs.Answers.{eReadAnswer};
 ghost use Rattle.dustferrule.specs.Results.{yesNo, floatOf, outcomeC, judgedC, extendingC, livesC, placeC, readingC, shownC, membersC, eReadC, WrittenC, DeliveredC};
 use etelegrams::ERead;
 use extending::ExtendsOutcome;
-use gateway::ReadOutcome;
+use reading::ReadOutcome;
 use grouping::Place;
 use lists::Judged;
 use marshalling::Marshalled;
@@ -347,7 +347,7 @@ pub extern "C" fn df_read(
 ) -> DfReading
     ensures { λ r. ⌜ r ≡ readingC (reading (now (list .entry)) (now (store .entry)) clock vehicle signal) ⌝ }
 {
-    reading_c(gateway::read(list, store, clock, vehicle as usize, signal as usize))
+    reading_c(reading::read(list, store, clock, vehicle as usize, signal as usize))
 }
 
 #[no_mangle]

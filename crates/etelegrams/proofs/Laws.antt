@@ -11,12 +11,16 @@ use native.Mathlib.Numerals.{add-one}
 use lib.ListN.{length, getD, take, set, length-append}
 use lib.Seq.{set-split, getD-append-add}
 use borrow.Author.Tests.{eq-eqb, ne-eqb, eqb-true, ltb-true, ltb-false, not-true, not-false}
-use Rattle.paper.specs.Answer.{Answer, gives, refuseIf, andThen}
+use Rattle.paper.specs.Answer.{Answer, gives, refused, refuseIf, andThen}
 use Rattle.paper.specs.Octets.{octet, number, octetsOf, over}
 use Rattle.paper.specs.First.{all, firstBad, firstFrom}
 use Rattle.paper.specs.ETelegrams.{requests, reportTo, isRequest, isReport, eCode, EReading, eReading, answerTo, answering}
-use Rattle.paper.proofs.AnswerLaws.{not-refused, and-then, gives-one}
+use Rattle.paper.proofs.AnswerLaws.{not-refused, and-then, gives-one, one-answer}
 use Rattle.paper.proofs.NumberLaws.{number-two, number-back, number-octetsOf-front, length-octetsOf, part-over, length-over, over-over}
+use Rattle.refusals.proofs.Laws.{numbered, numbered-of}
+use Rattle.etelegrams.specs.declared.ERead.{ERead}
+use Rattle.etelegrams.specs.declared.ERead.the-variants as E
+use Rattle.etelegrams.specs.Answers.{eReadAnswer}
 use Rattle.paper.proofs.FirstLaws.{all-at, some-true, some-false, some-at}
 
 -- ---- the codes
@@ -182,3 +186,17 @@ read-back t head s out new e =
     ∙ part-over out 0 (answerTo c head s) (omega (arith, a .room)) in
     let k = is-report c ∙ a .request in
     rw nine (simp (l, answer-code c head s (a .headed) (report-fits c (a .request)), answer-status c head s (a .headed), k, or-true))
+
+-- ---- the contract settles the answer
+
+told : Answer EReading → ERead
+told (gives x) = E.Read (record { code = x .code; report = x .report; status = x .status })
+told (refused n at) = E.Refused (numbered n at)
+
+told-of : (r : ERead) → told (eReadAnswer r) ≡ r
+unfolding told
+told-of (E.Read r) = refl
+told-of (E.Refused f) = ap E.Refused (numbered-of f)
+
+pub one-e-read : (a : Answer EReading) (v w : ERead) → eReadAnswer v ≡ a → eReadAnswer w ≡ a → v ≡ w
+one-e-read = one-answer eReadAnswer told told-of

@@ -13,11 +13,12 @@ use borrow.Author.Tests.{ltb-true, ltb-false, leb-true, eqb-true, lt-ltb, le-ltb
 use Rattle.paper.specs.Answer.{Answer, gives, refused}
 use Rattle.paper.specs.First.{firstBad, all, some}
 use Rattle.paper.specs.SignalList.{Signal, Code, SignalList}
-use Rattle.paper.specs.Extends.{Extending, extendingBy, version, hasCodes, inRange, knownIn, knows, same, codesKept, keeps, stands, newer}
+use Rattle.paper.specs.Extends.{Extending, extending, firstRefused, secondRefused, extendingBy, version, hasCodes, inRange, knownIn, knows, same, codesKept, keeps, stands, newer}
+use Rattle.paper.proofs.AnswerLaws.{one-answer}
 use Rattle.paper.proofs.FirstLaws.{is-first, first-here, first-none, first-most, first-passed, first-fails, all-true, all-false, not-all, all-at, some-true, some-false, some-at}
 use Rattle.paper.proofs.ListLaws.{both, other, Kept, CodeFollows, types-rise, fields-rise, one-place}
 use Rattle.paper.proofs.ExtendsLaws.{same-of, same-true, keeps-of}
-use Rattle.refusals.proofs.Laws.{one-refusal}
+use Rattle.refusals.proofs.Laws.{numbered, numbered-of}
 use Rattle.extending.specs.declared.ExtendsOutcome.{ExtendsOutcome}
 use Rattle.extending.specs.declared.ExtendsOutcome.the-variants.{Yes, No, FirstRefused, SecondRefused}
 use Rattle.extending.specs.Extending.{extendsAnswer, signalKey, signalKeys, codeKeys, notBelow, indexOf, rangeKept, entryKept, rangesKept}
@@ -489,20 +490,18 @@ module _ {A : Type 0} (x : Answer A) (refusal : ℕ → ℕ → Extending) (next
 
 -- ---- the contract settles the answer
 
-pub one-answer : (a : Extending) (v w : ExtendsOutcome) → extendsAnswer v ≡ a → extendsAnswer w ≡ a → v ≡ w
-one-answer a Yes Yes p q = refl
-one-answer a Yes No p q = let z : _≡_ {A = ℕ} 0 1 = cc in absurd (omega arith)
-one-answer a Yes (FirstRefused g) p q = let z : _≡_ {A = ℕ} 0 1 = cc in absurd (omega arith)
-one-answer a Yes (SecondRefused g) p q = let z : _≡_ {A = ℕ} 0 1 = cc in absurd (omega arith)
-one-answer a No Yes p q = let z : _≡_ {A = ℕ} 0 1 = cc in absurd (omega arith)
-one-answer a No No p q = refl
-one-answer a No (FirstRefused g) p q = let z : _≡_ {A = ℕ} 0 1 = cc in absurd (omega arith)
-one-answer a No (SecondRefused g) p q = let z : _≡_ {A = ℕ} 0 1 = cc in absurd (omega arith)
-one-answer a (FirstRefused f) Yes p q = let z : _≡_ {A = ℕ} 0 1 = cc in absurd (omega arith)
-one-answer a (FirstRefused f) No p q = let z : _≡_ {A = ℕ} 0 1 = cc in absurd (omega arith)
-one-answer a (FirstRefused f) (FirstRefused g) p q = ap FirstRefused (one-refusal f g (cc) (cc))
-one-answer a (FirstRefused f) (SecondRefused g) p q = let z : _≡_ {A = ℕ} 0 1 = cc in absurd (omega arith)
-one-answer a (SecondRefused f) Yes p q = let z : _≡_ {A = ℕ} 0 1 = cc in absurd (omega arith)
-one-answer a (SecondRefused f) No p q = let z : _≡_ {A = ℕ} 0 1 = cc in absurd (omega arith)
-one-answer a (SecondRefused f) (FirstRefused g) p q = let z : _≡_ {A = ℕ} 0 1 = cc in absurd (omega arith)
-one-answer a (SecondRefused f) (SecondRefused g) p q = ap SecondRefused (one-refusal f g (cc) (cc))
+told : Extending → ExtendsOutcome
+told (extending true) = Yes
+told (extending false) = No
+told (firstRefused n at) = FirstRefused (numbered n at)
+told (secondRefused n at) = SecondRefused (numbered n at)
+
+told-of : (r : ExtendsOutcome) → told (extendsAnswer r) ≡ r
+unfolding told
+told-of Yes = refl
+told-of No = refl
+told-of (FirstRefused f) = ap FirstRefused (numbered-of f)
+told-of (SecondRefused f) = ap SecondRefused (numbered-of f)
+
+pub one-extends : (a : Extending) (v w : ExtendsOutcome) → extendsAnswer v ≡ a → extendsAnswer w ≡ a → v ≡ w
+one-extends = one-answer extendsAnswer told told-of

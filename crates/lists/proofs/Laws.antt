@@ -13,11 +13,11 @@ use Rattle.paper.specs.Octets.{number}
 use Rattle.paper.specs.Answer.{Answer, gives, refused, refuseIf, andThen, shift}
 use Rattle.paper.specs.First.{firstBad}
 use Rattle.paper.specs.SignalList.{Signal, Counts as PaperCounts, entry, rest, checkSize, signalSize, codeSize, routeSize, mostSignals, mostCodes, mostRoutes, signalAt, codeAt, routeAt, signalRule, codeRule, routeRule, opening, judgeEntries, judgeSection, ending, fromRoutes, fromCodes, fromSignals, judge, listOf, signalsPart, codesPart, routesPart}
-use Rattle.paper.proofs.AnswerLaws.{gives-one}
+use Rattle.paper.proofs.AnswerLaws.{one-answer}
 use Rattle.paper.proofs.ListLaws.{opened-of, holds-of, Laid, laid, Kept, kept-of}
 use Rattle.refusals.specs.declared.Refusal.{Refusal}
 use Rattle.refusals.specs.Refusal.{refusalOf}
-use Rattle.refusals.proofs.Laws.{one-refusal}
+use Rattle.refusals.proofs.Laws.{numbered, numbered-of}
 use Rattle.lists.specs.declared.Counts.{Counts}
 use Rattle.lists.specs.declared.Judged.{Judged}
 use Rattle.lists.specs.declared.Judged.the-variants.{Accepted, Refused}
@@ -144,12 +144,14 @@ module _ (xs : List ℕ) (n : Counts) (e : judgedAnswer (Accepted n) ≡ judge x
 
 -- ---- the contract settles the answer
 
-reported : PaperCounts → Counts
-reported x = record { checks = x .checks; signals = x .signals; codes = x .codes; routes = x .routes; version = x .version }
+told : Answer PaperCounts → Judged
+told (gives x) = Accepted (record { checks = x .checks; signals = x .signals; codes = x .codes; routes = x .routes; version = x .version })
+told (refused n at) = Refused (numbered n at)
 
-pub one-answer : (a : Answer PaperCounts) (v w : Judged) → judgedAnswer v ≡ a → judgedAnswer w ≡ a → v ≡ w
-unfolding reported
-one-answer a (Accepted n) (Accepted m) p q = ap (λ (x : PaperCounts). Accepted (reported x)) (gives-one a (countsOf n) (countsOf m) (sym p) (sym q))
-one-answer a (Accepted n) (Refused g) p q = let z : _≡_ {A = ℕ} 0 1 = cc in absurd (omega arith)
-one-answer a (Refused f) (Accepted m) p q = let z : _≡_ {A = ℕ} 0 1 = cc in absurd (omega arith)
-one-answer a (Refused f) (Refused g) p q = ap Refused (one-refusal f g (cc) (cc))
+told-of : (r : Judged) → told (judgedAnswer r) ≡ r
+unfolding told
+told-of (Accepted n) = refl
+told-of (Refused f) = ap Refused (numbered-of f)
+
+pub one-judged : (a : Answer PaperCounts) (v w : Judged) → judgedAnswer v ≡ a → judgedAnswer w ≡ a → v ≡ w
+one-judged = one-answer judgedAnswer told told-of

@@ -1,5 +1,5 @@
 // The marked cases (a) to (l) of document 01, run on the compiled calls. The table that is proved stands in crates/paper/specs/Marked.antt.
-use gateway::ReadOutcome;
+use reading::ReadOutcome;
 use libc::STDOUT_FILENO;
 use marshalling::Marshalled;
 use refusals::Outcome;
@@ -79,7 +79,7 @@ fn heard_at(store: &mut [u8; 8379], o41: u8, o54: u8, stamp: u32) {
 
 // One reading: the value and the reason.
 fn read(store: &[u8; 8379], clock: u32) {
-    let read = gateway::read(&L, store, clock, 1, 0);
+    let read = reading::read(&L, store, clock, 1, 0);
     match read {
         ReadOutcome::Read(r) => {
             number(b" value ", r.value);

@@ -5,7 +5,7 @@ ghost use Rattle.lists.specs.Judged.{countsOf};
 ghost use Rattle.saying.specs.Ready.{Ready};
 use entries::Route;
 use entries::Signal;
-use gateway::Reading;
+use reading::Reading;
 use libc::STDOUT_FILENO;
 use lists::Counts;
 use lists::Judged;
@@ -49,7 +49,7 @@ fn one_route(list: &[u8], n: Counts, store: &[u8], clock: u32, r: usize)
 {
     let t = saying::route(list, n, r);
     let s = saying::signal(list, n, t.signal);
-    let x = gateway::read_at(list, n, store, clock, t.vehicle, t.signal);
+    let x = reading::read_at(list, n, store, clock, t.vehicle, t.signal);
     print_route(r, t, s, x);
 }
 

@@ -9,13 +9,14 @@ use native.Mathlib.Decide.{decLt}
 use lib.Dec.{ltb}
 use borrow.Author.Tests.{lt-ltb, le-ltb}
 use Rattle.paper.specs.Octets.{put, puts}
-use Rattle.paper.specs.Answer.{Answer, gives, andThen}
+use Rattle.paper.specs.Answer.{Answer, gives, refused, andThen}
 use Rattle.paper.specs.First.{count}
 use Rattle.paper.specs.SignalList.{SignalList, judge, listOf}
 use Rattle.paper.specs.Marshalling as paper
+use Rattle.paper.proofs.AnswerLaws.{one-answer}
 use Rattle.refusals.specs.declared.Refusal.{Refusal}
 use Rattle.refusals.specs.Refusal.{refusalOf}
-use Rattle.refusals.proofs.Laws.{one-refusal}
+use Rattle.refusals.proofs.Laws.{numbered, numbered-of}
 use Rattle.marshalling.specs.declared.Marshalled.{Marshalled}
 use Rattle.marshalling.specs.declared.Marshalled.the-variants.{Live, Refused}
 use Rattle.marshalling.specs.Marshalling.{liveAnswer, Delivered, marshallingUnder, RoutesWritten}
@@ -69,11 +70,14 @@ delivered-on r a k old o new e w = rw (← e) w
 
 -- ---- the contract settles the answer
 
-pub one-answer : (a : Answer ℕ) (v w : Marshalled) → liveAnswer v ≡ a → liveAnswer w ≡ a → v ≡ w
-one-answer a (Live m) (Live n) p q = ap Live (cc)
-one-answer a (Live m) (Refused g) p q = let z : _≡_ {A = ℕ} 0 1 = cc in absurd (omega arith)
-one-answer a (Refused f) (Live n) p q = let z : _≡_ {A = ℕ} 0 1 = cc in absurd (omega arith)
-one-answer a (Refused f) (Refused g) p q = ap Refused (one-refusal f g (cc) (cc))
+told : Answer ℕ → Marshalled
+told (gives m) = Live m
+told (refused n at) = Refused (numbered n at)
+
+told-of : (r : Marshalled) → told (liveAnswer r) ≡ r
+unfolding told
+told-of (Live m) = refl
+told-of (Refused f) = ap Refused (numbered-of f)
 
 pub one-delivered : (a : Answer paper.Marshalled) (old : List ℕ) (r s : Marshalled) (new other : List ℕ) → Delivered a old r new → Delivered a old s other → (r ≡ s) × (new ≡ other)
-one-delivered a old r s new other t u = (one-answer _ r s (t .lives) (u .lives), t .octets ∙ sym (u .octets))
+one-delivered a old r s new other t u = (one-answer liveAnswer told told-of _ r s (t .lives) (u .lives), t .octets ∙ sym (u .octets))

@@ -23,8 +23,8 @@ use Rattle.refusals.specs.declared.Outcome.{Outcome}
 use Rattle.refusals.specs.declared.Outcome.the-variants as O
 use Rattle.refusals.specs.Refusal.{numberOf, carriedOf}
 use Rattle.refusals.specs.Outcome.{Written}
-use Rattle.gateway.specs.declared.ReadOutcome.{ReadOutcome}
-use Rattle.gateway.specs.Reading.{readAnswer}
+use Rattle.reading.specs.declared.ReadOutcome.{ReadOutcome}
+use Rattle.reading.specs.Reading.{readAnswer}
 
 -- later calls of `take`, from one store to another: each is for another vehicle, or is refused
 pub data Later (v : ℕ) : List ℕ → List ℕ → Type 0 where

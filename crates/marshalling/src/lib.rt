@@ -27,7 +27,7 @@ fn route(list: &[u8], n: Counts, r: usize) -> Route
     requires { ⌜ (Laid (now list) (countsOf n)) × (r < n .routes) ⌝ }
     ensures { λ t. ⌜ RouteRead (routesPart (now (list .entry)) (countsOf n)) r t ⌝ }
 {
-    entries::route_at(lists::rest(gateway::codes_part(list, n), 6, n.codes), r)
+    entries::route_at(lists::rest(reading::codes_part(list, n), 6, n.codes), r)
 }
 
 // The width of signal k, which a route to it has too.
@@ -35,7 +35,7 @@ fn width(list: &[u8], n: Counts, k: usize) -> usize
     requires { ⌜ (Laid (now list) (countsOf n)) × (k < 65536) ⌝ }
     ensures { λ w. ⌜ OctetRead (listOf (now (list .entry)) (countsOf n) .signal k .width) w ⌝ }
 {
-    entries::width_at(gateway::signals_part(list, n), k)
+    entries::width_at(reading::signals_part(list, n), k)
 }
 
 // Whether the field of route r ends past so many octets. Rounded up to octets, since 8 times a length may not fit.
@@ -75,7 +75,7 @@ fn write_route(list: &[u8], n: Counts, store: &[u8], clock: u32, bus: &mut [u8],
     ensures { λ m. ⌜ RouteWritten (listOf (now (list .entry)) (countsOf n)) (now (store .entry)) clock (now (bus .entry)) r m (now (bus .exit)) ⌝ }
 {
     let t = route(list, n, r);
-    let reading = gateway::read_at(list, n, store, clock, t.vehicle, t.signal);
+    let reading = reading::read_at(list, n, store, clock, t.vehicle, t.signal);
     octets::write_field(bus, t.start, width(list, n, t.signal), reading.value);
     live(reading.reason)
 }

@@ -1,7 +1,7 @@
 -- The laws of answers: what an answer that was put together tells of its parts, and how it is put together. Assumes nothing.
 use Prim.Native.Nat.{ℕ, _+_, _≤_}
 use native.Mathlib.Omega.{arith}
-use mathlib.Core.Path.{_≡_, refl, sym, _∙_}
+use mathlib.Core.Path.{_≡_, refl, sym, ap, _∙_}
 use mathlib.Core.Bool.{Bool, true, false}
 use Rattle.paper.specs.Answer.{Answer, gives, refused, refuseIf, andThen, shift}
 
@@ -46,3 +46,7 @@ and-then (refused n at) k b e = let z : _≡_ {A = ℕ} 0 1 = cc in absurd (omeg
 -- how a whole is put together: what the first part gives goes on to the next
 pub goes-on : {A B : Type 0} (a : A) (x : Answer A) (k : A → Answer B) (y : Answer B) → x ≡ gives a → k a ≡ y → andThen x k ≡ y
 goes-on a x k y e q = rw e q
+
+-- a contract `say r ≡ a` settles the answer r, where r can be told from what it says: any two answers that it admits are equal
+pub one-answer : {R A : Type 0} (say : R → A) (told : A → R) → ((r : R) → told (say r) ≡ r) → (a : A) (v w : R) → say v ≡ a → say w ≡ a → v ≡ w
+one-answer say told back a v w p q = sym (back v) ∙ ap told (p ∙ sym q) ∙ back w

@@ -1,4 +1,4 @@
--- A number and what it carries are one refusal. Assumes nothing.
+-- A refusal can be told from its number and what it carries. Assumes nothing.
 use Prim.Native.Nat.{ℕ, _+_, _-_}
 use mathlib.Core.Path.{_≡_, refl, sym, ap₂, _∙_}
 use mathlib.Core.List.{List, [], _∷_}
@@ -10,7 +10,7 @@ use Rattle.refusals.specs.Refusal.{numberOf, carriedOf, refusalOf}
 use Rattle.refusals.proofs.AnswerLaws.{stays-shifted}
 
 -- the refusal of a number, with what it carries
-abbrev numbered : ℕ → ℕ → Refusal
+abbrev pub numbered : ℕ → ℕ → Refusal
 numbered n at =
     getD
     (ListEnds at ∷ CountAbove at ∷ EntryBroken at ∷ OctetsAfter at ∷ StoreLength ∷ Vehicle
@@ -20,7 +20,7 @@ numbered n at =
     ∷ OutputShort ∷ ScaledKind ∷ NoCheckPlace ∷ [])
     (n - 1) NoCheckPlace
 
-numbered-of : (f : Refusal) → numbered (numberOf f) (carriedOf f) ≡ f
+pub numbered-of : (f : Refusal) → numbered (numberOf f) (carriedOf f) ≡ f
 numbered-of (ListEnds at) = refl
 numbered-of (CountAbove at) = refl
 numbered-of (EntryBroken at) = refl
@@ -48,9 +48,6 @@ numbered-of HeadLength = refl
 numbered-of OutputShort = refl
 numbered-of ScaledKind = refl
 numbered-of NoCheckPlace = refl
-
-pub one-refusal : (f g : Refusal) → numberOf f ≡ numberOf g → carriedOf f ≡ carriedOf g → f ≡ g
-one-refusal f g p q = sym (numbered-of f) ∙ ap₂ numbered p q ∙ numbered-of g
 
 -- what `shifted` answers is the part's refusal, moved to where the part starts
 pub moved : {A : Type 0} (f r : Refusal) (by : ℕ) (x : Answer A) → numberOf r ≡ numberOf f → carriedOf r ≡ by + carriedOf f → refusalOf f ≡ x → refusalOf r ≡ shift by x

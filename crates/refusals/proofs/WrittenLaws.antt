@@ -1,15 +1,15 @@
 -- A call that writes into what it was lent, by what the paper answers. Assumes nothing.
 use Prim.Native.Nat.{ℕ}
 use mathlib.Core.Path.{_≡_, refl, sym, ap, _∙_}
-use native.Mathlib.Omega.{arith}
 use mathlib.Core.List.{List}
-use Rattle.paper.specs.Answer.{Answer, gives, andThen}
+use Rattle.paper.specs.Answer.{Answer, gives, refused, andThen}
+use Rattle.paper.proofs.AnswerLaws.{one-answer}
 use Rattle.refusals.specs.declared.Refusal.{Refusal}
 use Rattle.refusals.specs.declared.Outcome.{Outcome}
 use Rattle.refusals.specs.declared.Outcome.the-variants as O
 use Rattle.refusals.specs.Refusal.{refusalOf}
 use Rattle.refusals.specs.Outcome.{outcomeOf, Written}
-use Rattle.refusals.proofs.Laws.{one-refusal}
+use Rattle.refusals.proofs.Laws.{numbered, numbered-of}
 
 -- a refusal, new octets, or what goes on from what a first part gave
 pub written-refused : (f : Refusal) (a : Answer (List ℕ)) (old : List ℕ) → refusalOf f ≡ a → Written a old (O.Refused f) old
@@ -22,12 +22,18 @@ pub written-on : {A : Type 0} (r : A) (a : Answer A) (k : A → Answer (List ℕ
     → gives r ≡ a → Written (k r) old o new → Written (andThen a k) old o new
 written-on r a k old o new e w = rw (← e) w
 
--- any two answers that a call's contract admits are equal, and so is what they leave
+-- the outcome can be told from the paper's answer, so any two outcomes that a contract admits are equal, and so is what they leave
+told : Answer (Unit {0}) → Outcome
+told (gives tt) = O.Done
+told (refused n at) = O.Refused (numbered n at)
+
+told-of : (r : Outcome) → told (outcomeOf r) ≡ r
+unfolding told
+told-of O.Done = refl
+told-of (O.Refused f) = ap O.Refused (numbered-of f)
+
 pub one-outcome : (a : Answer (Unit {0})) (v w : Outcome) → outcomeOf v ≡ a → outcomeOf w ≡ a → v ≡ w
-one-outcome a O.Done O.Done p q = refl
-one-outcome a O.Done (O.Refused g) p q = let z : _≡_ {A = ℕ} 0 1 = cc in absurd (omega arith)
-one-outcome a (O.Refused f) O.Done p q = let z : _≡_ {A = ℕ} 0 1 = cc in absurd (omega arith)
-one-outcome a (O.Refused f) (O.Refused g) p q = ap O.Refused (one-refusal f g (cc) (cc))
+one-outcome = one-answer outcomeOf told told-of
 
 pub one-written : (a : Answer (List ℕ)) (old : List ℕ) (r s : Outcome) (new other : List ℕ) → Written a old r new → Written a old s other → (r ≡ s) × (new ≡ other)
 one-written a old r s new other t u = (one-outcome _ r s (t .outcome) (u .outcome), t .octets ∙ sym (u .octets))

@@ -26,7 +26,7 @@ pub fn signal(list: &[u8], n: Counts, k: usize) -> Signal
     requires { ⌜ (Laid (now list) (countsOf n)) × (k < n .signals) ⌝ }
     ensures { λ r. ⌜ SignalRead (signalsPart (now (list .entry)) (countsOf n)) k r ⌝ }
 {
-    entries::signal_at(gateway::signals_part(list, n), k)
+    entries::signal_at(reading::signals_part(list, n), k)
 }
 
 // Inner: route r of such a list.
@@ -34,7 +34,7 @@ pub fn route(list: &[u8], n: Counts, r: usize) -> Route
     requires { ⌜ (Laid (now list) (countsOf n)) × (r < n .routes) ⌝ }
     ensures { λ t. ⌜ RouteReady (n .signals) t ⌝ }
 {
-    entries::route_at(lists::rest(gateway::codes_part(list, n), 6, n.codes), r)
+    entries::route_at(lists::rest(reading::codes_part(list, n), 6, n.codes), r)
 }
 
 // What a vehicle's slot holds.

@@ -13,8 +13,12 @@ use lib.ListN.{length}
 use lib.Pow.{pow-mono}
 use Rattle.paper.specs.Answer.{Answer, gives, refused, refuseIf}
 use Rattle.paper.specs.First.{count}
-use Rattle.paper.specs.Train.{Vehicle, consistRule, isAddress, member, setTo, membersOf, resolving}
-use Rattle.paper.proofs.AnswerLaws.{refuses, goes-past, never-both}
+use Rattle.paper.specs.Train.{Vehicle, Members, consistRule, isAddress, member, setTo, membersOf, resolving}
+use Rattle.paper.proofs.AnswerLaws.{refuses, goes-past, never-both, one-answer}
+use Rattle.refusals.proofs.Laws.{numbered, numbered-of}
+use Rattle.train.specs.declared.Resolved.{Resolved}
+use Rattle.train.specs.declared.Resolved.the-variants as R
+use Rattle.train.specs.Marks.{resolvedAnswer}
 use Rattle.train.proofs.Sets.{set-lt, bits, even}
 
 -- bit v of the set is 1 exactly if vehicle v is in the train and meets the address
@@ -92,3 +96,17 @@ refused-20 train a e =
           let d : suc (v - 1) ≡ v = omega arith in
           ap (member train a) (sym d) ∙ none-counted (λ i. member train a (suc i)) (length train) z (v - 1) (omega arith),
     )
+
+-- ---- the contract settles the answer
+
+told : Answer Members → Resolved
+told (gives m) = R.Members (record { set = m .set; size = m .size })
+told (refused n at) = R.Refused (numbered n at)
+
+told-of : (r : Resolved) → told (resolvedAnswer r) ≡ r
+unfolding told
+told-of (R.Members m) = refl
+told-of (R.Refused f) = ap R.Refused (numbered-of f)
+
+pub one-resolved : (a : Answer Members) (v w : Resolved) → resolvedAnswer v ≡ a → resolvedAnswer w ≡ a → v ≡ w
+one-resolved = one-answer resolvedAnswer told told-of

@@ -14,7 +14,7 @@ use Rattle.paper.proofs.ListLaws.{Kept, kept-of}
 use Rattle.octets.specs.Fields.{Within}
 use Rattle.entries.specs.Entries.{routeOf}
 use Rattle.lists.specs.Judged.{countsOf}
-use Rattle.gateway.specs.Reading.{asReading}
+use Rattle.reading.specs.Reading.{asReading}
 use Rattle.marshalling.proofs.write_route.Statement.{statement}
 use Rattle.marshalling.proofs.write_route.Tie as tie
 

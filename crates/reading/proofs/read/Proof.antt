@@ -1,4 +1,4 @@
--- `gateway::read` meets its contract. Assumes nothing.
+-- `reading::read` meets its contract. Assumes nothing.
 use mathlib.Core.Path.{_≡_, sym, ap, _∙_}
 use denote.Ref.{now}
 use borrow.Author.Needs.{needs}
@@ -9,9 +9,9 @@ use Rattle.refusals.specs.Refusal.{numberOf, carriedOf}
 use Rattle.refusals.proofs.AnswerLaws.{stays, goes-on}
 use Rattle.lists.specs.Judged.{countsOf, judgedAnswer}
 use Rattle.lists.proofs.Laws.{accepted-laid}
-use Rattle.gateway.specs.Reading.{readingUnder}
-use Rattle.gateway.proofs.read.Statement.{statement}
-use Rattle.gateway.proofs.read.Tie as tie
+use Rattle.reading.specs.Reading.{readingUnder}
+use Rattle.reading.proofs.read.Statement.{statement}
+use Rattle.reading.proofs.read.Tie as tie
 
 accepted : (c : tie.After-judged2) → gives (countsOf (c .judged2 .given .0 .0)) ≡ judge (now (c .before .before .before .before .before .args .list))
 accepted c = sym (ap judgedAnswer (c .judged2 .given .1)) ∙ c .before .before .judge .ensures

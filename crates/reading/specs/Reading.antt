@@ -13,9 +13,9 @@ use Rattle.paper.specs.Extends.{knows}
 use Rattle.paper.specs.Store.{Slot, isStore, isVehicle, age, inTime}
 use Rattle.paper.specs.Reading as paper
 use Rattle.refusals.specs.Refusal.{refusalOf}
-use Rattle.gateway.specs.declared.Reading.{Reading}
-use Rattle.gateway.specs.declared.ReadOutcome.{ReadOutcome}
-use Rattle.gateway.specs.declared.ReadOutcome.the-variants.{Read, Refused}
+use Rattle.reading.specs.declared.Reading.{Reading}
+use Rattle.reading.specs.declared.ReadOutcome.{ReadOutcome}
+use Rattle.reading.specs.declared.ReadOutcome.the-variants.{Read, Refused}
 
 abbrev pub asReading : Reading → paper.Reading
 asReading r = record { value = r .value; reason = r .reason }

@@ -1,4 +1,4 @@
--- `gateway::read_telegram` meets its contract. Assumes nothing.
+-- `reading::read_telegram` meets its contract. Assumes nothing.
 use mathlib.Core.Path.{_≡_, sym, ap, ap₂, _∙_, subst}
 use mathlib.Core.List.{List}
 use Prim.Native.Nat.{ℕ}
@@ -10,10 +10,10 @@ use Rattle.paper.specs.Extends.{knownIn, knows}
 use Rattle.paper.specs.Reading.{markOf, codeOf}
 use Rattle.octets.specs.Fields.{Within}
 use Rattle.lists.specs.Judged.{countsOf}
-use Rattle.gateway.specs.Reading.{markIn, MarkThere, telegramReason}
-use Rattle.gateway.proofs.Laws.{field-there, mark-there, mark-in, telegram-given}
-use Rattle.gateway.proofs.read_telegram.Statement.{statement}
-use Rattle.gateway.proofs.read_telegram.Tie as tie
+use Rattle.reading.specs.Reading.{markIn, MarkThere, telegramReason}
+use Rattle.reading.proofs.Laws.{field-there, mark-there, mark-in, telegram-given}
+use Rattle.reading.proofs.read_telegram.Statement.{statement}
+use Rattle.reading.proofs.read_telegram.Tie as tie
 
 read-field-requires : tie.Need-read-field-requires
 read-field-requires c κs =

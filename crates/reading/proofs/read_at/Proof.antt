@@ -1,4 +1,4 @@
--- `gateway::read_at` meets its contract. Assumes nothing.
+-- `reading::read_at` meets its contract. Assumes nothing.
 use mathlib.Core.Path.{_≡_, sym, ap, ap₂, _∙_}
 use mathlib.Core.List.{List}
 use Prim.Native.Nat.{ℕ}
@@ -13,10 +13,10 @@ use Rattle.paper.specs.Reading.{readingAt}
 use Rattle.entries.specs.Entries.{signalOf}
 use Rattle.lists.specs.Judged.{countsOf}
 use Rattle.store.proofs.Laws.{slot-whole}
-use Rattle.gateway.specs.Reading.{slotTests, telegramReading}
-use Rattle.gateway.proofs.Laws.{slot-reading, telegram-reads}
-use Rattle.gateway.proofs.read_at.Statement.{statement}
-use Rattle.gateway.proofs.read_at.Tie as tie
+use Rattle.reading.specs.Reading.{slotTests, telegramReading}
+use Rattle.reading.proofs.Laws.{slot-reading, telegram-reads}
+use Rattle.reading.proofs.read_at.Statement.{statement}
+use Rattle.reading.proofs.read_at.Tie as tie
 
 signal-at-requires : tie.Need-signal-at-requires
 signal-at-requires c κs = rw (c .signals-part .ensures) (omega (arith, c .before .before .before .pre .0 .0 .signals .opens .present, c .before .before .before .pre .0 .1))

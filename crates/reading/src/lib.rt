@@ -9,7 +9,7 @@ ghost use Rattle.paper.specs.Reading.{readingAt, reading};
 ghost use Rattle.paper.proofs.ListLaws.{Laid};
 ghost use Rattle.entries.specs.Entries.{signalOf};
 ghost use Rattle.lists.specs.Judged.{countsOf};
-ghost use Rattle.gateway.specs.Reading.{asReading, readAnswer, slotTests, markIn, MarkThere, telegramReason, telegramReading, readingUnder};
+ghost use Rattle.reading.specs.Reading.{asReading, readAnswer, slotTests, markIn, MarkThere, telegramReason, telegramReading, readingUnder};
 use entries::Signal;
 use lists::Counts;
 use lists::Judged;

@@ -9,7 +9,7 @@ use lib.ListN.{length}
 use lib.Dec.{leb, eqb}
 use borrow.Author.Tests.{le-leb}
 use Rattle.paper.specs.Octets.{field}
-use Rattle.paper.specs.Answer.{Answer}
+use Rattle.paper.specs.Answer.{Answer, gives, refused}
 use Rattle.paper.specs.First.{firstOf}
 use Rattle.paper.specs.Telegrams.{forced}
 use Rattle.paper.specs.SignalList.{Signal, SignalList, Counts, fieldEnd, checkAt, signalAt, signalsPart, listOf}
@@ -17,13 +17,12 @@ use Rattle.paper.specs.Extends.{placeOf, knows}
 use Rattle.paper.specs.Store.{Slot, telegramOctets}
 use Rattle.paper.specs.Reading.{Reading, hindrances, reasonOf, readingOf, markOf, codeOf}
 use Rattle.paper.proofs.ListLaws.{Laid, kept-of, SignalKept}
-use Rattle.paper.proofs.AnswerLaws.{gives-one}
-use Rattle.refusals.proofs.Laws.{one-refusal}
+use Rattle.paper.proofs.AnswerLaws.{one-answer}
+use Rattle.refusals.proofs.Laws.{numbered, numbered-of}
 use Rattle.octets.specs.Fields.{Within}
-use Rattle.gateway.specs.declared.Reading as C
-use Rattle.gateway.specs.declared.ReadOutcome.{ReadOutcome}
-use Rattle.gateway.specs.declared.ReadOutcome.the-variants.{Read, Refused}
-use Rattle.gateway.specs.Reading.{asReading, readAnswer, slotTests, markIn, MarkThere, telegramTests, telegramReason, telegramReading}
+use Rattle.reading.specs.declared.ReadOutcome.{ReadOutcome}
+use Rattle.reading.specs.declared.ReadOutcome.the-variants.{Read, Refused}
+use Rattle.reading.specs.Reading.{readAnswer, slotTests, markIn, MarkThere, telegramTests, telegramReason, telegramReading}
 
 -- ---- the first of two runs of tests
 
@@ -113,12 +112,14 @@ module _ (xs : List ℕ) (n : Counts) (k : ℕ) (telegram : List ℕ) (h : Laid 
 
 -- ---- the contract settles the answer
 
-made : Reading → C.Reading
-made x = record { value = x .value; reason = x .reason }
+told : Answer Reading → ReadOutcome
+told (gives x) = Read (record { value = x .value; reason = x .reason })
+told (refused n at) = Refused (numbered n at)
 
-pub one-answer : (a : Answer Reading) (v w : ReadOutcome) → readAnswer v ≡ a → readAnswer w ≡ a → v ≡ w
-unfolding made
-one-answer a (Read r) (Read s) p q = ap (λ (x : Reading). Read (made x)) (gives-one a (asReading r) (asReading s) (sym p) (sym q))
-one-answer a (Read r) (Refused g) p q = let z : _≡_ {A = ℕ} 0 1 = cc in absurd (omega arith)
-one-answer a (Refused f) (Read s) p q = let z : _≡_ {A = ℕ} 0 1 = cc in absurd (omega arith)
-one-answer a (Refused f) (Refused g) p q = ap Refused (one-refusal f g (cc) (cc))
+told-of : (r : ReadOutcome) → told (readAnswer r) ≡ r
+unfolding told
+told-of (Read r) = refl
+told-of (Refused f) = ap Refused (numbered-of f)
+
+pub one-read : (a : Answer Reading) (v w : ReadOutcome) → readAnswer v ≡ a → readAnswer w ≡ a → v ≡ w
+one-read = one-answer readAnswer told told-of

@@ -1,7 +1,7 @@
--- `gateway::telegram_reason` meets its contract. Assumes nothing.
+-- `reading::telegram_reason` meets its contract. Assumes nothing.
 use borrow.Author.Tests.{eq-eqb, ne-eqb}
-use Rattle.gateway.proofs.telegram_reason.Statement.{statement}
-use Rattle.gateway.proofs.telegram_reason.Tie as tie
+use Rattle.reading.proofs.telegram_reason.Statement.{statement}
+use Rattle.reading.proofs.telegram_reason.Tie as tie
 
 returns : tie.Need-returns
 returns c = simp (eq-eqb _ _ (c .if1 .taken))

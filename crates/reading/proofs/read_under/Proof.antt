@@ -1,4 +1,4 @@
--- `gateway::read_under` meets its contract. Assumes nothing.
+-- `reading::read_under` meets its contract. Assumes nothing.
 use mathlib.Core.Path.{_≡_, sym, ap, _∙_}
 use mathlib.Core.Bool.{true, not}
 use denote.Ref.{now}
@@ -7,9 +7,9 @@ use borrow.Author.Tests.{lt-ltb, le-ltb, eqb-true, leb-true, not-false}
 use Rattle.paper.specs.Answer.{gives, refuseIf}
 use Rattle.paper.specs.Store.{isStore, isVehicle}
 use Rattle.paper.proofs.ListLaws.{both}
-use Rattle.gateway.specs.Reading.{readingUnder}
-use Rattle.gateway.proofs.read_under.Statement.{statement}
-use Rattle.gateway.proofs.read_under.Tie as tie
+use Rattle.reading.specs.Reading.{readingUnder}
+use Rattle.reading.proofs.read_under.Statement.{statement}
+use Rattle.reading.proofs.read_under.Tie as tie
 
 whole : (c : tie.Else1) → isStore (now (c .before .before .before .before .args .store)) ≡ true
 whole c = sym (c .before .is-store .ensures) ∙ not-false _ (c .if1 .left)

@@ -1,14 +1,14 @@
--- `gateway::mark_in` meets its contract. Assumes nothing.
+-- `reading::mark_in` meets its contract. Assumes nothing.
 use mathlib.Core.Path.{ap, _∙_}
 use Prim.Native.Nat.{ℕ}
 use native.Mathlib.Omega.{arith}
 use denote.Ref.{now}
 use borrow.Author.Tests.{eq-eqb, ne-eqb}
 use Rattle.paper.specs.Octets.{field}
-use Rattle.gateway.specs.Reading.{markIn}
+use Rattle.reading.specs.Reading.{markIn}
 use borrow.Author.Needs.{needs}
-use Rattle.gateway.proofs.mark_in.Statement.{statement}
-use Rattle.gateway.proofs.mark_in.Tie as tie
+use Rattle.reading.proofs.mark_in.Statement.{statement}
+use Rattle.reading.proofs.mark_in.Tie as tie
 
 returns : tie.Need-returns
 unfolding markIn

@@ -1,4 +1,4 @@
--- `gateway::slot_reason` meets its contract. Assumes nothing.
+-- `reading::slot_reason` meets its contract. Assumes nothing.
 use mathlib.Core.Path.{_≡_, sym, ap, _∙_}
 use mathlib.Core.Bool.{not}
 use Prim.Native.Nat.{ℕ}
@@ -10,8 +10,8 @@ use borrow.Author.Tests.{lt-ltb, le-ltb}
 use Rattle.paper.specs.Telegrams.{telegramType, versionOf, carries}
 use Rattle.paper.specs.Store.{slotFrom, age, inTime}
 use Rattle.paper.specs.Reading.{heard}
-use Rattle.gateway.proofs.slot_reason.Statement.{statement}
-use Rattle.gateway.proofs.slot_reason.Tie as tie
+use Rattle.reading.proofs.slot_reason.Statement.{statement}
+use Rattle.reading.proofs.slot_reason.Tie as tie
 
 heard-is : (c : tie.After-is-heard) → not (c .is-heard .result) ≡ not (heard (slotFrom (now (c .before .before .args .slot))))
 heard-is c = ap not (c .is-heard .ensures)

@@ -1,0 +1,36 @@
+-- The contract settles the answer. Assumes nothing.
+use mathlib.Core.Path.{_≡_, refl, ap}
+use Rattle.paper.specs.Answer.{Answer, gives, refused}
+use Rattle.paper.specs.Shown as paper
+use Rattle.paper.proofs.AnswerLaws.{one-answer}
+use Rattle.refusals.proofs.Laws.{numbered, numbered-of}
+use Rattle.shown.specs.declared.Shown.{Shown}
+use Rattle.shown.specs.declared.Shown.the-variants as S
+use Rattle.shown.specs.declared.Showing.{Showing}
+use Rattle.shown.specs.declared.Showing.the-variants as Of
+use Rattle.shown.specs.Show.{shownOf, showingAnswer}
+
+shown : paper.Shown → Shown
+shown (paper.asCode c) = S.Code c
+shown (paper.asSpeed x) = S.Speed x
+shown (paper.asPercentage x) = S.Percentage x
+shown (paper.asCurrent x) = S.Current x
+
+shown-of : (s : Shown) → shown (shownOf s) ≡ s
+unfolding shown
+shown-of (S.Code c) = refl
+shown-of (S.Speed x) = refl
+shown-of (S.Percentage x) = refl
+shown-of (S.Current x) = refl
+
+told : Answer paper.Shown → Showing
+told (gives s) = Of.Shown (shown s)
+told (refused n at) = Of.Refused (numbered n at)
+
+told-of : (r : Showing) → told (showingAnswer r) ≡ r
+unfolding told
+told-of (Of.Shown s) = ap Of.Shown (shown-of s)
+told-of (Of.Refused f) = ap Of.Refused (numbered-of f)
+
+pub one-showing : (a : Answer paper.Shown) (v w : Showing) → showingAnswer v ≡ a → showingAnswer w ≡ a → v ≡ w
+one-showing = one-answer showingAnswer told told-of
