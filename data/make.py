@@ -8,7 +8,8 @@ import csv
 import os
 import sys
 
-HERE = os.path.dirname(os.path.abspath(__file__))
+from files import HERE, settle
+
 TYPES = {"R3": 0, "R1": 1, "R2": 2}
 # every check place printed in Appendix B: octets 3-8, and octets 41-46
 CHECKS = list(range(16, 64, 2)) + list(range(320, 368, 2))
@@ -79,18 +80,7 @@ def main():
         "coach-next.list": pack(successor(list(read_signals()), 3), ROUTES),
         "coach-wrong.list": pack(successor(list(read_signals()), 2), ROUTES),
     }
-    bad = 0
-    for name, octets in files.items():
-        path = os.path.join(HERE, name)
-        if "--check" in sys.argv:
-            if not os.path.exists(path) or open(path, "rb").read() != octets:
-                print(f"{name} is not what make.py writes")
-                bad = 1
-        else:
-            with open(path, "wb") as f:
-                f.write(octets)
-            print(f"{name}: {len(octets)} octets")
-    return bad
+    return settle(files, "make.py")
 
 
 if __name__ == "__main__":

@@ -1,5 +1,5 @@
 #!/usr/bin/env python3
-"""Writes the telegrams of scene/, a short train at work, packed from signals.csv alone. scene/README.md says what they are for.
+"""Writes the telegrams and the store of scene/, a short train at work, packed from signals.csv alone. scene/README.md says what they are for.
 
     data/scene.py            writes them, and for the first the values file that `compose` makes it from
     data/scene.py --check    only says whether they are as they would be written
@@ -8,7 +8,8 @@ import csv
 import os
 import sys
 
-HERE = os.path.dirname(os.path.abspath(__file__))
+from files import HERE, settle
+
 ERROR, OK, FORCED = 0, 1, 2
 LENGTHS = {"R1": 128, "R2": 128, "R3": 40}
 HEADS = {"R1": 0x11, "R2": 0x12, "R3": 0x13}
@@ -85,26 +86,22 @@ def values_file(kind, values):
     return ("\n".join(lines) + "\n").encode()
 
 
+def slot(clock, octets):
+    """A slot of the store: heard, the stamp, the telegram and zeros up to 128 octets."""
+    return b"\1" + clock.to_bytes(4, "big") + octets + bytes(128 - len(octets))
+
+
 def main():
-    os.makedirs(os.path.join(HERE, "scene"), exist_ok=True)
-    files = {
-        "1-R1.telegram": telegram("R1", 3, LEADING, {326: FORCED}, True),
-        "1-R1.values": values_file("R1", LEADING),
-        "2-R2.telegram": telegram("R2", 2, LED, {324: FORCED, 330: ERROR}),
-        "3-R3.telegram": telegram("R3", 1, COACH),
-    }
-    bad = 0
-    for name, octets in files.items():
-        path = os.path.join(HERE, "scene", name)
-        if "--check" in sys.argv:
-            if not os.path.exists(path) or open(path, "rb").read() != octets:
-                print(f"scene/{name} is not what scene.py writes")
-                bad = 1
-        else:
-            with open(path, "wb") as f:
-                f.write(octets)
-            print(f"scene/{name}: {len(octets)} octets")
-    return bad
+    r1 = telegram("R1", 3, LEADING, {326: FORCED}, True)
+    r2 = telegram("R2", 2, LED, {324: FORCED, 330: ERROR})
+    r3 = telegram("R3", 1, COACH)
+    return settle({
+        "scene/1-R1.telegram": r1,
+        "scene/1-R1.values": values_file("R1", LEADING),
+        "scene/2-R2.telegram": r2,
+        "scene/3-R3.telegram": r3,
+        "scene/train.store": slot(6000, r1) + slot(7500, r2) + slot(1000, r3) + bytes(60 * 133),
+    }, "scene.py")
 
 
 if __name__ == "__main__":
