@@ -9,7 +9,7 @@
 # need_file FILE PACKAGE: as need, for a package that brings no command, or not the one that comes first in PATH
 need_file() {
     [ -e "$1" ] && return 0
-    (apt-get update -q && apt-get install -q -y --no-install-recommends "$2") >/dev/null 2>&1
+    install_package "$2"
     [ -e "$1" ] || { echo "cannot install $2 for $1"; exit 1; }
 }
 

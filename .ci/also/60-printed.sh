@@ -1,0 +1,4 @@
+# Every command and output that a page of this repository prints.
+. .ci/native.sh
+need python3 python3
+python3 runs/printed.py
