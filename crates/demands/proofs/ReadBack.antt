@@ -7,7 +7,7 @@ use mathlib.Core.List.{List, [], _∷_}
 use native.Mathlib.Omega.{arith}
 use lib.ListN.{length, getD}
 use lib.Dec.{eqb}
-use Rattle.paper.specs.Answer.{Answer, gives, refused}
+use Rattle.paper.specs.Answer.{Answer, gives, refused, after}
 use Rattle.paper.specs.Telegrams.{carries, ok, forced}
 use Rattle.paper.specs.SignalList.{Counts, judge, listOf}
 use Rattle.paper.specs.Extends.{same}
@@ -25,6 +25,7 @@ use Rattle.refusals.specs.Refusal.{numberOf, carriedOf}
 use Rattle.refusals.specs.Outcome.{Written}
 use Rattle.reading.specs.declared.ReadOutcome.{ReadOutcome}
 use Rattle.reading.specs.Reading.{readAnswer}
+use Rattle.demands.specs.Told.{Told}
 
 -- later calls of `take`, from one store to another: each is for another vehicle, or is refused
 pub data Later (v : ℕ) : List ℕ → List ℕ → Type 0 where
@@ -50,6 +51,28 @@ pub record Calls (xs : List ℕ) (type : ℕ) (values marks : List ℕ) (v stamp
   pub later : Later v after store
   -- `read` of signal k under the list ys answers r at the clock value `now`
   pub read : readAnswer r ≡ reading ys store now v k
+
+-- `told` is such a run of calls, with none of `take` between: what it ensures it has from the contracts of the three, so they fit this record
+done : (a : Answer (List ℕ)) (old new sent : List ℕ) → a ≡ gives new → sent ≡ after old a → Written a old O.Done sent
+done a old new sent e q = record { outcome = rw e; octets = q }
+
+pub told-calls : (xs : List ℕ) (type : ℕ) (values marks out store : List ℕ) (v stamp : ℕ) (ys : List ℕ) (now k : ℕ) (sent held telegram next : List ℕ) (r : ReadOutcome)
+    → Told xs type values marks out store v stamp ys now k sent held r → stamp < turn
+    → composing xs type values marks (length out) ≡ gives telegram → taking store v stamp sent ≡ gives next
+    → Calls xs type values marks v stamp ys now k r
+told-calls xs type values marks out store v stamp ys now k sent held telegram next r t clock c e =
+    record {
+      out = out;
+      telegram = sent;
+      composed = done _ out telegram sent c (t .composed);
+      before = store;
+      after = held;
+      clock = clock;
+      took = done _ store next held e (t .took);
+      store = held;
+      later = none;
+      read = t .read;
+    }
 
 -- ---- what a call that writes tells of the paper's answer
 

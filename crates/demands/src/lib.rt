@@ -1,0 +1,24 @@
+// Demands 2 and 3 as a function: what is composed under one list, taken from a vehicle, and read under another.
+ghost use Rattle.demands.specs.Told.{Told};
+use reading::ReadOutcome;
+
+// The telegram is left in `out` and in the vehicle's slot.
+pub fn told(
+    writer: &[u8],
+    kind: usize,
+    values: &[u64],
+    marks: &[u8],
+    out: &mut [u8],
+    store: &mut [u8],
+    vehicle: usize,
+    stamp: u32,
+    reader: &[u8],
+    clock: u32,
+    signal: usize,
+) -> ReadOutcome
+    ensures { λ r. ⌜ Told (now (writer .entry)) kind (now (values .entry)) (now (marks .entry)) (now (out .entry)) (now (store .entry)) vehicle stamp (now (reader .entry)) clock signal (now (out .exit)) (now (store .exit)) r ⌝ }
+{
+    composing::compose(writer, kind, values, marks, out);
+    store::take(store, vehicle, stamp, out);
+    reading::read(reader, store, clock, vehicle, signal)
+}
