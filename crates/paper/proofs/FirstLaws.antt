@@ -3,11 +3,15 @@ use Prim.Native.Nat.{ℕ, zero, suc, _+_, _≤_, _<_, max}
 use mathlib.Core.Path.{_≡_, refl, sym, ap, _∙_}
 use mathlib.Core.Logic.{_⊎_, inl, inr}
 use mathlib.Core.Bool.{Bool, true, false, not, cond, _&&_, _||_, false≢true}
+use mathlib.Core.List.{List, [], _∷_, _++_}
 use lib.Dec.{eqb}
+use lib.ListN.{length}
+use borrow.Author.Count.{below-more}
 use borrow.Author.Tests.{eq-eqb, ne-eqb, eqb-true, eqb-false, not-true, not-false}
-use native.Mathlib.Nat.{eq-or-lt-of-le, lt-irrefl}
+use native.Mathlib.Nat.{eq-or-lt-of-le, lt-irrefl, add-zero}
+use native.Mathlib.Numerals.{add-one}
 use native.Mathlib.Omega.{arith}
-use Rattle.paper.specs.First.{stop, firstFrom, firstBad, all, some, count, greatest}
+use Rattle.paper.specs.First.{stop, firstFrom, firstBad, all, some, count, greatest, firstOf}
 
 module _ (ok : ℕ → Bool) where
   stop-true : (b : Bool) (h l : ℕ) → b ≡ true → stop b h l ≡ l
@@ -120,6 +124,33 @@ module _ (ok : ℕ → Bool) where
       let h : k < n = not-all (λ j. not (ok j)) n (not-true _ e) in
       (k, (h, not-false (ok k) (first-fails (λ j. not (ok j)) n h)))
 
+pub some-more : (ok : ℕ → Bool) (n : ℕ) → some ok (n + 1) ≡ (some ok n || ok n)
+some-more ok n = by (some ok n) refl (ok n) refl
+  where
+    by : (b : Bool) → some ok n ≡ b → (d : Bool) → ok n ≡ d → some ok (n + 1) ≡ (b || d)
+    by true e d f = let w = some-at ok n e in some-true ok (n + 1) (w .0) (omega (arith, w .1 .0)) (w .1 .1)
+    by false e true f = some-true ok (n + 1) n (omega arith) f
+    by false e false f = some-false ok (n + 1) (below-more _ _ (some-none ok n e) f)
+
+-- ---- the first of two runs of tests
+
+-- a test of the first run holds: it is the first of both
+pub first-front : (n : ℕ) (ts us : List Bool) (other : ℕ) → (firstOf (suc n) ts 0 ≡ 0 → ⊥) → firstOf (suc n) (ts ++ us) other ≡ firstOf (suc n) ts 0
+first-front n [] us other h = absurd (h refl)
+first-front n (true ∷ ts) us other h = refl
+first-front n (false ∷ ts) us other h = first-front (suc n) ts us other h
+
+-- none holds: it is the first of the second run
+pub first-back : (n : ℕ) (ts us : List Bool) (other : ℕ) → firstOf (suc n) ts 0 ≡ 0 → firstOf (suc n) (ts ++ us) other ≡ firstOf (length ts + suc n) us other
+first-back n [] us other e = ap (λ (m : ℕ). firstOf m us other) (omega arith)
+first-back n (true ∷ ts) us other e = absurd (omega arith)
+first-back n (false ∷ ts) us other e = first-back (suc n) ts us other e ∙ ap (λ (m : ℕ). firstOf m us other) (omega arith)
+
+pub first-low : (n : ℕ) (ts : List Bool) → (firstOf n ts 0 ≡ 0 → ⊥) → n ≤ firstOf n ts 0
+first-low n [] h = absurd (h refl)
+first-low n (true ∷ ts) h = omega arith
+first-low n (false ∷ ts) h = omega (arith, first-low (suc n) ts h)
+
 -- ---- counts and greatest numbers
 
 pub count-le : (ok : ℕ → Bool) (n : ℕ) → count ok n ≤ n
@@ -130,6 +161,35 @@ count-le ok (suc n) = by (ok n) (count-le ok n)
     by : (b : Bool) → count ok n ≤ n → count ok n + cond b 1 0 ≤ suc n
     by true h = omega arith
     by false h = omega arith
+
+-- a count is 0 exactly if the test passes nowhere
+pub count-none : (ok : ℕ → Bool) (n : ℕ) → ((k : ℕ) → k < n → ok k ≡ false) → count ok n ≡ 0
+unfolding count
+count-none ok zero h = refl
+count-none ok (suc n) h =
+    ap (λ (b : Bool). count ok n + cond b 1 0) (h n (omega arith)) ∙ omega (arith, count-none ok n (λ k l. h k (omega arith)))
+
+pub none-counted : (ok : ℕ → Bool) (n : ℕ) → count ok n ≡ 0 → (k : ℕ) → k < n → ok k ≡ false
+unfolding count
+none-counted ok zero e k h = absurd (lt-irrefl k (omega arith))
+none-counted ok (suc n) e k h = at (ok n) refl e (eq-or-lt-of-le h) (λ z l. none-counted ok n z k l)
+  where
+    at : (b : Bool) → ok n ≡ b → count ok n + cond b 1 0 ≡ 0 → (suc k ≡ suc n) ⊎ (suc k < suc n) → (count ok n ≡ 0 → k < n → ok k ≡ false) → ok k ≡ false
+    at true q z w rest = absurd (lt-irrefl 0 (omega arith))
+    at false q z (inl s) rest = let i : k ≡ n = omega arith in ap ok i ∙ q
+    at false q z (inr l) rest = rest (omega arith) (omega arith)
+
+-- a loop that has counted m of the indices before n: one index more
+module _ (ok : ℕ → Bool) (n m : ℕ) (e : m ≡ count ok n) where
+  pub count-more : m + cond (ok n) 1 0 ≡ count ok (n + 1)
+  unfolding count
+  count-more = rw (add-one, e)
+
+  pub count-yes : ok n ≡ true → m + 1 ≡ count ok (n + 1)
+  count-yes t = sym (ap (λ (b : Bool). m + cond b 1 0) t) ∙ count-more
+
+  pub count-no : ok n ≡ false → m ≡ count ok (n + 1)
+  count-no f = sym (add-zero m) ∙ sym (ap (λ (b : Bool). m + cond b 1 0) f) ∙ count-more
 
 module _ (least : ℕ) (f : ℕ → ℕ) where
   pub greatest-least : (n : ℕ) → least ≤ greatest least f n

@@ -1,6 +1,7 @@
 pub mod AnswerLaws
 pub mod FieldLaws
 pub mod FirstLaws
+pub mod LoopLaws
 pub mod NumberLaws
 pub mod PutsLaws
 pub mod ListLaws

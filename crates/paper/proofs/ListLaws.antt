@@ -27,6 +27,10 @@ pub either : (a b : Bool) → (a || b) ≡ true → (a ≡ true) ⊎ (b ≡ true
 either true b e = inl refl
 either false b e = inr e
 
+pub neither : (a b : Bool) → (a || b) ≡ false → (a ≡ false) × (b ≡ false)
+neither true b e = absurd (false≢true (sym e))
+neither false b e = (refl, e)
+
 pub other : (a b : Bool) → (a || b) ≡ true → a ≡ false → b ≡ true
 other true b e f = absurd (false≢true (sym f))
 other false b e f = e

@@ -1,44 +1,30 @@
 -- `lists::first_bad_check` meets its contract: every entry passed keeps its rule. Assumes nothing.
-use Prim.Native.Nat.{ℕ, _≤_, _<_, _-_}
-use mathlib.Core.Path.{_≡_, sym, ap, _∙_}
-use mathlib.Core.Bool.{true}
-use native.Mathlib.Omega.{arith}
-use denote.Ref.{now}
-use borrow.Author.Count.{below-none, below-more}
+use Prim.Native.Nat.{_-_}
+use mathlib.Core.Path.{ap}
 use borrow.Author.Needs.{needs}
-use borrow.Author.Tests.{not-true, not-false}
 use Rattle.paper.specs.SignalList.{entry, checkSize, checkAt, checkRule}
-use Rattle.paper.proofs.FirstLaws.{first-here, first-none}
+use Rattle.paper.proofs.LoopLaws.{Passed, passed-none, passed-more, fails-here, fails-nowhere}
 use Rattle.lists.proofs.first_bad_check.Statement.{statement}
 use Rattle.lists.proofs.first_bad_check.Tie as tie
 
 abbrev Inv-loop : tie.InvT-loop
-Inv-loop list n k₀ k = (k ≤ n) × ((j : ℕ) → j < k → checkRule (checkAt list) j ≡ true)
+Inv-loop list n k₀ k = Passed (checkRule (checkAt list)) n k
 
 abbrev μ-loop : tie.MeasureT-loop
 μ-loop list n k₀ k = n - k
 
-loop-holds : tie.Need-loop-holds Inv-loop μ-loop
-loop-holds c = (search needs, below-none _)
-
 returns : tie.Need-returns Inv-loop μ-loop
 returns c =
-    let l = c .before .before .before in
-    let a = l .before .before .args in
-    sym
-    (ap (entry checkSize)
-    (first-here (checkRule (checkAt (now (a .list)))) (a .n) (l .loop .k) (omega arith) (l .loop .inv .1)
-    (sym (c .before .check-rule .ensures) ∙ not-true _ (c .if1 .taken))))
+    let t = c .before .before in
+    ap (entry checkSize) (fails-here (t .before .loop .inv) (t .loop-test .taken) (c .before .check-rule .ensures) (c .if1 .taken))
 
 loop-again : tie.Need-loop-again Inv-loop μ-loop
 loop-again c =
-    (search needs, below-more _ _ (c .before .before .before .loop .inv .1) (sym (c .before .check-rule .ensures) ∙ not-false _ (c .if1 .left)))
+    let t = c .before .before in
+    passed-more (t .before .loop .inv) (t .loop-test .taken) (c .before .check-rule .ensures) (c .if1 .left)
 
 returns-2 : tie.Need-returns-2 Inv-loop μ-loop
-returns-2 c =
-    let l = c .before in
-    let a = l .before .before .args in
-    sym (ap (entry checkSize) (first-none (checkRule (checkAt (now (a .list)))) (a .n) (λ j h. l .loop .inv .1 j (omega arith))))
+returns-2 c = ap (entry checkSize) (fails-nowhere (c .before .loop .inv) (c .loop-test .left))
 
 pub first-bad-check-spec : {M : Type 1} → statement M
 first-bad-check-spec =
@@ -46,7 +32,7 @@ first-bad-check-spec =
     (tie.spec
     Inv-loop
     μ-loop
-    loop-holds
+    (λ c. passed-none _ _)
     (λ c κs. search needs)
     (λ c. search needs)
     (λ c. search needs)

@@ -1,0 +1,60 @@
+-- The laws of a loop that searches the indices 0 to n - 1 in their order: what it has shown where it stands, and what it answers where its test fails, or
+-- past them all. Assumes nothing.
+use Prim.Native.Nat.{ℕ, _+_, _≤_, _<_}
+use mathlib.Core.Path.{_≡_, sym, _∙_}
+use mathlib.Core.Bool.{Bool, true, false, not}
+use native.Mathlib.Omega.{arith}
+use borrow.Author.Count.{below-none, below-more}
+use borrow.Author.Tests.{not-true, not-false}
+use Rattle.paper.specs.First.{firstBad, all, some}
+use Rattle.paper.proofs.FirstLaws.{first-here, first-none, all-true, all-false, some-true, some-false}
+
+-- the loop stands at k: the test passes at each index before
+pub record Passed (ok : ℕ → Bool) (n k : ℕ) : Type 0 where
+  pub within : k ≤ n
+  pub each : (j : ℕ) → j < k → ok j ≡ true
+
+pub passed-none : (ok : ℕ → Bool) (n : ℕ) → Passed ok n 0
+passed-none ok n = record { within = omega arith; each = below-none _ }
+
+-- it tests k, and goes on or answers; b is what the tested call gave
+module _ {ok : ℕ → Bool} {n k : ℕ} (p : Passed ok n k) (lt : k < n) {b : Bool} (is : b ≡ ok k) where
+  pub passed-more : not b ≡ false → Passed ok n (k + 1)
+  passed-more e = record { within = omega arith; each = below-more _ _ (p .each) (sym is ∙ not-false _ e) }
+
+  pub fails-here : not b ≡ true → k ≡ firstBad ok n
+  fails-here e = sym (first-here ok n k lt (p .each) (sym is ∙ not-true _ e))
+
+  pub not-all-here : not b ≡ true → false ≡ all ok n
+  not-all-here e = sym (all-false ok n k lt (sym is ∙ not-true _ e))
+
+-- it has tested them all
+module _ {ok : ℕ → Bool} {n k : ℕ} (p : Passed ok n k) (ge : n ≤ k) where
+  pub fails-nowhere : n ≡ firstBad ok n
+  fails-nowhere = sym (first-none ok n (λ j h. p .each j (omega arith)))
+
+  pub stands-past : k ≡ firstBad ok n
+  stands-past = let e : k ≡ n = omega (arith, p .within) in e ∙ fails-nowhere
+
+  pub all-passed : true ≡ all ok n
+  all-passed = sym (all-true ok n (λ j h. p .each j (omega arith)))
+
+-- ---- a loop that looks for an index at which the test passes: it fails at each before
+
+pub record Missed (ok : ℕ → Bool) (n k : ℕ) : Type 0 where
+  pub within : k ≤ n
+  pub each : (j : ℕ) → j < k → ok j ≡ false
+
+pub missed-none : (ok : ℕ → Bool) (n : ℕ) → Missed ok n 0
+missed-none ok n = record { within = omega arith; each = below-none _ }
+
+module _ {ok : ℕ → Bool} {n k : ℕ} (p : Missed ok n k) (lt : k < n) {b : Bool} (is : b ≡ ok k) where
+  pub missed-more : b ≡ false → Missed ok n (k + 1)
+  missed-more e = record { within = omega arith; each = below-more _ _ (p .each) (sym is ∙ e) }
+
+  pub some-here : b ≡ true → true ≡ some ok n
+  some-here e = sym (some-true ok n k lt (sym is ∙ e))
+
+module _ {ok : ℕ → Bool} {n k : ℕ} (p : Missed ok n k) (ge : n ≤ k) where
+  pub some-nowhere : false ≡ some ok n
+  some-nowhere = sym (some-false ok n (λ j h. p .each j (omega arith)))
