@@ -1,6 +1,6 @@
 -- How a judge puts its answer together, where a refusal's offset lies, and what an accepted list keeps. Assumes nothing.
 use Prim.Native.Nat.{ℕ, _+_, _*_, _≤_, _<_, zero-le}
-use mathlib.Core.Path.{_≡_, refl, sym, ap}
+use mathlib.Core.Path.{_≡_, refl, sym, ap, _∙_}
 use mathlib.Core.Bool.{Bool, true, false}
 use mathlib.Core.List.{List}
 use native.Mathlib.Nat.{le-of-lt, le-refl, mul-le-mul-left, lt-of-mul-lt-mul-left, mul-lt-mul-of-pos-left}
@@ -21,29 +21,13 @@ use Rattle.refusals.proofs.Laws.{numbered, numbered-of}
 use Rattle.lists.specs.declared.Counts.{Counts}
 use Rattle.lists.specs.declared.Judged.{Judged}
 use Rattle.lists.specs.declared.Judged.the-variants.{Accepted, Refused}
-use Rattle.lists.specs.Judged.{countsOf, judgedAnswer, RefusedWithin}
+use Rattle.lists.specs.declared.Section.{Section}
+use Rattle.lists.specs.declared.Section.the-variants.{Entries, Refused as Unopened}
+use Rattle.lists.specs.Judged.{countsOf, judgedAnswer, sectionAnswer, RefusedWithin}
 
--- ---- a section and what follows it: the three ways in which its judge comes out
-
-module _ {A : Type 0} (limit size : ℕ) (rule : ℕ → Bool) (xs : List ℕ) (next : ℕ → Answer A) where
-  pub not-opened : (f : Refusal) → refusalOf f ≡ opening limit size xs → refusalOf f ≡ andThen (judgeSection limit size rule xs) next
-  unfolding judgeSection
-  not-opened f e = rw (← e)
-
-  pub entry-broken : (n at : ℕ) → gives n ≡ opening limit size xs → at ≡ entry size (firstBad rule n) → at < entry size n
-      → refused 3 at ≡ andThen (judgeSection limit size rule xs) next
-  unfolding judgeSection judgeEntries refuseIf
-  entry-broken n at o e h = rw (← o, lt-ltb (firstBad rule n) n (lt-of-mul-lt-mul-left size (omega arith)), e)
-
-  pub entries-kept : (n at : ℕ) (y : Answer A) → 0 < size → gives n ≡ opening limit size xs → at ≡ entry size (firstBad rule n) → entry size n ≤ at
-      → y ≡ next n → y ≡ andThen (judgeSection limit size rule xs) next
-  unfolding judgeSection judgeEntries refuseIf
-  entries-kept n at y pos o e h q =
-      let all : n ≤ firstBad rule n = elim (decLt (firstBad rule n) n) [
-        | yes lt ↦ let less : size * firstBad rule n < size * n = mul-lt-mul-of-pos-left lt pos in omega arith
-        | no ge ↦ omega arith
-      ] in
-      rw (← o, le-ltb (firstBad rule n) n all) q
+-- what follows a section is judged as the rest of the list, at its place in the list
+abbrev pub onward : ℕ → List ℕ → (ℕ → List ℕ → Answer PaperCounts) → ℕ → Answer PaperCounts
+onward size xs from n = shift (entry size n) (from n (rest size n xs))
 
 -- ---- where a refusal's offset lies: within the part that was judged
 
@@ -61,7 +45,7 @@ within-then most (gives a) next w k = k a refl
 within-then most (refused n at) next w k = w
 
 -- the rest of a list past n entries, at its place in the list
-pub within-rest : {A : Type 0} (size n : ℕ) (xs : List ℕ) (most : ℕ) (x : Answer A) → entry size n ≤ length xs → length xs ≤ most
+within-rest : {A : Type 0} (size n : ℕ) (xs : List ℕ) (most : ℕ) (x : Answer A) → entry size n ≤ length xs → length xs ≤ most
     → RefusedWithin (length (rest size n xs)) x → RefusedWithin most (shift (entry size n) x)
 within-rest size n xs most (gives a) h le w = tt
 within-rest size n xs most (refused m at) h le w = (w .0, omega (arith, length-drop (entry size n) xs, w .1))
@@ -79,6 +63,12 @@ section-within limit size rule xs =
     (λ n e. last-within _ 3 _ _ n (omega arith)
     (λ t. let le : size * firstBad rule n ≤ size * n = mul-le-mul-left size (le-of-lt (ltb-true _ _ t)) in omega (arith, opened-of limit size xs n e .present)))
 
+onward-within : (limit size : ℕ) (rule : ℕ → Bool) (xs : List ℕ) (from : ℕ → List ℕ → Answer PaperCounts) → ((n : ℕ) (ys : List ℕ) → RefusedWithin (length ys) (from n ys))
+    → RefusedWithin (length xs) (andThen (judgeSection limit size rule xs) (onward size xs from))
+onward-within limit size rule xs from w =
+    within-then (length xs) (judgeSection limit size rule xs) (onward size xs from) (section-within limit size rule xs)
+    (λ n e. within-rest size n xs (length xs) (from n (rest size n xs)) (holds-of _ _ _ _ _ e .opens .present) (le-refl _) (w n (rest size n xs)))
+
 module _ (signals : ℕ) (signal : ℕ → Signal) (checks : ℕ) where
   pub routes-within : (codes : ℕ) (xs : List ℕ) → RefusedWithin (length xs) (fromRoutes signals signal checks codes xs)
   unfolding fromRoutes ending
@@ -88,17 +78,67 @@ module _ (signals : ℕ) (signal : ℕ → Signal) (checks : ℕ) where
 
   pub codes-within : (xs : List ℕ) → RefusedWithin (length xs) (fromCodes signals signal checks xs)
   unfolding fromCodes
-  codes-within xs =
-      within-then (length xs) (judgeSection mostCodes codeSize (codeRule signals signal (codeAt xs)) xs) _
-      (section-within _ _ _ xs)
-      (λ n e. within-rest codeSize n xs (length xs) (fromRoutes signals signal checks n (rest codeSize n xs)) (holds-of _ _ _ _ _ e .opens .present) (le-refl _) (routes-within n (rest codeSize n xs)))
+  codes-within xs = onward-within mostCodes codeSize (codeRule signals signal (codeAt xs)) xs (fromRoutes signals signal checks) routes-within
 
 pub signals-within : (checks : ℕ) (check : ℕ → ℕ) (xs : List ℕ) → RefusedWithin (length xs) (fromSignals checks check xs)
 unfolding fromSignals
 signals-within checks check xs =
-    within-then (length xs) (judgeSection mostSignals signalSize (signalRule checks check (signalAt xs)) xs) _
-    (section-within _ _ _ xs)
-    (λ n e. within-rest signalSize n xs (length xs) (fromCodes n (signalAt xs) checks (rest signalSize n xs)) (holds-of _ _ _ _ _ e .opens .present) (le-refl _) (codes-within n (signalAt xs) checks (rest signalSize n xs)))
+    onward-within mostSignals signalSize (signalRule checks check (signalAt xs)) xs (λ n. fromCodes n (signalAt xs) checks) (λ n. codes-within n (signalAt xs) checks)
+
+-- ---- a section and what follows it
+
+-- its limit, its entries' size and rule, the list from its count on, and what is answered past n entries that keep the rule
+pub record Part : Type 0 where
+  pub limit : ℕ
+  pub size : ℕ
+  pub rule : ℕ → Bool
+  pub octets : List ℕ
+  pub next : ℕ → Answer PaperCounts
+
+abbrev pub judgedPart : Part → Answer PaperCounts
+judgedPart p = andThen (judgeSection (p .limit) (p .size) (p .rule) (p .octets)) (p .next)
+
+-- it opens with n entries
+pub record Opens (p : Part) (n : ℕ) : Type 0 where
+  pub told : gives n ≡ opening (p .limit) (p .size) (p .octets)
+  pub within : n ≤ p .limit
+  pub present : entry (p .size) n ≤ length (p .octets)
+
+-- s is what `open` answered
+module _ (p : Part) {s : Section} (said : sectionAnswer s ≡ opening (p .limit) (p .size) (p .octets)) where
+  pub opens : (n : ℕ) → s ≡ Entries n → Opens p n
+  opens n e =
+      let told : gives n ≡ opening (p .limit) (p .size) (p .octets) = sym (ap sectionAnswer e) ∙ said in
+      let o = opened-of _ _ _ n (sym told) in
+      record { told = told; within = o .within; present = o .present }
+
+  pub not-opened : (f : Refusal) → s ≡ Unopened f → refusalOf f ≡ judgedPart p
+  unfolding judgeSection
+  not-opened f e = let told : refusalOf f ≡ opening (p .limit) (p .size) (p .octets) = sym (ap sectionAnswer e) ∙ said in rw (← told)
+
+module _ {p : Part} {n : ℕ} (o : Opens p n) where
+  -- `at` is what the loop over its entries answered
+  module _ {at : ℕ} (is : at ≡ entry (p .size) (firstBad (p .rule) n)) where
+    pub entry-broken : at < entry (p .size) n → refused 3 at ≡ judgedPart p
+    unfolding judgeSection judgeEntries refuseIf
+    entry-broken h = rw (← (o .told), lt-ltb (firstBad (p .rule) n) n (lt-of-mul-lt-mul-left (p .size) (omega arith)), is)
+
+    pub entries-kept : 0 < p .size → entry (p .size) n ≤ at → (y : Answer PaperCounts) → y ≡ p .next n → y ≡ judgedPart p
+    unfolding judgeSection judgeEntries refuseIf
+    entries-kept pos h y q =
+        let all : n ≤ firstBad (p .rule) n = elim (decLt (firstBad (p .rule) n) n) [
+          | yes lt ↦ let less : p .size * firstBad (p .rule) n < p .size * n = mul-lt-mul-of-pos-left lt pos in omega arith
+          | no ge ↦ omega arith
+        ] in
+        rw (← (o .told), le-ltb (firstBad (p .rule) n) n all) q
+
+  -- x is what the judge of the rest answered: it can be moved to its place, and is then what follows
+  module _ (from : ℕ → List ℕ → Answer PaperCounts) {x : Answer PaperCounts} {ys : List ℕ} (is : x ≡ from n ys) (past : ys ≡ rest (p .size) n (p .octets)) where
+    pub moves : {most : ℕ} → length (p .octets) ≤ most → RefusedWithin (length ys) (from n ys) → RefusedWithin most (shift (entry (p .size) n) x)
+    moves le w = rw (is, past) (within-rest (p .size) n (p .octets) _ (from n (rest (p .size) n (p .octets))) (o .present) le (rw past at w))
+
+    pub follows : {y : Answer PaperCounts} → y ≡ shift (entry (p .size) n) x → y ≡ onward (p .size) (p .octets) from n
+    follows e = e ∙ ap (shift (entry (p .size) n)) (is ∙ ap (from n) past)
 
 -- ---- what an accepted list keeps
 

@@ -1,99 +1,53 @@
 -- `lists::from_signals` meets its contract. Assumes nothing.
-use Prim.Native.Nat.{_+_, _-_, _*_, _^_}
-use mathlib.Core.Path.{_≡_, sym, ap, subst, _∙_}
+use Prim.Native.Nat.{ℕ}
+use mathlib.Core.List.{List}
 use native.Mathlib.Omega.{arith}
 use denote.Ref.{now}
 use borrow.Author.Needs.{needs}
-use Rattle.paper.specs.Answer.{Answer, gives, shift}
-use Rattle.paper.specs.SignalList.{Counts, entry, rest, signalSize, mostSignals, checkAt, signalAt, signalRule, opening, fromCodes, fromSignals}
-use Rattle.paper.proofs.ListLaws.{Opened, opened-of}
-use Rattle.lists.specs.Judged.{sectionAnswer, judgedAnswer, RefusedWithin}
-use Rattle.lists.proofs.Laws.{not-opened, entry-broken, entries-kept, within-rest, codes-within}
+use Rattle.paper.specs.Answer.{Answer}
+use Rattle.paper.specs.SignalList.{Counts, signalSize, mostSignals, checkAt, signalAt, signalRule, fromCodes, fromSignals}
+use Rattle.lists.proofs.Laws.{Part, onward, Opens, opens, not-opened, entry-broken, entries-kept, moves, follows, codes-within}
 use Rattle.lists.proofs.from_signals.Statement.{statement}
 use Rattle.lists.proofs.from_signals.Tie as tie
 
-told : (c : tie.After-known-told2) → gives (c .before .opened2 .given .0 .0) ≡ opening mostSignals signalSize (now (c .before .before .before .before .before .before .args .tail))
-told c = sym (ap sectionAnswer (c .before .opened2 .given .1)) ∙ c .before .before .before .«open» .ensures
+-- the judge of the rest, and the section before it
+abbrev from : tie.Start → ℕ → List ℕ → Answer Counts
+from s n ys = fromCodes n (signalAt (now (s .args .tail))) (s .args .checks) ys
 
-opened : (c : tie.After-known-told2) → Opened mostSignals signalSize (now (c .before .before .before .before .before .before .args .tail)) (c .before .opened2 .given .0 .0)
-opened c = opened-of _ _ _ _ (sym (told c))
+abbrev part : tie.Start → Part
+part s =
+    record {
+      limit = mostSignals;
+      size = signalSize;
+      rule = signalRule (s .args .checks) (checkAt (now (s .args .list))) (signalAt (now (s .args .tail)));
+      octets = now (s .args .tail);
+      next = onward signalSize (now (s .args .tail)) (from s);
+    }
 
--- the answer of the rest, of the list itself
-answer : (c : tie.After-from-codes) →
-    let t = c .before .before .before .before in
-    let n = t .before .opened2 .given .0 .0 in
-    let a = t .before .before .before .before .before .before .args in
-    let check = checkAt (now (a .list)) in
-    let xs = now (a .tail) in
-    judgedAnswer (c .from-codes .result) ≡ fromCodes n (signalAt xs) (a .checks) (rest signalSize n xs)
-answer c =
-    let t = c .before .before .before .before in
-    let n = t .before .opened2 .given .0 .0 in
-    let a = t .before .before .before .before .before .before .args in
-    let check = checkAt (now (a .list)) in
-    let xs = now (a .tail) in
-    c .from-codes .ensures ∙ ap (fromCodes n (signalAt xs) (a .checks)) (c .before .rest .ensures)
-
-first-bad-signal-requires : tie.Need-first-bad-signal-requires
-first-bad-signal-requires c κs = (search needs, opened c .present)
-
-mul-end : tie.Need-mul-end
-mul-end c = omega (arith, opened (c .before))
-
-add-end : tie.Need-add-end
-add-end c = omega (arith, opened (c .before))
+opened : (c : tie.After-known-told2) → Opens (part (c .before .before .before .before .before .before)) (c .before .opened2 .given .0 .0)
+opened c = opens _ (c .before .before .before .«open» .ensures) _ (c .before .opened2 .given .1)
 
 returns : tie.Need-returns
 unfolding fromSignals
-returns c =
-    let t = c .before .before in
-    let a = t .before .before .before .before .before .before .args in
-    let check = checkAt (now (a .list)) in
-    let xs = now (a .tail) in
-    entry-broken mostSignals signalSize (signalRule (a .checks) check (signalAt xs)) xs
-    (λ m. shift (entry signalSize m) (fromCodes m (signalAt xs) (a .checks) (rest signalSize m xs)))
-    (t .before .opened2 .given .0 .0) _ (told t) (c .before .first-bad-signal .ensures) (c .if1 .taken)
-
-rest-requires : tie.Need-rest-requires
-rest-requires c κs = opened (c .before .before) .present
-
-from-codes-requires : tie.Need-from-codes-requires
-from-codes-requires c κs = opened (c .before .before .before) .within
+returns c = entry-broken (opened (c .before .before)) (c .before .first-bad-signal .ensures) (c .if1 .taken)
 
 moved-requires : tie.Need-moved-requires
 moved-requires c κs =
     let t = c .before .before .before .before in
-    let n = t .before .opened2 .given .0 .0 in
-    let a = t .before .before .before .before .before .before .args in
-    let check = checkAt (now (a .list)) in
-    let xs = now (a .tail) in
-    subst (λ (x : Answer Counts). RefusedWithin (2 ^ 64 - 1) (shift (2 + signalSize * n) x)) (sym (answer c))
-    (within-rest signalSize n xs (2 ^ 64 - 1) (fromCodes n (signalAt xs) (a .checks) (rest signalSize n xs)) (opened t .present) (search needs) (codes-within n (signalAt xs) (a .checks) (rest signalSize n xs)))
+    moves (opened t) (from (t .before .before .before .before .before .before)) (c .from-codes .ensures) (c .before .rest .ensures) (search needs) (codes-within _ _ _ _)
 
 returns-2 : tie.Need-returns-2
 unfolding fromSignals
-returns-2 c =
-    let o = c .before .before .before in
-    let a = o .before .before .before .args in
-    let check = checkAt (now (a .list)) in
-    let xs = now (a .tail) in
-    not-opened mostSignals signalSize (signalRule (a .checks) check (signalAt xs)) xs
-    (λ m. shift (entry signalSize m) (fromCodes m (signalAt xs) (a .checks) (rest signalSize m xs)))
-    (c .before .opened .given .0 .0) (sym (ap sectionAnswer (c .before .opened .given .1)) ∙ o .«open» .ensures)
+returns-2 c = not-opened (part (c .before .before .before .before .before .before)) (c .before .before .before .«open» .ensures) _ (c .before .opened .given .1)
 
 returns-3 : tie.Need-returns-3
 unfolding fromSignals
 returns-3 c =
-    let e = c .before .before .before in
+    let r = c .before in
+    let e = r .before .before in
     let t = e .before .before in
-    let n = t .before .opened2 .given .0 .0 in
-    let a = t .before .before .before .before .before .before .args in
-    let check = checkAt (now (a .list)) in
-    let xs = now (a .tail) in
-    entries-kept mostSignals signalSize (signalRule (a .checks) check (signalAt xs)) xs
-    (λ m. shift (entry signalSize m) (fromCodes m (signalAt xs) (a .checks) (rest signalSize m xs)))
-    n _ _ (omega arith) (told t) (e .before .first-bad-signal .ensures) (e .if1 .left)
-    (c .moved .ensures ∙ ap (shift (2 + signalSize * n)) (answer (c .before)))
+    entries-kept (opened t) (e .before .first-bad-signal .ensures) (omega arith) (e .if1 .left) _
+    (follows (opened t) (from (t .before .before .before .before .before .before)) (r .from-codes .ensures) (r .before .rest .ensures) (c .moved .ensures))
 
 pub from-signals-spec : {M : Type 1} → statement M
 from-signals-spec =
@@ -102,12 +56,12 @@ from-signals-spec =
     (λ c κs. search needs)
     (λ c. search needs)
     (λ c. search needs)
-    first-bad-signal-requires
-    mul-end
-    add-end
+    (λ c κs. (search needs, opened c .present))
+    (λ c. omega (arith, opened (c .before)))
+    (λ c. omega (arith, opened (c .before)))
     returns
-    rest-requires
-    from-codes-requires
+    (λ c κs. opened (c .before .before) .present)
+    (λ c κs. opened (c .before .before .before) .within)
     moved-requires
     returns-2
     returns-3)
