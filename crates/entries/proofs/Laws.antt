@@ -2,8 +2,8 @@
 use Prim.Native.Nat.{ℕ}
 use mathlib.Core.Path.{_≡_, refl}
 use mathlib.Core.Bool.{Bool, true, false, not, _&&_}
-use borrow.Author.Tests.{not-true, not-false}
 use Rattle.paper.specs.SignalList.{Signal, clearRule, signalRule}
+use Rattle.paper.proofs.ListLaws.{stops-short, asks-on}
 use Rattle.entries.specs.Entries.{ownRule}
 
 module _ (checks : ℕ) (check : ℕ → ℕ) (signal : ℕ → Signal) (k : ℕ) where
@@ -14,7 +14,7 @@ module _ (checks : ℕ) (check : ℕ → ℕ) (signal : ℕ → Signal) (k : ℕ
   -- b is what the test of its own part gave: it settles the entry, or leaves it to the checks
   module _ (b : Bool) (is : b ≡ ownRule checks check signal k) where
     pub own-breaks : not b ≡ true → false ≡ signalRule checks check signal k
-    own-breaks e = rw (in-two, ← is, not-true b e)
+    own-breaks e = rw in-two (stops-short is _ e)
 
     pub own-passes : not b ≡ false → (clear : Bool) → clear ≡ clearRule checks check (signal k) → clear ≡ signalRule checks check signal k
-    own-passes e clear q = rw (in-two, ← is, not-false b e, q)
+    own-passes e clear q = rw in-two (asks-on is _ e clear q)

@@ -21,18 +21,9 @@ use Rattle.refusals.proofs.Laws.{numbered, numbered-of}
 use Rattle.etelegrams.specs.declared.ERead.{ERead}
 use Rattle.etelegrams.specs.declared.ERead.the-variants as E
 use Rattle.etelegrams.specs.Answers.{eReadAnswer}
-use Rattle.paper.proofs.FirstLaws.{all-at, some-true, some-false, some-at}
+use Rattle.paper.proofs.FirstLaws.{all-at, some-false, some-at}
 
 -- ---- the codes
-
--- the two answers of a search through the table
-pub is-request : (code i : ℕ) → i < 25 → getD requests i 0 ≡ code → isRequest code ≡ true
-unfolding isRequest requests
-is-request code i h e = some-true (λ i. eqb (getD requests i 0) code) 25 i h (eq-eqb (getD requests i 0) code e)
-
-pub no-request : (code : ℕ) → ((k : ℕ) → k < 25 → eqb (getD requests k 0) code ≡ false) → isRequest code ≡ false
-unfolding isRequest requests
-no-request code below = some-false (λ i. eqb (getD requests i 0) code) 25 below
 
 -- where a request stands in the table
 pub request-at : (code : ℕ) → isRequest code ≡ true → (i : ℕ) × ((i < 25) × (getD requests i 0 ≡ code))

@@ -9,7 +9,7 @@ use native.Mathlib.Decide.{decLt, ℕ-discrete}
 use native.Mathlib.Omega.{arith}
 use lib.ListN.{length, drop, length-drop}
 use lib.Dec.{ltb, leb, eqb}
-use borrow.Author.Tests.{ltb-true, ltb-false, leb-true, eqb-true, eqb-false, eq-eqb, ne-eqb, not-true}
+use borrow.Author.Tests.{ltb-true, ltb-false, leb-true, eqb-true, eqb-false, eq-eqb, ne-eqb, not-true, not-false}
 use Rattle.paper.specs.Octets.{number}
 use Rattle.paper.specs.Answer.{Answer, gives, refused, refuseIf, andThen, shift}
 use Rattle.paper.specs.First.{firstBad, all}
@@ -17,7 +17,7 @@ use Rattle.paper.specs.SignalList.{Signal, Code, Route, fieldEnd, routeE
 use Rattle.paper.proofs.AnswerLaws.{not-refused, and-then, not-shifted, gives-one}
 use Rattle.paper.proofs.FirstLaws.{first-passed, all-at}
 
--- ---- a test made of tests, taken apart
+-- ---- a test made of tests, taken apart and put together
 
 pub both : (a b : Bool) → (a && b) ≡ true → (a ≡ true) × (b ≡ true)
 both true b e = (refl, e)
@@ -34,6 +34,14 @@ neither false b e = (refl, e)
 pub other : (a b : Bool) → (a || b) ≡ true → a ≡ false → b ≡ true
 other true b e f = absurd (false≢true (sym f))
 other false b e f = e
+
+-- put together by a call that tests the first part, which gave b, and answers false or asks the second
+module _ {b x : Bool} (is : b ≡ x) (y : Bool) where
+  pub stops-short : not b ≡ true → false ≡ (x && y)
+  stops-short e = rw (← is, not-true b e)
+
+  pub asks-on : not b ≡ false → (d : Bool) → d ≡ y → d ≡ (x && y)
+  asks-on e d q = rw (← is, not-false b e) q
 
 -- ---- a section
 

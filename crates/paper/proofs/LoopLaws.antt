@@ -3,6 +3,7 @@
 use Prim.Native.Nat.{ℕ, _+_, _≤_, _<_}
 use mathlib.Core.Path.{_≡_, sym, _∙_}
 use mathlib.Core.Bool.{Bool, true, false, not}
+use native.Mathlib.Decide.{decLt}
 use native.Mathlib.Omega.{arith}
 use borrow.Author.Count.{below-none, below-more}
 use borrow.Author.Tests.{not-true, not-false}
@@ -38,6 +39,13 @@ module _ {ok : ℕ → Bool} {n k : ℕ} (p : Passed ok n k) (ge : n ≤ k) wher
 
   pub all-passed : true ≡ all ok n
   all-passed = sym (all-true ok n (λ j h. p .each j (omega arith)))
+
+-- it need not go to the end: the rest passes too
+pub passes-on : {ok : ℕ → Bool} {n k : ℕ} → Passed ok n k → ((j : ℕ) → k ≤ j → j < n → ok j ≡ true) → true ≡ all ok n
+passes-on {ok} {n} {k} p rest = sym (all-true ok n (λ j h. elim (decLt j k) [
+  | yes lt ↦ p .each j lt
+  | no ge ↦ rest j (omega arith) h
+]))
 
 -- ---- a loop that looks for an index at which the test passes: it fails at each before
 

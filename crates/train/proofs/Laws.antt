@@ -1,10 +1,9 @@
 -- What the set of an answer holds, and when nobody meets an address. Assumes nothing.
 use mathlib.Core.Path.{_≡_, refl, sym, ap, ap₂, _∙_}
-use mathlib.Core.Bool.{Bool, true, false, not, cond, _&&_, _||_, true≢false}
+use mathlib.Core.Bool.{Bool, true, false, not, cond, _&&_, _||_}
 use mathlib.Core.List.{List}
-use mathlib.Core.Logic.{_⊎_, inl, inr}
 use Prim.Native.Nat.{ℕ, zero, suc, _+_, _-_, _/_, _%_, _^_, _≤_, _<_}
-use native.Mathlib.Nat.{div-eq-of-lt, lt-of-lt-of-le, lt-irrefl, eq-or-lt-of-le}
+use native.Mathlib.Nat.{div-eq-of-lt, lt-of-lt-of-le, lt-irrefl}
 use native.Mathlib.Decide.{decLe}
 use native.Mathlib.Omega.{arith}
 use borrow.Author.Tests.{le-leb, lt-leb, eq-eqb, ne-eqb, le-ltb, eqb-true, eqb-false, ltb-false, not-false}
@@ -12,8 +11,9 @@ use lib.Dec.{eqb, leb, ltb}
 use lib.ListN.{length}
 use lib.Pow.{pow-mono}
 use Rattle.paper.specs.Answer.{Answer, gives, refused, refuseIf}
-use Rattle.paper.specs.First.{count}
 use Rattle.paper.specs.Train.{Vehicle, Members, consistRule, isAddress, member, setTo, membersOf, resolving}
+use Rattle.paper.proofs.FirstLaws.{count-none, none-counted}
+use Rattle.paper.proofs.ListLaws.{neither}
 use Rattle.paper.proofs.AnswerLaws.{refuses, goes-past, never-both, one-answer}
 use Rattle.refusals.proofs.Laws.{numbered, numbered-of}
 use Rattle.train.specs.declared.Resolved.{Resolved}
@@ -32,23 +32,6 @@ set-bits train a (suc k) = elim (decLe (suc k) (length train)) [
       let s : setTo (member train a) (length train) < 2 ^ suc k = lt-of-lt-of-le (set-lt (member train a) (length train)) (pow-mono o) in
       simp (le-leb 1 (suc k) (omega arith), lt-leb (suc k) (length train) o) (ap (λ (x : ℕ). x % 2) (div-eq-of-lt s))
 ]
-
--- a count is 0 exactly if the test passes nowhere
-pub count-none : (ok : ℕ → Bool) (n : ℕ) → ((k : ℕ) → k < n → ok k ≡ false) → count ok n ≡ 0
-unfolding count
-count-none ok zero h = refl
-count-none ok (suc n) h =
-    ap (λ (b : Bool). count ok n + cond b 1 0) (h n (omega arith)) ∙ omega (arith, count-none ok n (λ k l. h k (omega arith)))
-
-pub none-counted : (ok : ℕ → Bool) (n : ℕ) → count ok n ≡ 0 → (k : ℕ) → k < n → ok k ≡ false
-unfolding count
-none-counted ok zero e k h = absurd (lt-irrefl k (omega arith))
-none-counted ok (suc n) e k h = at (ok n) refl e (eq-or-lt-of-le h) (λ z l. none-counted ok n z k l)
-  where
-    at : (b : Bool) → ok n ≡ b → count ok n + cond b 1 0 ≡ 0 → (suc k ≡ suc n) ⊎ (suc k < suc n) → (count ok n ≡ 0 → k < n → ok k ≡ false) → ok k ≡ false
-    at true q z w rest = absurd (lt-irrefl 0 (omega arith))
-    at false q z (inl s) rest = let i : k ≡ n = omega arith in ap ok i ∙ q
-    at false q z (inr l) rest = rest (omega arith) (omega arith)
 
 -- a train that passes 17 and 18, and an address that is listed
 pub record Asked (train : List Vehicle) (a : ℕ) : Type 0 where
@@ -77,10 +60,6 @@ module _ {A : Type 0} where
   unfolding refuseIf
   here true a e = refl
   here false a e = absurd (never-both (gives a) a 20 0 refl e)
-
-neither : (a b : Bool) → (a || b) ≡ false → (a ≡ false) × (b ≡ false)
-neither true b e = absurd (true≢false e)
-neither false b e = (refl, e)
 
 pub refused-20 : (train : List Vehicle) (a : ℕ) → resolving train a ≡ refused 20 0 → Asked train a × ((v : ℕ) → 1 ≤ v → v ≤ length train → member train a v ≡ false)
 unfolding resolving membersOf

@@ -3,7 +3,7 @@ use mathlib.Core.Path.{_≡_, refl, sym, ap, _∙_}
 use mathlib.Core.Bool.{Bool}
 use mathlib.Core.List.{map}
 use mathlib.Core.Logic.{⊎-elim}
-use Prim.Native.Nat.{ℕ, _+_, _-_, _%_, _≤_}
+use Prim.Native.Nat.{ℕ, _-_, _%_, _≤_}
 use native.Mathlib.Omega.{arith}
 use borrow.Author.Needs.{needs}
 use borrow.Author.Tests.{eq-eqb, ne-eqb}
@@ -12,9 +12,9 @@ use lib.ListN.{length, getD}
 use denote.Ref.{now}
 use Rattle.paper.specs.First.{count}
 use Rattle.paper.specs.Train.{Vehicle, noVehicle}
-use Rattle.paper.proofs.FirstLaws.{count-le}
+use Rattle.paper.proofs.FirstLaws.{count-le, count-yes, count-no}
 use Rattle.train.specs.Marks.{vehicleOf}
-use Rattle.train.proofs.Over.{map-length, map-at, count-yes, count-no}
+use Rattle.train.proofs.Over.{map-length, map-at}
 use Rattle.train.proofs.leading_count.Statement.{statement}
 use Rattle.train.proofs.leading_count.Tie as tie
 
@@ -45,8 +45,8 @@ loop-again c =
       refl,
       search needs,
       ⊎-elim
-          (λ w. w .1 ∙ ap (λ (n : ℕ). n + 1) (l .loop .inv .2) ∙ count-yes ok i (is ∙ eq-eqb _ _ (w .0 .taken)))
-          (λ w. w .1 ∙ l .loop .inv .2 ∙ count-no ok i (is ∙ ne-eqb _ _ (w .0 .left)))
+          (λ w. w .1 ∙ count-yes ok i _ (l .loop .inv .2) (is ∙ eq-eqb _ _ (w .0 .taken)))
+          (λ w. w .1 ∙ count-no ok i _ (l .loop .inv .2) (is ∙ ne-eqb _ _ (w .0 .left)))
           (c .if1 .came),
     )
 
