@@ -16,7 +16,7 @@ use Rattle.paper.specs.SignalList.{Signal, Code, SignalList}
 use Rattle.paper.specs.Extends.{Extending, extending, firstRefused, secondRefused, extendingBy, version, hasCodes, inRange, knownIn, knows, same, codesKept, keeps, stands, newer}
 use Rattle.paper.proofs.AnswerLaws.{one-answer}
 use Rattle.paper.proofs.FirstLaws.{is-first, first-here, first-none, first-most, first-passed, first-fails, all-true, all-false, not-all, all-at, some-true, some-false, some-at}
-use Rattle.paper.proofs.ListLaws.{both, other, Kept, CodeFollows, types-rise, fields-rise, one-place}
+use Rattle.paper.proofs.ListLaws.{both, neither, other, Kept, CodeFollows, types-rise, fields-rise, one-place}
 use Rattle.paper.proofs.ExtendsLaws.{same-of, same-true, keeps-of}
 use Rattle.refusals.proofs.Laws.{numbered, numbered-of}
 use Rattle.extending.specs.declared.ExtendsOutcome.{ExtendsOutcome}
@@ -381,10 +381,6 @@ module _ (a b : SignalList) (i j : ℕ) (at : i ≡ indexOf a (b .signal j)) whe
               sym (same-back (a .signal k) (b .signal j) f) ∙ not-true _ (first-passed differs (a .signals) k (omega arith))
 
 -- ---- the codes of a signal of A that are known under B
-
-neither : (x y : Bool) → (x || y) ≡ false → (x ≡ false) × (y ≡ false)
-neither true y e = absurd (false≢true (sym e))
-neither false y e = (refl, e)
 
 -- the code that is lost
 range-which : (l : SignalList) (k low high : ℕ) → rangeKept l k low high ≡ false

@@ -1,20 +1,14 @@
 -- `extending::all_newer` meets its contract. Assumes nothing.
-use Prim.Native.Nat.{ℕ, _-_, _≤_, _<_}
-use mathlib.Core.Path.{_≡_, sym, _∙_}
-use mathlib.Core.Bool.{true}
-use native.Mathlib.Omega.{arith}
-use denote.Ref.{now}
-use borrow.Author.Count.{below-none, below-more}
+use Prim.Native.Nat.{_-_}
 use borrow.Author.Needs.{needs}
-use borrow.Author.Tests.{not-true, not-false}
 use Rattle.paper.specs.Extends.{newer}
-use Rattle.paper.proofs.FirstLaws.{all-true, all-false}
+use Rattle.paper.proofs.LoopLaws.{Passed, passed-none, passed-more, not-all-here, all-passed}
 use Rattle.extending.specs.Extending.{listed}
 use Rattle.extending.proofs.all_newer.Statement.{statement}
 use Rattle.extending.proofs.all_newer.Tie as tie
 
 abbrev Inv-loop : tie.InvT-loop
-Inv-loop a m b n j₀ j = (j ≤ n .signals) × ((k : ℕ) → k < j → newer (listed a m) (listed b n) k ≡ true)
+Inv-loop a m b n j₀ j = Passed (newer (listed a m) (listed b n)) (n .signals) j
 
 abbrev μ-loop : tie.MeasureT-loop
 μ-loop a m b n j₀ j = n .signals - j
@@ -22,20 +16,12 @@ abbrev μ-loop : tie.MeasureT-loop
 returns : tie.Need-returns Inv-loop μ-loop
 returns c =
     let t = c .before .before in
-    let l = t .before .before in
-    let s = l .before .before .before .args in
-    sym (all-false (newer (listed (now (s .a)) (s .m)) (listed (now (s .b)) (s .n))) (s .n .signals) (l .loop .j) (t .if1 .taken)
-    (sym (c .before .newer-at .ensures) ∙ not-true _ (c .if2 .taken)))
+    not-all-here (t .before .before .loop .inv) (t .if1 .taken) (c .before .newer-at .ensures) (c .if2 .taken)
 
 loop-again : tie.Need-loop-again Inv-loop μ-loop
 loop-again c =
-    (search needs, below-more _ _ (c .before .before .before .before .loop .inv .1) (sym (c .before .newer-at .ensures) ∙ not-false _ (c .if2 .left)))
-
-returns-2 : tie.Need-returns-2 Inv-loop μ-loop
-returns-2 c =
-    let l = c .before .before in
-    let s = l .before .before .before .args in
-    sym (all-true (newer (listed (now (s .a)) (s .m)) (listed (now (s .b)) (s .n))) (s .n .signals) (λ k lt. l .loop .inv .1 k (omega arith)))
+    let t = c .before .before in
+    passed-more (t .before .before .loop .inv) (t .if1 .taken) (c .before .newer-at .ensures) (c .if2 .left)
 
 pub all-newer-spec : {M : Type 1} → statement M
 all-newer-spec =
@@ -43,10 +29,10 @@ all-newer-spec =
     (tie.spec
     Inv-loop
     μ-loop
-    (λ c. (search needs, below-none _))
+    (λ c. passed-none _ _)
     (λ c κs. search needs)
     returns
     (λ c. search needs)
     (λ c. search needs)
     loop-again
-    returns-2)
+    (λ c. all-passed (c .before .before .loop .inv) (c .if1 .left)))

@@ -1,14 +1,12 @@
 -- `extending::keeps_at` meets its contract. Assumes nothing.
 use Prim.Native.Nat.{ℕ}
-use mathlib.Core.Path.{_≡_, sym, ap, ap₂, _∙_}
-use mathlib.Core.Bool.{Bool, _&&_}
+use mathlib.Core.Path.{_≡_, ap, ap₂, _∙_}
 use native.Mathlib.Omega.{arith}
 use denote.Ref.{now}
 use borrow.Author.Needs.{needs}
-use borrow.Author.Tests.{not-true, not-false}
 use Rattle.paper.specs.SignalList.{Signal}
-use Rattle.paper.specs.Extends.{placeOf, codesKept, keeps}
-use Rattle.paper.proofs.ListLaws.{kept-of}
+use Rattle.paper.specs.Extends.{placeOf, keeps}
+use Rattle.paper.proofs.ListLaws.{kept-of, stops-short, asks-on}
 use Rattle.extending.specs.Extending.{listed, agreed}
 use Rattle.extending.proofs.keeps_at.Statement.{statement}
 use Rattle.extending.proofs.keeps_at.Tie as tie
@@ -47,17 +45,11 @@ tested c =
 
 returns : tie.Need-returns
 unfolding keeps
-returns c =
-    let s = c .before .before .before .before .before .before .before .before .args in
-    ap (λ (x : Bool). x && codesKept (listed (now (s .a)) (s .m)) (listed (now (s .b)) (s .n)) (s .i) (s .j)) (sym (not-true _ (c .if1 .taken)) ∙ tested (c .before))
+returns c = stops-short (tested (c .before)) _ (c .if1 .taken)
 
 returns-2 : tie.Need-returns-2
 unfolding keeps
-returns-2 c =
-    let e = c .before in
-    let s = e .before .before .before .before .before .before .before .before .args in
-    c .codes-kept .ensures
-    ∙ ap (λ (x : Bool). x && codesKept (listed (now (s .a)) (s .m)) (listed (now (s .b)) (s .n)) (s .i) (s .j)) (sym (not-false _ (e .if1 .left)) ∙ tested (e .before))
+returns-2 c = asks-on (tested (c .before .before)) _ (c .before .if1 .left) _ (c .codes-kept .ensures)
 
 pub keeps-at-spec : {M : Type 1} → statement M
 keeps-at-spec =

@@ -1,15 +1,11 @@
 -- `extending::ranges_kept` meets its contract: every entry passed that is of the signal is kept. Assumes nothing.
-use Prim.Native.Nat.{ℕ, _+_, _-_, _*_, _≤_, _<_}
-use mathlib.Core.Path.{_≡_, sym, ap, _∙_}
-use mathlib.Core.Bool.{true}
-use native.Mathlib.Decide.{decLt}
+use Prim.Native.Nat.{_+_, _-_, _*_, _≤_, _<_}
+use mathlib.Core.Path.{_≡_, ap, _∙_}
 use native.Mathlib.Omega.{arith}
 use denote.Ref.{now}
-use borrow.Author.Count.{below-more}
 use borrow.Author.Needs.{needs}
-use borrow.Author.Tests.{not-true, not-false}
 use Rattle.paper.specs.SignalList.{Code}
-use Rattle.paper.proofs.FirstLaws.{all-true, all-false}
+use Rattle.paper.proofs.LoopLaws.{Passed, passed-more, not-all-here, passes-on}
 use Rattle.paper.proofs.ListLaws.{Kept, kept-of}
 use Rattle.extending.specs.Extending.{listed, codeKeys, rangeKept, entryKept, rangesKept}
 use Rattle.extending.proofs.Laws.{Cut, cut-of, codes-rise, entry-before, entry-past, entry-within}
@@ -17,7 +13,7 @@ use Rattle.extending.proofs.ranges_kept.Statement.{statement}
 use Rattle.extending.proofs.ranges_kept.Tie as tie
 
 abbrev Inv-loop : tie.InvT-loop
-Inv-loop a m b n i j e₀ end e = (e₀ ≤ e) × ((g : ℕ) → g < e → entryKept (listed a m) (listed b n) i j g ≡ true)
+Inv-loop a m b n i j e₀ end e = (e₀ ≤ e) × Passed (entryKept (listed a m) (listed b n) i j) (m .codes) e
 
 abbrev μ-loop : tie.MeasureT-loop
 μ-loop a m b n i j e₀ end e = end - e
@@ -49,7 +45,9 @@ tested c =
     ∙ entry-within _ _ (kept s) _ _ _ _ (from (f .before)) (to f) (l .loop .e) (l .loop .inv .0) (c .before .before .loop-test .taken)
 
 loop-holds : tie.Need-loop-holds Inv-loop μ-loop
-loop-holds c = (search needs, entry-before _ _ (kept (c .before .before .before .before)) _ _ _ (from (c .before)))
+loop-holds c =
+    let f = c .before in
+    (search needs, record { within = from f .most; each = entry-before _ _ (kept (f .before .before .before)) _ _ _ (from f) })
 
 code-in-requires : tie.Need-code-in-requires Inv-loop μ-loop
 code-in-requires c κs =
@@ -65,34 +63,29 @@ range-kept-requires c κs =
     let r = kept s .code (l .loop .e) (omega (arith, to f .most)) .range in
     (s .pre .1 .0, s .pre .1 .1, c .code-in .ensures .low-small, omega (arith, ap (λ (x : Code). x .low) is, ap (λ (x : Code). x .high) is, r))
 
+there : (c : tie.In-loop Inv-loop μ-loop) → c .before .loop .e < c .before .before .before .before .before .before .args .m .codes
+there c = omega (arith, to (c .before .before) .most)
+
 returns : tie.Need-returns Inv-loop μ-loop
 unfolding rangesKept
 returns c =
-    let l = c .before .before .before .before in
-    let f = l .before in
-    let s = f .before .before .before .before .args in
-    sym (all-false (entryKept (listed (now (s .a)) (s .m)) (listed (now (s .b)) (s .n)) (s .i) (s .j)) (s .m .codes) (l .loop .e) (omega (arith, to f .most))
-    (sym (tested (c .before)) ∙ not-true _ (c .if1 .taken)))
+    let t = c .before .before .before in
+    not-all-here (t .before .loop .inv .1) (there t) (tested (c .before)) (c .if1 .taken)
 
 add-e : tie.Need-add-e Inv-loop μ-loop
 add-e c = let f = c .before .before .before .before .before in omega (arith, to f .most, kept (f .before .before .before .before) .few-codes)
 
 loop-again : tie.Need-loop-again Inv-loop μ-loop
 loop-again c =
-    (search needs, below-more _ _ (c .before .before .before .before .loop .inv .1) (sym (tested (c .before)) ∙ not-false _ (c .if1 .left)))
+    let t = c .before .before .before in
+    (search needs, passed-more (t .before .loop .inv .1) (there t) (tested (c .before)) (c .if1 .left))
 
 returns-2 : tie.Need-returns-2 Inv-loop μ-loop
 unfolding rangesKept
 returns-2 c =
     let l = c .before in
     let f = l .before in
-    let s = f .before .before .before .before in
-    let test = entryKept (listed (now (s .args .a)) (s .args .m)) (listed (now (s .args .b)) (s .args .n)) (s .args .i) (s .args .j) in
-    sym (all-true test (s .args .m .codes) (λ g lt.
-    elim (decLt g (l .loop .e)) [
-      | yes less ↦ l .loop .inv .1 g less
-      | no ge ↦ entry-past _ _ (kept s) _ _ _ (to f) g (omega arith) lt
-    ]))
+    passes-on (l .loop .inv .1) (λ g ge lt. entry-past _ _ (kept (f .before .before .before .before)) _ _ _ (to f) g (omega arith) lt)
 
 pub ranges-kept-spec : {M : Type 1} → statement M
 ranges-kept-spec =
