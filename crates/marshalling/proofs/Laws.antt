@@ -41,10 +41,6 @@ module _ (l : SignalList) (store : List ℕ) (now : ℕ) (old : List ℕ) where
   none-yet = record { lives = refl; octets = refl }
 
   -- one route more
-  pub lives-more : (r m : ℕ) → m ≡ count (paper.live l store now) r → m + cond (paper.live l store now r) 1 0 ≡ count (paper.live l store now) (r + 1)
-  unfolding count
-  lives-more r m e = rw (add-one, e)
-
   pub octets-more : (r : ℕ) (new : List ℕ) → new ≡ paper.marshalled l store now old r
       → put new (l .route r .start) (l .signal (l .route r .signal) .width) (paper.routed l store now r .value) ≡ paper.marshalled l store now old (r + 1)
   unfolding paper.marshalled puts

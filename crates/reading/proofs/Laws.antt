@@ -1,8 +1,8 @@
 -- The parts of a reading are the reading. Assumes nothing.
-use Prim.Native.Nat.{ℕ, suc, _+_, _-_, _*_, _≤_, _<_}
+use Prim.Native.Nat.{ℕ, _+_, _-_, _*_, _≤_, _<_}
 use mathlib.Core.Path.{_≡_, refl, sym, ap, _∙_}
 use mathlib.Core.Bool.{Bool, true, false, cond}
-use mathlib.Core.List.{List, [], _∷_, _++_}
+use mathlib.Core.List.{List}
 use native.Mathlib.Omega.{arith}
 use native.Mathlib.Decide.{ℕ-discrete}
 use lib.ListN.{length}
@@ -16,6 +16,7 @@ use Rattle.paper.specs.SignalList.{Signal, SignalList, Counts, fieldEnd, checkA
 use Rattle.paper.specs.Extends.{placeOf, knows}
 use Rattle.paper.specs.Store.{Slot, telegramOctets}
 use Rattle.paper.specs.Reading.{Reading, hindrances, reasonOf, readingOf, markOf, codeOf}
+use Rattle.paper.proofs.FirstLaws.{first-front, first-back, first-low}
 use Rattle.paper.proofs.ListLaws.{Laid, kept-of, SignalKept}
 use Rattle.paper.proofs.AnswerLaws.{one-answer}
 use Rattle.refusals.proofs.Laws.{numbered, numbered-of}
@@ -23,25 +24,6 @@ use Rattle.octets.specs.Fields.{Within}
 use Rattle.reading.specs.declared.ReadOutcome.{ReadOutcome}
 use Rattle.reading.specs.declared.ReadOutcome.the-variants.{Read, Refused}
 use Rattle.reading.specs.Reading.{readAnswer, slotTests, markIn, MarkThere, telegramTests, telegramReason, telegramReading}
-
--- ---- the first of two runs of tests
-
--- a test of the first run holds: it is the first of both
-first-front : (n : ℕ) (ts us : List Bool) (other : ℕ) → (firstOf (suc n) ts 0 ≡ 0 → ⊥) → firstOf (suc n) (ts ++ us) other ≡ firstOf (suc n) ts 0
-first-front n [] us other h = absurd (h refl)
-first-front n (true ∷ ts) us other h = refl
-first-front n (false ∷ ts) us other h = first-front (suc n) ts us other h
-
--- none holds: it is the first of the second run
-first-back : (n : ℕ) (ts us : List Bool) (other : ℕ) → firstOf (suc n) ts 0 ≡ 0 → firstOf (suc n) (ts ++ us) other ≡ firstOf (length ts + suc n) us other
-first-back n [] us other e = ap (λ (m : ℕ). firstOf m us other) (omega arith)
-first-back n (true ∷ ts) us other e = absurd (omega arith)
-first-back n (false ∷ ts) us other e = first-back (suc n) ts us other e ∙ ap (λ (m : ℕ). firstOf m us other) (omega arith)
-
-first-low : (n : ℕ) (ts : List Bool) → (firstOf n ts 0 ≡ 0 → ⊥) → n ≤ firstOf n ts 0
-first-low n [] h = absurd (h refl)
-first-low n (true ∷ ts) h = omega arith
-first-low n (false ∷ ts) h = omega (arith, first-low (suc n) ts h)
 
 -- ---- a reading in its two parts
 

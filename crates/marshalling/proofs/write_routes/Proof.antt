@@ -7,10 +7,10 @@ use denote.Ref.{now}
 use borrow.Author.Needs.{needs}
 use Rattle.paper.specs.SignalList.{listOf}
 use Rattle.paper.specs.Marshalling.{live}
-use Rattle.paper.proofs.FirstLaws.{count-le}
+use Rattle.paper.proofs.FirstLaws.{count-le, count-more}
 use Rattle.lists.specs.Judged.{countsOf}
 use Rattle.marshalling.specs.Marshalling.{RoutesWritten}
-use Rattle.marshalling.proofs.Laws.{one-more, none-yet, lives-more, octets-more}
+use Rattle.marshalling.proofs.Laws.{one-more, none-yet, octets-more}
 use Rattle.marshalling.proofs.write_routes.Statement.{statement}
 use Rattle.marshalling.proofs.write_routes.Tie as tie
 
@@ -47,7 +47,7 @@ loop-again c =
       search needs,
       search needs,
       record {
-        lives = ap (λ (m : ℕ). p .loop .lives + m) (w .write-route .ensures .lives) ∙ lives-more l (now (a .store)) (a .clock) (now (a .bus)) (p .loop .r) (p .loop .lives) (p .loop .inv .2 .lives);
+        lives = ap (λ (m : ℕ). p .loop .lives + m) (w .write-route .ensures .lives) ∙ count-more (live l (now (a .store)) (a .clock)) (p .loop .r) (p .loop .lives) (p .loop .inv .2 .lives);
         octets = w .write-route .ensures .octets ∙ octets-more l (now (a .store)) (a .clock) (now (a .bus)) (p .loop .r) (p .loop .bus) (p .loop .inv .2 .octets);
       },
     )
