@@ -1,51 +1,34 @@
 -- The parts of composing are the paper's, and what is written lies within the telegram. Assumes nothing.
 use Prim.Native.Nat.{ℕ, _+_, _-_, _*_, _≤_, _<_}
 use mathlib.Core.Path.{_≡_, refl, sym, ap, _∙_}
-use mathlib.Core.Logic.{_⊎_, ⊎-elim}
-use mathlib.Core.Bool.{Bool, true, false, cond}
+use mathlib.Core.Bool.{true}
 use mathlib.Core.List.{List, [], _∷_, _++_, append-nil}
-use native.Mathlib.Numerals.{add-one}
 use native.Mathlib.Omega.{arith}
-use native.Mathlib.Decide.{ℕ-discrete}
 use lib.ListN.{length, drop, set, replicate, length-replicate}
 use lib.Seq.{drop-length}
-use lib.Dec.{eqb}
 use borrow.Author.Tests.{leb-true, eqb-true, not-false}
-use Rattle.paper.specs.Octets.{put, Put, puts, over}
-use Rattle.paper.specs.Answer.{Answer, gives, refused, refuseIf, andThen}
+use Rattle.paper.specs.Octets.{over}
+use Rattle.paper.specs.Answer.{gives, andThen}
 use Rattle.paper.specs.Telegrams.{typeLength, markWidth}
-use Rattle.paper.specs.SignalList.{SignalList, Counts, fieldEnd, judge, listOf}
+use Rattle.paper.specs.SignalList.{SignalList, Counts, judge, listOf}
 use Rattle.paper.specs.Extends.{version}
 use Rattle.paper.specs.Composing.{writesSignal, writesCheck, headed, composing}
-use Rattle.paper.proofs.AnswerLaws.{not-refused}
-use Rattle.paper.proofs.ListLaws.{both, either, Laid, Kept}
-use Rattle.paper.proofs.ComposingLaws.{type-bits}
+use Rattle.paper.proofs.AnswerLaws.{not-refused, past, same-then}
+use Rattle.paper.proofs.ListLaws.{both, Laid, Kept}
+use Rattle.paper.proofs.ComposingLaws.{carried-within}
 use Rattle.octets.specs.Fields.{Within}
 use Rattle.composing.specs.Composing.{headOf, Values, Marks, Room, composingTests, composingUnder}
 
 -- ---- what is written lies within the telegram
 
-pub type-least : (type : ℕ) → 40 ≤ typeLength type
-type-least type = ⊎-elim (λ b. omega (arith, b .1)) (λ b. omega (arith, b .1)) (type-bits type)
-
-pub type-most : (type : ℕ) → typeLength type ≤ 128
-type-most type = ⊎-elim (λ b. omega (arith, b .1)) (λ b. omega (arith, b .1)) (type-bits type)
-
 module _ (l : SignalList) (h : Kept l) (type : ℕ) (out : List ℕ) (long : length out ≡ typeLength type) where
   pub signal-there : (k : ℕ) → k < l .signals → writesSignal l type k ≡ true → Within out (l .signal k .start) (l .signal k .width)
-  signal-there k lt w =
-      record { some = h .signal k lt .some; wide = omega (arith, h .signal k lt .wide); inside = by (ℕ-discrete (l .signal k .type) 0) (either _ _ w) }
-    where
-      by : Dec (l .signal k .type ≡ 0) → (eqb (l .signal k .type) 0 ≡ true) ⊎ (eqb (l .signal k .type) type ≡ true) → fieldEnd (l .signal k) ≤ 8 * length out
-      by (yes z) e = omega (arith, h .signal k lt .placed .common z .1, type-least type)
-      by (no n) e =
-          let s : l .signal k .type ≡ type = ⊎-elim (λ z. absurd (n (eqb-true _ _ z))) (λ q. eqb-true _ _ q) e in
-          ⊎-elim (λ b. omega (arith, b .0, h .signal k lt .typed)) (λ b. omega (arith, b .1, h .signal k lt .placed .own n .1)) (type-bits type)
+  signal-there k lt w = record { some = h .signal k lt .some; wide = omega (arith, h .signal k lt .wide); inside = rw long (carried-within l h type k lt w .1) }
 
   pub check-there : (j : ℕ) → writesCheck l type j ≡ true → Within out (l .check j) markWidth
   check-there j w = record { some = omega arith; wide = omega arith; inside = omega (arith, leb-true (l .check j + markWidth) (8 * typeLength type) w) }
 
--- ---- the head, and one field more
+-- ---- the head
 
 pub written-head : (out : List ℕ) (a b n : ℕ) → length out ≡ n → 2 ≤ n → over (set (set out 0 a) 1 b) 2 (replicate (n - 2) 0) ≡ a ∷ b ∷ replicate (n - 2) 0
 unfolding over
@@ -60,21 +43,7 @@ pub head-is : (xs : List ℕ) (n : Counts) (type : ℕ) → Laid xs n → headOf
 unfolding headed version
 head-is xs n type h = rw (h .version)
 
-pub puts-more : (f : ℕ → Put) (l old : List ℕ) (k : ℕ) → old ≡ puts f l k
-    → cond (f k .written) (put old (f k .start) (f k .width) (f k .value)) old ≡ puts f l (k + 1)
-unfolding puts
-puts-more f l old k e = rw (add-one, e)
-
 -- ---- the tests
-
-past : {A B : Type 0} (b : Bool) (n at : ℕ) (x : Answer A) (k : A → Answer B) (y : Answer B) → y ≡ andThen x k → refuseIf b n at y ≡ andThen (refuseIf b n at x) k
-unfolding refuseIf
-past true n at x k y e = refl
-past false n at x k y e = e
-
-same-then : {A B : Type 0} (x : Answer A) (j k : A → Answer B) → ((a : A) → j a ≡ k a) → andThen x j ≡ andThen x k
-same-then (gives a) j k e = e a
-same-then (refused n at) j k e = refl
 
 pub tested : (xs : List ℕ) (type : ℕ) (values marks : List ℕ) (room : ℕ)
     → composing xs type values marks room ≡ andThen (judge xs) (λ n. composingUnder (listOf xs n) type values marks room)

@@ -7,36 +7,25 @@ ghost use lib.Dec.{leb};
 ghost use Rattle.paper.specs.Octets.{put, puts};
 ghost use Rattle.paper.specs.First.{firstBad};
 ghost use Rattle.paper.specs.Telegrams.{typeLength, markWidth};
-ghost use Rattle.paper.specs.SignalList.{signalsPart, listOf};
+ghost use Rattle.paper.specs.SignalList.{listOf};
 ghost use Rattle.paper.specs.Extends.{knows};
 ghost use Rattle.paper.specs.Composing.{signalPut, checkPut, markFits, valueFits, composed, composing};
 ghost use Rattle.paper.proofs.ListLaws.{Laid};
 ghost use Rattle.octets.specs.Fields.{Within};
 ghost use Rattle.refusals.specs.Outcome.{outcomeOf, Written};
-ghost use Rattle.entries.specs.Entries.{SignalRead};
 ghost use Rattle.lists.specs.Judged.{countsOf};
 ghost use Rattle.composing.specs.Composing.{headOf, Values, Marks, Room, composingTests, composingUnder};
-use entries::Signal;
 use lists::Counts;
 use lists::Judged;
 use refusals::Outcome;
 use refusals::Refusal;
-
-// Signal k of the list.
-fn signal(list: &[u8], n: Counts, k: usize) -> Signal
-    requires { ⌜ (Laid (now list) (countsOf n)) × (k < n .signals) ⌝ }
-    ensures { λ r. ⌜ SignalRead (signalsPart (now (list .entry)) (countsOf n)) k r ⌝ }
-{
-    entries::signal_at(lists::rest(list, 2, n.checks), k)
-}
 
 // Whether signal k knows a code under the list.
 fn is_known(list: &[u8], n: Counts, k: usize, code: u64) -> bool
     requires { ⌜ Laid (now list) (countsOf n) ⌝ }
     ensures { λ r. ⌜ r ≡ knows (listOf (now (list .entry)) (countsOf n)) k code ⌝ }
 {
-    let tail = lists::rest(list, 2, n.checks);
-    known::known(lists::rest(tail, 16, n.signals), n.codes, k, code)
+    known::known(lists::codes_part(list, n), n.codes, k, code)
 }
 
 // A check is written where both its bits lie within the telegram's length.
@@ -60,7 +49,7 @@ fn value_fits(list: &[u8], n: Counts, kind: usize, values: &[u64], k: usize) -> 
     requires { ⌜ (Values (now list) (countsOf n) (now values)) × (k < n .signals) ⌝ }
     ensures { λ r. ⌜ r ≡ valueFits (listOf (now (list .entry)) (countsOf n)) kind (now (values .entry)) k ⌝ }
 {
-    let s = signal(list, n, k);
+    let s = lists::signal_in(list, n, k);
     let v = values[k];
     !store::is_carried(kind, s.kind) | (v < entries::pow2(s.width)) & is_known(list, n, k, v)
 }
@@ -153,7 +142,7 @@ fn write_signals(list: &[u8], n: Counts, kind: usize, values: &[u64], out: &mut 
 {
     let mut k = 0;
     while k < n.signals {
-        let s = signal(list, n, k);
+        let s = lists::signal_in(list, n, k);
         write_where(
             out,
             store::is_carried(kind, s.kind),

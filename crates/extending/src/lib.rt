@@ -2,10 +2,9 @@
 ghost use mathlib.Core.Path.{_≡_};
 ghost use Prim.Native.Nat.{_<_, _≤_};
 ghost use Rattle.paper.specs.First.{all};
-ghost use Rattle.paper.specs.SignalList.{signalsPart, codesPart};
-ghost use Rattle.paper.specs.Extends.{hasCodes, placeOf, same, codesKept, keeps, stands, newer, extends as extendsList, extendsLists};
+ghost use Rattle.paper.specs.Extends.{hasCodes, same, codesKept, keeps, stands, newer, extends as extendsList, extendsLists};
 ghost use Rattle.paper.proofs.ListLaws.{Laid};
-ghost use Rattle.entries.specs.Entries.{signalOf, codeOf, SignalRead, CodeRead};
+ghost use Rattle.entries.specs.Entries.{signalOf, codeOf};
 ghost use Rattle.lists.specs.Judged.{countsOf};
 ghost use Rattle.extending.specs.Extending.{extendsAnswer, extendsUnder, listed, signalKey, codeKey, signalKeys, codeKeys, notBelow, indexOf, rangeKept, rangesKept, agreed};
 use entries::Code;
@@ -20,35 +19,6 @@ pub enum ExtendsOutcome {
     No,
     FirstRefused(Refusal),
     SecondRefused(Refusal),
-}
-
-// Signal k of an accepted list.
-fn signal_in(list: &[u8], n: Counts, k: usize) -> Signal
-    requires { ⌜ (Laid (now list) (countsOf n)) × (k < n .signals) ⌝ }
-    ensures { λ r. ⌜ SignalRead (signalsPart (now (list .entry)) (countsOf n)) k r ⌝ }
-{
-    entries::signal_at(lists::rest(list, 2, n.checks), k)
-}
-
-// Code entry e of an accepted list.
-fn code_in(list: &[u8], n: Counts, e: usize) -> Code
-    requires { ⌜ (Laid (now list) (countsOf n)) × (e < n .codes) ⌝ }
-    ensures { λ r. ⌜ CodeRead (codesPart (now (list .entry)) (countsOf n)) e r ⌝ }
-{
-    let tail = lists::rest(list, 2, n.checks);
-    entries::code_at(lists::rest(tail, 16, n.signals), e)
-}
-
-// The place of the check that the signal names, 0 for none: the same check may have another number in another list.
-fn place_of(list: &[u8], n: Counts, s: Signal) -> usize
-    requires { ⌜ (Laid (now list) (countsOf n)) × (s .check ≤ n .checks) ⌝ }
-    ensures { λ r. ⌜ r ≡ placeOf (listed (now (list .entry)) n) (signalOf s) ⌝ }
-{
-    let check = s.check;
-    if check == 0 {
-        return 0;
-    }
-    entries::check_at(list, check - 1)
 }
 
 // What the signals of a list rise by, and the code entries.
@@ -75,7 +45,7 @@ fn first_signal(list: &[u8], n: Counts, key: usize) -> usize
     let mut high = n.signals;
     while low < high {
         let mid = low + (high - low) / 2;
-        if signal_key(signal_in(list, n, mid)) < key {
+        if signal_key(lists::signal_in(list, n, mid)) < key {
             low = mid + 1;
         } else {
             high = mid;
@@ -93,7 +63,7 @@ fn first_code(list: &[u8], n: Counts, key: usize) -> usize
     let mut high = n.codes;
     while low < high {
         let mid = low + (high - low) / 2;
-        if code_key(code_in(list, n, mid)) < key {
+        if code_key(lists::code_in(list, n, mid)) < key {
             low = mid + 1;
         } else {
             high = mid;
@@ -118,7 +88,7 @@ fn index_of(list: &[u8], n: Counts, s: Signal) -> usize
     if n.signals <= k {
         return n.signals;
     }
-    if is_same(s, signal_in(list, n, k)) {
+    if is_same(s, lists::signal_in(list, n, k)) {
         return k;
     }
     n.signals
@@ -133,7 +103,7 @@ fn has_codes(list: &[u8], n: Counts, k: usize) -> bool
     if n.codes <= e {
         return false;
     }
-    code_in(list, n, e).signal == k
+    lists::code_in(list, n, e).signal == k
 }
 
 // Whether signal k knows every code from low to high by its entries. Its ranges never touch, so one of them has to hold all.
@@ -145,7 +115,7 @@ fn range_kept(list: &[u8], n: Counts, k: usize, low: usize, high: usize) -> bool
     if n.codes <= e {
         return false;
     }
-    let c = code_in(list, n, e);
+    let c = lists::code_in(list, n, e);
     (c.signal == k) & (c.low <= low) & (high <= c.high)
 }
 
@@ -158,7 +128,7 @@ fn ranges_kept(a: &[u8], m: Counts, b: &[u8], n: Counts, i: usize, j: usize) -> 
     let mut e = first_code(a, m, i * 65536);
     let end = first_code(a, m, (i + 1) * 65536);
     while e < end {
-        let c = code_in(a, m, e);
+        let c = lists::code_in(a, m, e);
         if !range_kept(b, n, j, c.low, c.high) {
             return false;
         }
@@ -179,7 +149,7 @@ fn codes_kept(a: &[u8], m: Counts, b: &[u8], n: Counts, i: usize, j: usize) -> b
     if has_codes(a, m, i) {
         return ranges_kept(a, m, b, n, i, j);
     }
-    let s = signal_in(a, m, i);
+    let s = lists::signal_in(a, m, i);
     range_kept(b, n, j, 0, entries::pow2(s.width) as usize - 1)
 }
 
@@ -196,10 +166,10 @@ fn keeps_at(a: &[u8], m: Counts, b: &[u8], n: Counts, i: usize, j: usize) -> boo
     requires { ⌜ (Laid (now b) (countsOf n)) × (j < n .signals) ⌝ }
     ensures { λ r. ⌜ r ≡ keeps (listed (now (a .entry)) m) (listed (now (b .entry)) n) i j ⌝ }
 {
-    let s = signal_in(a, m, i);
-    let t = signal_in(b, n, j);
-    let p = place_of(a, m, s);
-    let q = place_of(b, n, t);
+    let s = lists::signal_in(a, m, i);
+    let t = lists::signal_in(b, n, j);
+    let p = lists::place_in(a, m, s);
+    let q = lists::place_in(b, n, t);
     if !agrees(s, p, t, q) {
         return false;
     }
@@ -212,7 +182,7 @@ fn stands_at(a: &[u8], m: Counts, b: &[u8], n: Counts, i: usize) -> bool
     requires { ⌜ Laid (now b) (countsOf n) ⌝ }
     ensures { λ r. ⌜ r ≡ stands (listed (now (a .entry)) m) (listed (now (b .entry)) n) i ⌝ }
 {
-    let s = signal_in(a, m, i);
+    let s = lists::signal_in(a, m, i);
     let j = index_of(b, n, s);
     if n.signals <= j {
         return false;
@@ -226,7 +196,7 @@ fn newer_at(a: &[u8], m: Counts, b: &[u8], n: Counts, j: usize) -> bool
     requires { ⌜ (Laid (now b) (countsOf n)) × (j < n .signals) ⌝ }
     ensures { λ r. ⌜ r ≡ newer (listed (now (a .entry)) m) (listed (now (b .entry)) n) j ⌝ }
 {
-    let t = signal_in(b, n, j);
+    let t = lists::signal_in(b, n, j);
     let i = index_of(a, m, t);
     (i < m.signals) | (m.version < t.since)
 }

@@ -1,6 +1,6 @@
 -- The paper's values for each case of the code's answers.
-use Prim.Native.Nat.{ℕ, _≤_}
-use Rattle.paper.specs.Answer.{Answer, gives, refused}
+use Prim.Native.Nat.{ℕ}
+use Rattle.paper.specs.Answer.{Answer, gives}
 use Rattle.paper.specs.SignalList.{Counts as PaperCounts}
 use Rattle.refusals.specs.Refusal.{refusalOf}
 use Rattle.lists.specs.declared.Counts.{Counts}
@@ -19,8 +19,3 @@ judgedAnswer (Refused f) = refusalOf f
 abbrev pub sectionAnswer : Section → Answer ℕ
 sectionAnswer (Entries n) = gives n
 sectionAnswer (Unopened f) = refusalOf f
-
--- a refusal, if it is one, is of a list and has its offset at `most` or before
-abbrev pub RefusedWithin : {A : Type 0} → ℕ → Answer A → Type 0
-RefusedWithin most (gives a) = Unit {0}
-RefusedWithin most (refused n at) = (n ≤ 4) × (at ≤ most)

@@ -1,11 +1,18 @@
-// The judging of a signal list. Each section judge takes the rest of the list from its count onward and hands on the rest past its entries.
+// The judging of a signal list, and the entries of an accepted one. Each section judge takes the rest of the list from its count onward and
+// hands on the rest past its entries.
 ghost use mathlib.Core.Path.{_≡_};
-ghost use Prim.Native.Nat.{_-_, _^_, _≤_, max};
+ghost use Prim.Native.Nat.{_-_, _^_, _≤_, _<_, max};
 ghost use lib.ListN.{length};
 ghost use Rattle.paper.specs.Answer.{shift};
 ghost use Rattle.paper.specs.First.{firstBad};
-ghost use Rattle.paper.specs.SignalList.{entry, checkSize, signalSize, codeSize, routeSize, mostSignals, checkAt, signalAt, codeAt, routeAt, checkRule, signalRule, codeRule, routeRule, opening, greatestSince, fromRoutes, fromCodes, fromSignals, judge as judgedList, rest as restOf};
-ghost use Rattle.lists.specs.Judged.{sectionAnswer, judgedAnswer, RefusedWithin};
+ghost use Rattle.paper.specs.SignalList.{entry, checkSize, signalSize, codeSize, routeSize, mostSignals, checkAt, signalAt, codeAt, routeAt, checkRule, signalRule, codeRule, routeRule, opening, greatestSince, fromRoutes, fromCodes, fromSignals, judge as judgedList, rest as restOf, listOf, signalsPart, codesPart, routesPart};
+ghost use Rattle.paper.specs.Extends.{placeOf};
+ghost use Rattle.paper.proofs.ListLaws.{RefusedWithin, Laid};
+ghost use Rattle.entries.specs.Entries.{signalOf, SignalRead, CodeRead, RouteRead, OctetRead};
+ghost use Rattle.lists.specs.Judged.{countsOf, sectionAnswer, judgedAnswer};
+use entries::Code;
+use entries::Route;
+use entries::Signal;
 use refusals::Refusal;
 
 const MOST_CHECKS: usize = 64;
@@ -255,4 +262,72 @@ pub fn judge(list: &[u8]) -> Judged
             moved(from_signals(list, checks, rest(list, 2, checks)), end)
         }
     }
+}
+
+// Inner: the rest of an accepted list from its signals' count on.
+pub fn signals_part(list: &[u8], n: Counts) -> &[u8]
+    requires { ⌜ Laid (now list) (countsOf n) ⌝ }
+    ensures { λ r. ⌜ now r ≡ signalsPart (now (list .entry)) (countsOf n) ⌝ }
+{
+    rest(list, 2, n.checks)
+}
+
+// Inner: from its codes' count on.
+pub fn codes_part(list: &[u8], n: Counts) -> &[u8]
+    requires { ⌜ Laid (now list) (countsOf n) ⌝ }
+    ensures { λ r. ⌜ now r ≡ codesPart (now (list .entry)) (countsOf n) ⌝ }
+{
+    rest(signals_part(list, n), 16, n.signals)
+}
+
+// Inner: from its routes' count on.
+pub fn routes_part(list: &[u8], n: Counts) -> &[u8]
+    requires { ⌜ Laid (now list) (countsOf n) ⌝ }
+    ensures { λ r. ⌜ now r ≡ routesPart (now (list .entry)) (countsOf n) ⌝ }
+{
+    rest(codes_part(list, n), 6, n.codes)
+}
+
+// Inner: signal k of an accepted list.
+pub fn signal_in(list: &[u8], n: Counts, k: usize) -> Signal
+    requires { ⌜ (Laid (now list) (countsOf n)) × (k < n .signals) ⌝ }
+    ensures { λ r. ⌜ SignalRead (signalsPart (now (list .entry)) (countsOf n)) k r ⌝ }
+{
+    entries::signal_at(signals_part(list, n), k)
+}
+
+// Inner: its code entry e.
+pub fn code_in(list: &[u8], n: Counts, e: usize) -> Code
+    requires { ⌜ (Laid (now list) (countsOf n)) × (e < n .codes) ⌝ }
+    ensures { λ r. ⌜ CodeRead (codesPart (now (list .entry)) (countsOf n)) e r ⌝ }
+{
+    entries::code_at(codes_part(list, n), e)
+}
+
+// Inner: its route r.
+pub fn route_in(list: &[u8], n: Counts, r: usize) -> Route
+    requires { ⌜ (Laid (now list) (countsOf n)) × (r < n .routes) ⌝ }
+    ensures { λ t. ⌜ RouteRead (routesPart (now (list .entry)) (countsOf n)) r t ⌝ }
+{
+    entries::route_at(routes_part(list, n), r)
+}
+
+// Inner: the width of signal k, which a route to it has too.
+pub fn width_in(list: &[u8], n: Counts, k: usize) -> usize
+    requires { ⌜ (Laid (now list) (countsOf n)) × (k < 65536) ⌝ }
+    ensures { λ w. ⌜ OctetRead (listOf (now (list .entry)) (countsOf n) .signal k .width) w ⌝ }
+{
+    entries::width_at(signals_part(list, n), k)
+}
+
+// Inner: the place of the check that the signal names, 0 for none: the same check may have another number in another list.
+pub fn place_in(list: &[u8], n: Counts, s: Signal) -> usize
+    requires { ⌜ (Laid (now list) (countsOf n)) × (s .check ≤ n .checks) ⌝ }
+    ensures { λ r. ⌜ r ≡ placeOf (listOf (now (list .entry)) (countsOf n)) (signalOf s) ⌝ }
+{
+    let check = s.check;
+    if check == 0 {
+        return 0;
+    }
+    entries::check_at(list, check - 1)
 }

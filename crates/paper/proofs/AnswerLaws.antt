@@ -32,8 +32,20 @@ module _ {A : Type 0} where
   not-shifted b (gives m) a e = e
   not-shifted b (refused n at) a e = let z : _≡_ {A = ℕ} 0 1 = cc in absurd (omega arith)
 
+  -- refused by a number past another refusal's test
+  pub not-here : (b : Bool) (n at : ℕ) (rest : Answer A) (n′ at′ : ℕ) → (n ≡ n′ → ⊥) → refuseIf b n at rest ≡ refused n′ at′ → (b ≡ false) × (rest ≡ refused n′ at′)
+  unfolding refuseIf
+  not-here true n at rest n′ at′ h e = absurd (h (cc))
+  not-here false n at rest n′ at′ h e = (refl, e)
+
   pub never-both : (x : Answer A) (a : A) (n at : ℕ) → x ≡ gives a → x ≡ refused n at → ⊥
   never-both x a n at p q = let z : _≡_ {A = ℕ} 0 1 = cc in omega arith
+
+  -- refused by the last test
+  pub last-here : (b : Bool) (n at : ℕ) (a : A) (n′ at′ : ℕ) → refuseIf b n at (gives a) ≡ refused n′ at′ → b ≡ true
+  unfolding refuseIf
+  last-here true n at a n′ at′ e = refl
+  last-here false n at a n′ at′ e = absurd (never-both (gives a) a n′ at′ refl e)
 
   pub gives-one : (x : Answer A) (a b : A) → x ≡ gives a → x ≡ gives b → a ≡ b
   gives-one x a b p q = cc
@@ -43,9 +55,28 @@ pub and-then : {A B : Type 0} (x : Answer A) (k : A → Answer B) (b : B) → an
 and-then (gives a) k b e = (a, (refl, e))
 and-then (refused n at) k b e = let z : _≡_ {A = ℕ} 0 1 = cc in absurd (omega arith)
 
--- how a whole is put together: what the first part gives goes on to the next
-pub goes-on : {A B : Type 0} (a : A) (x : Answer A) (k : A → Answer B) (y : Answer B) → x ≡ gives a → k a ≡ y → andThen x k ≡ y
-goes-on a x k y e q = rw e q
+-- how a whole is put together, the call's own answer on the left as contracts have it: a refusal of the first part is the answer of the whole
+pub stays : {A B : Type 0} (n at : ℕ) (x : Answer A) (k : A → Answer B) → refused n at ≡ x → refused n at ≡ andThen x k
+stays n at x k e = rw (← e)
+
+-- what the first part gives goes on to the next
+pub goes-on : {A B : Type 0} (a : A) (x : Answer A) (k : A → Answer B) (y : Answer B) → gives a ≡ x → y ≡ k a → y ≡ andThen x k
+goes-on a x k y e q = rw (← e) q
+
+-- a refusal of a part that starts b octets on
+pub stays-shifted : {A : Type 0} (b n at : ℕ) (x : Answer A) → refused n at ≡ x → refused n (b + at) ≡ shift b x
+stays-shifted b n at x e = rw (← e)
+
+-- a test before the whole is a test before its first part
+pub past : {A B : Type 0} (b : Bool) (n at : ℕ) (x : Answer A) (k : A → Answer B) (y : Answer B) → y ≡ andThen x k → refuseIf b n at y ≡ andThen (refuseIf b n at x) k
+unfolding refuseIf
+past true n at x k y e = refl
+past false n at x k y e = e
+
+-- what follows may be written in another way
+pub same-then : {A B : Type 0} (x : Answer A) (j k : A → Answer B) → ((a : A) → j a ≡ k a) → andThen x j ≡ andThen x k
+same-then (gives a) j k e = e a
+same-then (refused n at) j k e = refl
 
 -- a contract `say r ≡ a` settles the answer r, where r can be told from what it says: any two answers that it admits are equal
 pub one-answer : {R A : Type 0} (say : R → A) (told : A → R) → ((r : R) → told (say r) ≡ r) → (a : A) (v w : R) → say v ≡ a → say w ≡ a → v ≡ w

@@ -22,7 +22,8 @@ use Rattle.paper.proofs.AnswerLaws.{not-refused, and-then, gives-one}
 use Rattle.paper.proofs.FirstLaws.{first-passed, greatest-least, greatest-at, greatest-most}
 use Rattle.paper.proofs.FieldLaws.{fieldOf, field-ext, field-octet, octet-field}
 use Rattle.paper.proofs.PutsLaws.{Disjoint, length-puts, octets-puts, bit-puts-other, field-puts-other, field-puts}
-use Rattle.paper.proofs.ListLaws.{both, other, Kept, fields-apart, checks-apart}
+use Rattle.paper.proofs.ListLaws.{both, either, other, Kept, fields-apart, checks-apart}
+use Rattle.paper.proofs.StoreLaws.{type-least}
 
 -- ---- versions
 
@@ -97,11 +98,7 @@ zero-bit n = ap (λ (x : ℕ). x % 2) (zero-div (2 ^ n))
 
 -- the types that a telegram type carries
 carried-type : (type s : ℕ) → carries type s ≡ true → (s ≡ 0) ⊎ (s ≡ type)
-carried-type type s e = by (eqb s 0) refl e
-  where
-    by : (b : Bool) → eqb s 0 ≡ b → (b || eqb s type) ≡ true → (s ≡ 0) ⊎ (s ≡ type)
-    by true q e = inl (eqb-true _ _ q)
-    by false q e = inr (eqb-true _ _ e)
+carried-type type s e = ⊎-elim (λ a. inl (eqb-true _ _ a)) (λ a. inr (eqb-true _ _ a)) (either _ _ e)
 
 pub type-range : (type : ℕ) → isType type ≡ true → (1 ≤ type) × (type ≤ 3)
 type-range type e = let p = both _ _ e in (leb-true _ _ (p .0), leb-true _ _ (p .1))
@@ -114,13 +111,8 @@ type-bits type = by (eqb type 3) refl
     by true e = inl (eqb-true _ _ e, refl)
     by false e = inr (eqb-false _ _ e, refl)
 
-module _ (l : SignalList) (h : Kept l) (type : ℕ) (values marks : List ℕ) (fit : Fitting l type values marks) where
-  room : ℕ
-  room = 8 * typeLength type
-
-  range : (1 ≤ type) × (type ≤ 3)
-  range = type-range type (fit .typed)
-
+-- what a type carries of an accepted list
+module _ (l : SignalList) (h : Kept l) (type : ℕ) where
   -- a carried signal lies within the telegram, past its head
   pub carried-within : (k : ℕ) → k < l .signals → carries type (l .signal k .type) ≡ true → (16 ≤ l .signal k .start) × (fieldEnd (l .signal k) ≤ 8 * typeLength type)
   carried-within k lt w = by (ℕ-discrete (l .signal k .type) 0) (type-bits type)
@@ -159,14 +151,13 @@ module _ (l : SignalList) (h : Kept l) (type : ℕ) (values marks : List ℕ) (f
             ⊎-elim (λ b. omega (arith, b .0, h .signal k lt .typed)) (λ b. omega (arith, b .1, q .high)) (type-bits type)
       ])
 
-  -- ---- the telegram, field by field
-
-  long : 2 ≤ typeLength type
-  long = ⊎-elim (λ b. omega (arith, b .1)) (λ b. omega (arith, b .1)) (type-bits type)
+module _ (l : SignalList) (h : Kept l) (type : ℕ) (values marks : List ℕ) (fit : Fitting l type values marks) where
+  range : (1 ≤ type) × (type ≤ 3)
+  range = type-range type (fit .typed)
 
   length-headed : length (headed l type) ≡ typeLength type
   unfolding headed
-  length-headed = omega (arith, long, length-zeros (typeLength type - 2))
+  length-headed = omega (arith, type-least type, length-zeros (typeLength type - 2))
 
   headed-at : (i : ℕ) → 2 ≤ i → getD (headed l type) i 0 ≡ 0
   unfolding headed
@@ -187,7 +178,7 @@ module _ (l : SignalList) (h : Kept l) (type : ℕ) (values marks : List ℕ) (f
   unfolding composed
   head-kept t u lt =
       field-puts-other (checkPut l type marks) _ (l .checks) t u (λ j hj w. inr (omega (arith, h .check j hj .low)))
-      ∙ field-puts-other (signalPut l type values) _ (l .signals) t u (λ k hk w. inr (omega (arith, carried-within k hk w .0)))
+      ∙ field-puts-other (signalPut l type values) _ (l .signals) t u (λ k hk w. inr (omega (arith, carried-within l h type k hk w .0)))
 
   pub composed-application : applicationType (composed l type values marks) ≡ 1
   unfolding applicationType headed fieldOf
@@ -219,8 +210,8 @@ module _ (l : SignalList) (h : Kept l) (type : ℕ) (values marks : List ℕ) (f
   composed-signal k lt w =
       field-puts-other (checkPut l type marks) _ (l .checks) (l .signal k .start) (l .signal k .width)
       (λ j hj _. ⊎-elim (λ a. inr a) (λ a. inl a) (h .signal k lt .clear j hj))
-      ∙ field-puts (signalPut l type values) (headed l type) (l .signals) k lt w (rw length-headed (carried-within k lt w .1)) (fit .value k lt w .0)
-      (λ j a b wj. carried-apart j k b lt wj w (λ e. omega arith))
+      ∙ field-puts (signalPut l type values) (headed l type) (l .signals) k lt w (rw length-headed (carried-within l h type k lt w .1)) (fit .value k lt w .0)
+      (λ j a b wj. carried-apart l h type j k b lt wj w (λ e. omega arith))
 
   -- "at a written check place the mark"
   pub composed-check : (j : ℕ) → j < l .checks → writesCheck l type j ≡ true → field (composed l type values marks) (l .check j) markWidth ≡ getD marks j 0

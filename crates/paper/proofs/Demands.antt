@@ -16,14 +16,14 @@ use Rattle.paper.specs.First.{firstOf}
 use Rattle.paper.specs.Telegrams.{applicationType, telegramType, isType, versionOf, typeLength, carries, error, ok, forced, undefined, markWidth}
 use Rattle.paper.specs.SignalList.{Signal, SignalList, Counts, fieldEnd, judge, listOf}
 use Rattle.paper.specs.Extends.{version, knows, placeOf, same, extends}
-use Rattle.paper.specs.Store.{vehicles, storeOctets, Slot, slotOf, age, inTime, isStore, isVehicle}
+use Rattle.paper.specs.Store.{vehicles, storeOctets, Slot, slotOf, taken, taking, age, inTime, isStore, isVehicle}
 use Rattle.paper.specs.Reading.{Reading, heard, markOf, codeOf, hindrances, reasonOf, readingOf, readingAt, reading}
 use Rattle.paper.specs.Composing.{composed, composing, writesCheck}
 use Rattle.paper.specs.Demands.{Standing, givenMark, delivered, withheld}
 use Rattle.paper.proofs.AnswerLaws.{goes-on, gives-one}
 use Rattle.paper.proofs.FieldLaws.{field-ext}
 use Rattle.paper.proofs.ListLaws.{Kept, kept}
-use Rattle.paper.proofs.StoreLaws.{padded, stood, standing-slot, standing-whole}
+use Rattle.paper.proofs.StoreLaws.{type-least, Takes, takes-it, padded, stood, standing-slot, standing-whole}
 use Rattle.paper.proofs.ExtendsLaws.{Agree, agree-itself, Related, agree, only-newer, same-of}
 use Rattle.paper.proofs.ComposingLaws.{version-least, version-at, Fitting, Composes, composes, type-range, carried-within, named-written, length-composed, composed-application, composed-type, composed-version, composed-signal, composed-check}
 
@@ -66,11 +66,7 @@ module _ (w : SignalList) (hw : Kept w) (type : ℕ) (values marks : List ℕ) (
   Sent stamp = record { heard = 1; stamp = stamp; telegram = padded (composed w type values marks) }
 
   long : 2 ≤ length (composed w type values marks)
-  long = rw (length-composed w hw type values marks fit) (by (eqb type 3))
-    where
-      by : (b : Bool) → 2 ≤ cond b 40 128
-      by true = omega arith
-      by false = omega arith
+  long = omega (arith, length-composed w hw type values marks fit, type-least type)
 
   kept-field : (s u : ℕ) → s + u ≤ 8 * typeLength type → field (padded (composed w type values marks)) s u ≡ field (composed w type values marks) s u
   kept-field s u h = field-front _ _ s u (rw (length-composed w hw type values marks fit) h)
@@ -130,7 +126,7 @@ module _ (w : SignalList) (hw : Kept w) (type : ℕ) (values marks : List ℕ) (
       unfolding codeOf
       sent-code =
           rw (← same-one .start, ← same-one .width)
-          (kept-field (w .signal i .start) (w .signal i .width) (carried-within w hw type values marks fit i hi carried-there .1)
+          (kept-field (w .signal i .start) (w .signal i .width) (carried-within w hw type i hi carried-there .1)
           ∙ composed-signal w hw type values marks fit i hi carried-there)
 
       -- the mark at the place of the check, whichever index it has in either list
@@ -146,7 +142,7 @@ module _ (w : SignalList) (hw : Kept w) (type : ℕ) (values marks : List ℕ) (
           by (no a) (yes b) = absurd (omega (arith, placed-high w hw i hi a, same-one .place, unplaced r (r .signal j) b))
           by (no a) (no b) =
               let q : w .signal i .check - 1 < w .checks = omega (arith, hw .signal i hi .named .exists, positive a) in
-              let named = named-written w hw type values marks fit i hi carried-there (positive a) in
+              let named = named-written w hw type i hi carried-there (positive a) in
               rw (ne-eqb _ _ a, ne-eqb _ _ b, ← same-one .place, placed-at w (w .signal i) a)
               (kept-field (w .check (w .signal i .check - 1)) 2 (leb-true _ _ named) ∙ composed-check w hw type values marks fit (w .signal i .check - 1) q named)
 
@@ -164,7 +160,25 @@ called : (xs store : List ℕ) (now v k : ℕ) (n : Counts) → judge xs ≡ giv
     → reading xs store now v k ≡ gives (readingOf (listOf xs n) (slotOf store v) now k)
 unfolding reading refuseIf readingAt
 called xs store now v k n e whole first last lt =
-    goes-on n (judge xs) _ _ e (rw (eq-eqb _ _ whole, le-leb _ _ first, le-leb _ _ last, lt-ltb _ _ lt))
+    sym (goes-on n (judge xs) _ _ (sym e) (rw (eq-eqb _ _ whole, le-leb _ _ first, le-leb _ _ last, lt-ltb _ _ lt)))
+
+-- a composed telegram is always taken in: no store of the right length refuses it for a vehicle of the 63
+pub composed-taken : (xs : List ℕ) (type : ℕ) (values marks : List ℕ) (room : ℕ) (telegram : List ℕ) → composing xs type values marks room ≡ gives telegram
+    → (store : List ℕ) (v now : ℕ) → length store ≡ storeOctets → 1 ≤ v → v ≤ vehicles → taking store v now telegram ≡ gives (taken store v now telegram)
+composed-taken xs type values marks room telegram sent store v now whole first last =
+    let c = composes xs type values marks room telegram sent in
+    let l = listOf xs (c .counts) in
+    let h = kept xs (c .counts) (c .accepted) in
+    let is-type : telegramType telegram ≡ type = rw (← c .is) (composed-type l h type values marks (c .fitting)) in
+    takes-it store v now telegram
+    (record {
+      whole = whole;
+      first = first;
+      last = last;
+      application = rw (← c .is) (composed-application l h type values marks (c .fitting));
+      typed = rw is-type (c .fitting .typed);
+      long = rw is-type (rw (← c .is) (length-composed l h type values marks (c .fitting)));
+    })
 
 module _ (xs : List ℕ) (type : ℕ) (values marks : List ℕ) (room : ℕ) (telegram : List ℕ) (sent : composing xs type values marks room ≡ gives telegram)
     (m : Counts) (writer : judge xs ≡ gives m) where

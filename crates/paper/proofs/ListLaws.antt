@@ -1,10 +1,10 @@
 -- What an accepted list keeps: one law per section, in numbers and orders, and what follows for two entries. Assumes nothing.
-use Prim.Native.Nat.{ℕ, zero, suc, _+_, _-_, _*_, _%_, _^_, _≤_, _<_}
+use Prim.Native.Nat.{ℕ, zero, suc, _+_, _-_, _*_, _%_, _^_, _≤_, _<_, zero-le}
 use mathlib.Core.Path.{_≡_, refl, sym, ap, subst, _∙_}
 use mathlib.Core.Logic.{_⊎_, inl, inr, ⊎-elim}
 use mathlib.Core.Bool.{Bool, true, false, not, cond, _&&_, _||_, false≢true}
 use mathlib.Core.List.{List}
-use native.Mathlib.Nat.{lt-irrefl, le-refl, add-zero, add-suc}
+use native.Mathlib.Nat.{lt-irrefl, le-refl, le-of-lt, mul-le-mul-left, add-zero, add-suc}
 use native.Mathlib.Decide.{decLt, ℕ-discrete}
 use native.Mathlib.Omega.{arith}
 use lib.ListN.{length, drop, length-drop}
@@ -354,6 +354,96 @@ kept-of xs n h = record {
 -- accepted → each entry keeps its rule
 pub kept : (xs : List ℕ) (n : Counts) → judge xs ≡ gives n → Kept (listOf xs n)
 kept xs n e = kept-of xs n (laid xs n e)
+
+-- ---- where a refusal's offset lies: within the part that was judged
+
+-- a refusal, if it is one, is of a list and has its offset at `most` or before
+abbrev pub RefusedWithin : {A : Type 0} → ℕ → Answer A → Type 0
+RefusedWithin most (gives a) = Unit {0}
+RefusedWithin most (refused n at) = (n ≤ 4) × (at ≤ most)
+
+within-if : {A : Type 0} (b : Bool) (n at most : ℕ) (x : Answer A) → n ≤ 4 → (b ≡ true → at ≤ most) → RefusedWithin most x → RefusedWithin most (refuseIf b n at x)
+unfolding refuseIf
+within-if true n at most x h k w = (h, k refl)
+within-if false n at most x h k w = w
+
+last-within : {A : Type 0} (b : Bool) (n at most : ℕ) (a : A) → n ≤ 4 → (b ≡ true → at ≤ most) → RefusedWithin most (refuseIf b n at (gives a))
+last-within b n at most a h k = within-if b n at most (gives a) h k tt
+
+within-then : {A B : Type 0} (most : ℕ) (x : Answer A) (next : A → Answer B) → RefusedWithin most x → ((a : A) → x ≡ gives a → RefusedWithin most (next a))
+    → RefusedWithin most (andThen x next)
+within-then most (gives a) next w k = k a refl
+within-then most (refused n at) next w k = w
+
+-- the rest of a list past n entries, at its place in the list
+pub within-rest : {A : Type 0} (size n : ℕ) (xs : List ℕ) (most : ℕ) (x : Answer A) → entry size n ≤ length xs → length xs ≤ most
+    → RefusedWithin (length (rest size n xs)) x → RefusedWithin most (shift (entry size n) x)
+within-rest size n xs most (gives a) h le w = tt
+within-rest size n xs most (refused m at) h le w = (w .0, omega (arith, length-drop (entry size n) xs, w .1))
+
+opening-within : (limit size : ℕ) (xs : List ℕ) → RefusedWithin (length xs) (opening limit size xs)
+unfolding opening
+opening-within limit size xs =
+    within-if _ 1 0 _ _ (omega arith) (λ _. zero-le)
+    (within-if _ 2 0 _ _ (omega arith) (λ _. zero-le) (last-within _ 1 0 _ (number xs 0 2) (omega arith) (λ _. zero-le)))
+
+section-within : (limit size : ℕ) (rule : ℕ → Bool) (xs : List ℕ) → RefusedWithin (length xs) (judgeSection limit size rule xs)
+unfolding judgeSection judgeEntries
+section-within limit size rule xs =
+    within-then (length xs) (opening limit size xs) (judgeEntries size rule) (opening-within limit size xs)
+    (λ n e. last-within _ 3 _ _ n (omega arith)
+    (λ t. let le : size * firstBad rule n ≤ size * n = mul-le-mul-left size (le-of-lt (ltb-true _ _ t)) in omega (arith, opened-of limit size xs n e .present)))
+
+module _ (signals : ℕ) (signal : ℕ → Signal) (checks : ℕ) where
+  pub routes-within : (codes : ℕ) (xs : List ℕ) → RefusedWithin (length xs) (fromRoutes signals signal checks codes xs)
+  unfolding fromRoutes ending
+  routes-within codes xs =
+      within-then (length xs) (judgeSection mostRoutes routeSize (routeRule signals signal (routeAt xs)) xs) (ending signals signal checks codes xs)
+      (section-within _ _ _ xs) (λ n e. last-within (ltb (entry routeSize n) (length xs)) 4 (entry routeSize n) (length xs) _ (omega arith) (λ t. le-of-lt (ltb-true _ _ t)))
+
+  pub codes-within : (xs : List ℕ) → RefusedWithin (length xs) (fromCodes signals signal checks xs)
+  unfolding fromCodes
+  codes-within xs =
+      within-then (length xs) (judgeSection mostCodes codeSize (codeRule signals signal (codeAt xs)) xs) _
+      (section-within _ _ _ xs)
+      (λ n e. within-rest codeSize n xs (length xs) (fromRoutes signals signal checks n (rest codeSize n xs)) (holds-of _ _ _ _ _ e .opens .present) (le-refl _) (routes-within n (rest codeSize n xs)))
+
+pub signals-within : (checks : ℕ) (check : ℕ → ℕ) (xs : List ℕ) → RefusedWithin (length xs) (fromSignals checks check xs)
+unfolding fromSignals
+signals-within checks check xs =
+    within-then (length xs) (judgeSection mostSignals signalSize (signalRule checks check (signalAt xs)) xs) _
+    (section-within _ _ _ xs)
+    (λ n e. within-rest signalSize n xs (length xs) (fromCodes n (signalAt xs) checks (rest signalSize n xs)) (holds-of _ _ _ _ _ e .opens .present) (le-refl _) (codes-within n (signalAt xs) checks (rest signalSize n xs)))
+
+-- how long the parts of an accepted list are
+pub record Parts (xs : List ℕ) (n : Counts) : Type 0 where
+  pub few-checks : n .checks ≤ 64
+  pub few-signals : n .signals ≤ 256
+  pub few-codes : n .codes ≤ 512
+  pub few-routes : n .routes ≤ 512
+  pub checks : 2 + 2 * n .checks ≤ length xs
+  pub signals : 2 + 16 * n .signals ≤ length (signalsPart xs n)
+  pub codes : 2 + 6 * n .codes ≤ length (codesPart xs n)
+  pub routes : 2 + 6 * n .routes ≤ length (routesPart xs n)
+  pub whole : length xs ≡ 2 + 2 * n .checks + (2 + 16 * n .signals) + (2 + 6 * n .codes) + (2 + 6 * n .routes)
+
+pub parts-of : (xs : List ℕ) (n : Counts) → Laid xs n → Parts xs n
+parts-of xs n h = record {
+  few-checks = h .checks .opens .within;
+  few-signals = h .signals .opens .within;
+  few-codes = h .codes .opens .within;
+  few-routes = h .routes .opens .within;
+  checks = h .checks .opens .present;
+  signals = h .signals .opens .present;
+  codes = h .codes .opens .present;
+  routes = h .routes .opens .present;
+  whole = omega (
+    arith,
+    length-drop (entry checkSize (n .checks)) xs,
+    length-drop (entry signalSize (n .signals)) (signalsPart xs n),
+    length-drop (entry codeSize (n .codes)) (codesPart xs n),
+  );
+}
 
 -- ---- two entries of an accepted list
 

@@ -5,6 +5,7 @@ use mathlib.Core.Logic.{_⊎_, inl, inr, ⊎-elim}
 use mathlib.Core.Bool.{Bool, true, false, cond, false≢true}
 use mathlib.Core.List.{List}
 use native.Mathlib.Nat.{eq-or-lt-of-le}
+use native.Mathlib.Numerals.{add-one}
 use native.Mathlib.Omega.{arith}
 use lib.ListN.{length}
 use Rattle.paper.specs.Octets.{bit, field, put, Put, puts, Octets}
@@ -67,3 +68,26 @@ module _ (f : ℕ → Put) (l : List ℕ) where
       by (inl q) false w rest = let z : k ≡ n = omega arith in absurd (false≢true (sym w ∙ ap (λ (x : ℕ). f x .written) (sym z) ∙ e))
       by (inr q) true w rest = field-put-other _ _ _ _ _ _ (⊎-elim (λ d. inr d) (λ d. inl d) (out n (omega arith) (omega arith) w)) ∙ rest (omega arith)
       by (inr q) false w rest = rest (omega arith)
+
+-- ---- a loop that writes one field after the other
+
+-- what it has written after k turns
+pub record PutSoFar (f : ℕ → Put) (l : List ℕ) (k : ℕ) (m : List ℕ) : Type 0 where
+  pub long : length m ≡ length l
+  pub is : m ≡ puts f l k
+
+module _ (f : ℕ → Put) (l : List ℕ) where
+  pub none-put : PutSoFar f l 0 l
+  unfolding puts
+  none-put = record { long = refl; is = refl }
+
+  -- a turn, by what the loop worked out: whether, where, how wide and what
+  pub one-put : (k : ℕ) (m next : List ℕ) (written : Bool) (start width value : ℕ) → PutSoFar f l k m → next ≡ cond written (put m start width value) m
+      → written ≡ f k .written → start ≡ f k .start → width ≡ f k .width → value ≡ f k .value → PutSoFar f l (k + 1) next
+  unfolding puts
+  one-put k m next written start width value h e a b c d =
+      let more : next ≡ puts f l (k + 1) = rw (add-one, e, a, b, c, d, h .is) in
+      record { long = ap length more ∙ length-puts f l (k + 1); is = more }
+
+  pub all-put : (n k : ℕ) (m : List ℕ) → k ≡ n → PutSoFar f l k m → m ≡ puts f l n
+  all-put n k m e h = rw (← e) (h .is)

@@ -10,15 +10,32 @@ use native.Mathlib.Decide.{decLt}
 use lib.ListN.{length, getD, take, drop, replicate, length-append, length-replicate}
 use lib.Seq.{drop-at, take-take, take-all}
 use lib.Dec.{ltb, leb, eqb}
-use borrow.Author.Tests.{ltb-false, leb-true, eqb-true, not-false}
+use borrow.Author.Tests.{eq-eqb, le-leb, le-ltb, ltb-false, leb-true, eqb-true, not-false}
 use Rattle.paper.specs.Octets.{field, number, octetsOf, over}
 use Rattle.paper.specs.Answer.{Answer, gives, refused, refuseIf, after}
-use Rattle.paper.specs.Telegrams.{applicationType, telegramType, isType, typeLength}
-use Rattle.paper.specs.Store.{vehicles, telegramOctets, slotHead, slotOctets, storeOctets, isStore, isVehicle, Slot, slotStart, slotFrom, slotTo, slotOf, taken, taking, turn}
+use Rattle.paper.specs.Telegrams.{applicationType, telegramType, isType, typeLength, carries}
+use Rattle.paper.specs.Store.{vehicles, telegramOctets, slotHead, slotOctets, storeOctets, isStore, isVehicle, Slot, slotStart, slotFrom, slotTo, slotOf, taken, taking, turn, inTime}
 use Rattle.paper.specs.Demands.{Step, offer, step, run, Passes, NoneLater, Standing}
 use Rattle.paper.proofs.AnswerLaws.{not-refused, never-both}
 use Rattle.paper.proofs.ListLaws.{both}
 use Rattle.paper.proofs.NumberLaws.{length-octetsOf, number-octetsOf-front, number-front, number-back, length-over, part-over, other-over}
+
+-- ---- cases at which a sentence misread shows
+
+-- "age ≤ limit, or limit 0": 5,000 ms are in time at a limit of 5,000, 5,001 are not, and any age is where there is no limit
+pub limit-reached : (inTime 5000 5000 ≡ true) × (inTime 5001 5000 ≡ false) × (inTime 5001 0 ≡ true)
+limit-reached = (refl, refl, refl)
+
+-- "stamps and codes too, has its high octet first": 01 02 03 04, read and written
+pub stamp-high-first : (slotFrom (1 ∷ 1 ∷ 2 ∷ 3 ∷ 4 ∷ []) .stamp ≡ 0x01020304) × (take 5 (slotTo 0x01020304 []) ≡ 1 ∷ 1 ∷ 2 ∷ 3 ∷ 4 ∷ [])
+unfolding number octetsOf
+stamp-high-first = (refl, refl)
+
+-- "only R1 carries type 1, only R2 type 2", though the octets are there in the other too
+pub only-its-type : (carries 1 1 ≡ true) × (carries 2 1 ≡ false) × (carries 3 1 ≡ false) × (carries 2 2 ≡ true) × (carries 1 2 ≡ false) × (carries 3 2 ≡ false)
+only-its-type = (refl, refl, refl, refl, refl, refl)
+
+-- ---- taking
 
 -- what a telegram that is taken meets
 pub record Takes (store : List ℕ) (v : ℕ) (telegram : List ℕ) : Type 0 where
@@ -56,6 +73,27 @@ type-short t = by (eqb t 3)
     by : (b : Bool) → cond b 40 128 ≤ 128
     by true = omega arith
     by false = omega arith
+
+pub type-least : (t : ℕ) → 40 ≤ typeLength t
+type-least t = by (eqb t 3)
+  where
+    by : (b : Bool) → 40 ≤ cond b 40 128
+    by true = omega arith
+    by false = omega arith
+
+-- and what meets that is taken
+pub takes-it : (store : List ℕ) (v now : ℕ) (telegram : List ℕ) → Takes store v telegram → taking store v now telegram ≡ gives (taken store v now telegram)
+unfolding taking refuseIf
+takes-it store v now telegram t =
+    rw (
+      eq-eqb _ _ (t .whole),
+      le-leb _ _ (t .first),
+      le-leb _ _ (t .last),
+      le-ltb (length telegram) 2 (omega (arith, t .long, type-least (telegramType telegram))),
+      eq-eqb _ _ (t .application),
+      t .typed,
+      eq-eqb _ _ (t .long),
+    )
 
 -- the octets of a slot: as many as a slot has
 pub length-slot : (now : ℕ) (telegram : List ℕ) → length telegram ≤ telegramOctets → length (slotTo now telegram) ≡ slotOctets

@@ -7,7 +7,7 @@ use native.Mathlib.Omega.{arith}
 use native.Mathlib.Decide.{ℕ-discrete}
 use lib.ListN.{length}
 use lib.Dec.{leb, eqb}
-use borrow.Author.Tests.{le-leb}
+use borrow.Author.Tests.{le-leb, eq-eqb, ne-eqb}
 use Rattle.paper.specs.Octets.{field}
 use Rattle.paper.specs.Answer.{Answer, gives, refused}
 use Rattle.paper.specs.First.{firstOf}
@@ -23,7 +23,7 @@ use Rattle.refusals.proofs.Laws.{numbered, numbered-of}
 use Rattle.octets.specs.Fields.{Within}
 use Rattle.reading.specs.declared.ReadOutcome.{ReadOutcome}
 use Rattle.reading.specs.declared.ReadOutcome.the-variants.{Read, Refused}
-use Rattle.reading.specs.Reading.{readAnswer, slotTests, markIn, MarkThere, telegramTests, telegramReason, telegramReading}
+use Rattle.reading.specs.Reading.{readAnswer, slotTests, telegramTests, telegramReason, telegramReading}
 
 -- ---- a reading in its two parts
 
@@ -66,13 +66,13 @@ telegram-given l telegram k v r e f = ap (λ (x : ℕ). record { value = x; reas
 
 -- ---- what an accepted list tells of a signal's field and mark
 
-pub mark-in : (xs : List ℕ) (n : Counts) (s : Signal) (telegram : List ℕ) → markIn xs s telegram ≡ markOf (listOf xs n) s telegram
-unfolding markIn markOf placeOf
-mark-in xs n s telegram = by (eqb (s .check) 0)
-  where
-    by : (b : Bool) → cond b 1 (field telegram (checkAt xs (s .check - 1)) 2) ≡ cond b 1 (field telegram (cond b 0 (checkAt xs (s .check - 1))) 2)
-    by true = refl
-    by false = refl
+-- the place of a check that exists, or 0 for none
+pub place-within : (xs : List ℕ) (n : Counts) (s : Signal) → Laid xs n → s .check ≤ n .checks → placeOf (listOf xs n) s ≤ 1022
+unfolding placeOf
+place-within xs n s h le = elim (ℕ-discrete (s .check) 0) [
+  | yes e ↦ simp (eq-eqb _ 0 e) (omega arith)
+  | no ne ↦ simp (ne-eqb _ 0 ne) (kept-of xs n h .check (s .check - 1) (omega arith) .high)
+]
 
 module _ (xs : List ℕ) (n : Counts) (k : ℕ) (telegram : List ℕ) (h : Laid xs n) (lt : k < n .signals) (whole : length telegram ≡ telegramOctets) where
   kept : SignalKept (n .checks) (checkAt xs) (signalAt (signalsPart xs n)) k
@@ -85,12 +85,8 @@ module _ (xs : List ℕ) (n : Counts) (k : ℕ) (telegram : List ℕ) (h : Laid 
       by (yes e) = omega (arith, kept .placed .common e .1)
       by (no e) = omega (arith, kept .placed .own e .1)
 
-  pub mark-there : MarkThere xs (signalAt (signalsPart xs n) k) telegram
-  mark-there =
-      record {
-        exists = omega (arith, kept .named .exists, h .checks .opens .present);
-        inside = λ some. omega (arith, kept-of xs n h .check (signalAt (signalsPart xs n) k .check - 1) (omega (arith, kept .named .exists)) .high);
-      }
+  pub check-there : signalAt (signalsPart xs n) k .check ≤ n .checks
+  check-there = kept .named .exists
 
 -- ---- the contract settles the answer
 

@@ -1,14 +1,12 @@
 -- The code's readings as those of the paper, and the parts in which the code works them out.
-use Prim.Native.Nat.{ℕ, _+_, _-_, _*_, _≤_, _<_}
+use Prim.Native.Nat.{ℕ}
 use mathlib.Core.Bool.{Bool, not, cond}
 use mathlib.Core.List.{List, [], _∷_}
-use lib.ListN.{length}
 use lib.Dec.{ltb, leb, eqb}
-use Rattle.paper.specs.Octets.{field}
 use Rattle.paper.specs.Answer.{Answer, gives, refuseIf}
 use Rattle.paper.specs.First.{firstOf}
-use Rattle.paper.specs.Telegrams.{telegramType, versionOf, carries, error, ok, forced, undefined, markWidth}
-use Rattle.paper.specs.SignalList.{Signal, SignalList, entry, checkSize, checkAt}
+use Rattle.paper.specs.Telegrams.{telegramType, versionOf, carries, error, forced, undefined}
+use Rattle.paper.specs.SignalList.{Signal, SignalList}
 use Rattle.paper.specs.Extends.{knows}
 use Rattle.paper.specs.Store.{Slot, isStore, isVehicle, age, inTime}
 use Rattle.paper.specs.Reading as paper
@@ -32,15 +30,6 @@ slotTests slot now s =
     ∷ not (carries (telegramType (slot .telegram)) (s .type))
     ∷ ltb (versionOf (slot .telegram)) (s .since)
     ∷ []
-
--- the mark over a signal, by the octets of the list
-unfoldable pub markIn : List ℕ → Signal → List ℕ → ℕ
-markIn xs s telegram = cond (eqb (s .check) 0) ok (field telegram (checkAt xs (s .check - 1)) markWidth)
-
--- it can be read: the check exists, and lies in the telegram
-pub record MarkThere (xs : List ℕ) (s : Signal) (telegram : List ℕ) : Type 0 where
-  pub exists : entry checkSize (s .check) ≤ length xs
-  pub inside : 0 < s .check → checkAt xs (s .check - 1) + markWidth ≤ 8 * length telegram
 
 -- the tests of the reasons 6 to 8, which go by the mark and the code
 abbrev pub telegramTests : ℕ → Bool → List Bool

@@ -3,13 +3,13 @@ ghost use mathlib.Core.Path.{_≡_};
 ghost use Prim.Native.Nat.{_≤_, _<_};
 ghost use lib.ListN.{length};
 ghost use Rattle.paper.specs.First.{firstOf};
-ghost use Rattle.paper.specs.SignalList.{signalAt, signalsPart, codesPart, listOf};
+ghost use Rattle.paper.specs.SignalList.{signalAt, signalsPart, listOf};
 ghost use Rattle.paper.specs.Store.{vehicles, telegramOctets, slotOctets, storeOctets, slotFrom};
-ghost use Rattle.paper.specs.Reading.{readingAt, reading};
+ghost use Rattle.paper.specs.Reading.{markOf, readingAt, reading};
 ghost use Rattle.paper.proofs.ListLaws.{Laid};
 ghost use Rattle.entries.specs.Entries.{signalOf};
 ghost use Rattle.lists.specs.Judged.{countsOf};
-ghost use Rattle.reading.specs.Reading.{asReading, readAnswer, slotTests, markIn, MarkThere, telegramReason, telegramReading, readingUnder};
+ghost use Rattle.reading.specs.Reading.{asReading, readAnswer, slotTests, telegramReason, telegramReading, readingUnder};
 use entries::Signal;
 use lists::Counts;
 use lists::Judged;
@@ -24,22 +24,6 @@ pub struct Reading {
 pub enum ReadOutcome {
     Read(Reading),
     Refused(Refusal),
-}
-
-// Inner: the list from its signals' count on.
-pub fn signals_part(list: &[u8], n: Counts) -> &[u8]
-    requires { ⌜ Laid (now list) (countsOf n) ⌝ }
-    ensures { λ r. ⌜ now r ≡ signalsPart (now (list .entry)) (countsOf n) ⌝ }
-{
-    lists::rest(list, 2, n.checks)
-}
-
-// Inner: from its codes' count on.
-pub fn codes_part(list: &[u8], n: Counts) -> &[u8]
-    requires { ⌜ Laid (now list) (countsOf n) ⌝ }
-    ensures { λ r. ⌜ now r ≡ codesPart (now (list .entry)) (countsOf n) ⌝ }
-{
-    lists::rest(signals_part(list, n), 16, n.signals)
 }
 
 // The first of the reasons 2 to 5 that applies to a signal in a slot; 0 where none does.
@@ -64,15 +48,14 @@ fn slot_reason(slot: &[u8], clock: u32, s: Signal) -> u8
 }
 
 // The mark over a signal; no check counts as ok.
-fn mark_in(list: &[u8], s: Signal, telegram: &[u8]) -> usize
-    requires { ⌜ MarkThere (now list) (signalOf s) (now telegram) ⌝ }
-    ensures { λ r. ⌜ r ≡ markIn (now (list .entry)) (signalOf s) (now (telegram .entry)) ⌝ }
+fn mark_in(list: &[u8], n: Counts, s: Signal, telegram: &[u8]) -> usize
+    requires { ⌜ (Laid (now list) (countsOf n)) × (s .check ≤ n .checks) × (length (now telegram) ≡ telegramOctets) ⌝ }
+    ensures { λ r. ⌜ r ≡ markOf (listOf (now (list .entry)) (countsOf n)) (signalOf s) (now (telegram .entry)) ⌝ }
 {
-    let check = s.check;
-    if check == 0 {
+    if s.check == 0 {
         return 1;
     }
-    octets::read_field(telegram, entries::check_at(list, check - 1), 2) as usize
+    octets::read_field(telegram, lists::place_in(list, n, s), 2) as usize
 }
 
 // The first of the reasons 6 to 8 that applies, else 0 or 1.
@@ -101,8 +84,8 @@ fn read_telegram(list: &[u8], n: Counts, s: Signal, telegram: &[u8], k: usize) -
     ensures { λ r. ⌜ asReading r ≡ telegramReading (listOf (now (list .entry)) (countsOf n)) (now (telegram .entry)) k ⌝ }
 {
     let code = octets::read_field(telegram, s.start, s.width);
-    let known = known::known(codes_part(list, n), n.codes, k, code);
-    let reason = telegram_reason(mark_in(list, s, telegram), known);
+    let known = known::known(lists::codes_part(list, n), n.codes, k, code);
+    let reason = telegram_reason(mark_in(list, n, s, telegram), known);
     if 2 <= reason {
         return Reading {
             value: s.replacement,
@@ -128,7 +111,7 @@ pub fn read_at(
     requires { ⌜ (length (now store) ≡ storeOctets) × (1 ≤ vehicle) × (vehicle ≤ vehicles) ⌝ }
     ensures { λ r. ⌜ asReading r ≡ readingAt (listOf (now (list .entry)) (countsOf n)) (now (store .entry)) clock vehicle k ⌝ }
 {
-    let s = entries::signal_at(signals_part(list, n), k);
+    let s = lists::signal_in(list, n, k);
     let slot = store::slot(store, vehicle);
     let reason = slot_reason(slot, clock, s);
     if reason != 0 {

@@ -7,7 +7,7 @@ use Rattle.paper.specs.Answer.{Answer, refused, shift}
 use Rattle.refusals.specs.declared.Refusal.{Refusal}
 use Rattle.refusals.specs.declared.Refusal.the-variants.{ListEnds, CountAbove, EntryBroken, OctetsAfter, StoreLength, Vehicle, TelegramShort, ApplicationType, TelegramType, TelegramLength, NoSuchSignal, DataShort, ValuesOrMarks, MarkAbove, ValueUnfit, OutputLength, ConsistLength, ConsistRule, AddressUnlisted, NobodyMeets, ELength, ECode, AnswerToReport, HeadLength, OutputShort, ScaledKind, NoCheckPlace}
 use Rattle.refusals.specs.Refusal.{numberOf, carriedOf, refusalOf}
-use Rattle.refusals.proofs.AnswerLaws.{stays-shifted}
+use Rattle.paper.proofs.AnswerLaws.{stays-shifted}
 
 -- the refusal of a number, with what it carries
 abbrev pub numbered : ℕ → ℕ → Refusal

@@ -1,3 +1,2 @@
-pub mod AnswerLaws
 pub mod Laws
 pub mod WrittenLaws

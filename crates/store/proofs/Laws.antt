@@ -1,15 +1,15 @@
 -- Four runs of octets are one slot, and the tests of a taking are its refusals. Assumes nothing.
 use Prim.Native.Nat.{ℕ, _+_, _-_, _%_, _≤_, _<_}
 use mathlib.Core.Path.{_≡_, refl, sym, ap, _∙_}
-use mathlib.Core.Bool.{Bool, true, false}
 use mathlib.Core.List.{List, [], _∷_, _++_, append-assoc}
 use native.Mathlib.Omega.{arith}
 use native.Mathlib.Numerals.{add-one}
 use lib.ListN.{length, set, take, drop, replicate, length-append, length-take, length-drop, length-replicate}
 use lib.Seq.{set-split}
-use Rattle.paper.specs.Answer.{Answer, gives, refuseIf, andThen}
+use Rattle.paper.specs.Answer.{gives, andThen}
 use Rattle.paper.specs.Octets.{octetsOf, over}
 use Rattle.paper.specs.Store.{telegramOctets, slotHead, slotOctets, storeOctets, vehicles, slotStart, turn, age, slotTo, taken, taking}
+use Rattle.paper.proofs.AnswerLaws.{past}
 use Rattle.paper.proofs.NumberLaws.{length-octetsOf, over-over}
 use Rattle.paper.proofs.StoreLaws.{Takes, takes}
 use Rattle.refusals.specs.declared.Refusal.{Refusal}
@@ -51,11 +51,6 @@ pub slot-whole : (store : List ℕ) (v : ℕ) → length store ≡ storeOctets �
 slot-whole store v whole first last = simp (length-take, length-drop) (omega arith)
 
 -- ---- the tests
-
-past : {A B : Type 0} (b : Bool) (n at : ℕ) (x : Answer A) (k : A → Answer B) (y : Answer B) → y ≡ andThen x k → refuseIf b n at y ≡ andThen (refuseIf b n at x) k
-unfolding refuseIf
-past true n at x k y e = refl
-past false n at x k y e = e
 
 module _ (store : List ℕ) (v now : ℕ) (telegram : List ℕ) where
   tested : taking store v now telegram ≡ andThen (takingTests (length store) v telegram) (λ _. gives (taken store v now telegram))

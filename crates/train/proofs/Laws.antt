@@ -14,7 +14,7 @@ use Rattle.paper.specs.Answer.{Answer, gives, refused, refuseIf}
 use Rattle.paper.specs.Train.{Vehicle, Members, consistRule, isAddress, member, setTo, membersOf, resolving}
 use Rattle.paper.proofs.FirstLaws.{count-none, none-counted}
 use Rattle.paper.proofs.ListLaws.{neither}
-use Rattle.paper.proofs.AnswerLaws.{refuses, goes-past, never-both, one-answer}
+use Rattle.paper.proofs.AnswerLaws.{refuses, goes-past, not-here, last-here, one-answer}
 use Rattle.refusals.proofs.Laws.{numbered, numbered-of}
 use Rattle.train.specs.declared.Resolved.{Resolved}
 use Rattle.train.specs.declared.Resolved.the-variants as R
@@ -49,26 +49,15 @@ nobody-meets train a h n =
     let few : ltb 63 (length train) ≡ false = le-ltb 63 (length train) (h .few) in
     sym (goes-past _ 17 0 _ _ (ap₂ _||_ some few) (goes-past _ 18 0 _ _ (ap not (h .ruled)) (goes-past _ 19 0 _ _ (ap not (h .listed)) (refuses _ 20 0 _ (eq-eqb _ 0 z)))))
 
-module _ {A : Type 0} where
-  -- 20 is no other refusal's number, and what is given is no refusal
-  not-here : (b : Bool) (n at : ℕ) (rest : Answer A) → (n ≡ 20 → ⊥) → refuseIf b n at rest ≡ refused 20 0 → (b ≡ false) × (rest ≡ refused 20 0)
-  unfolding refuseIf
-  not-here true n at rest h e = absurd (h (cc))
-  not-here false n at rest h e = (refl, e)
-
-  here : (b : Bool) (a : A) → refuseIf b 20 0 (gives a) ≡ refused 20 0 → b ≡ true
-  unfolding refuseIf
-  here true a e = refl
-  here false a e = absurd (never-both (gives a) a 20 0 refl e)
 
 pub refused-20 : (train : List Vehicle) (a : ℕ) → resolving train a ≡ refused 20 0 → Asked train a × ((v : ℕ) → 1 ≤ v → v ≤ length train → member train a v ≡ false)
 unfolding resolving membersOf
 refused-20 train a e =
-    let p = not-here _ 17 0 _ (λ h. lt-irrefl 0 (omega arith)) e in
-    let q = not-here _ 18 0 _ (λ h. lt-irrefl 0 (omega arith)) (p .1) in
-    let r = not-here _ 19 0 _ (λ h. lt-irrefl 0 (omega arith)) (q .1) in
+    let p = not-here _ 17 0 _ 20 0 (λ h. lt-irrefl 0 (omega arith)) e in
+    let q = not-here _ 18 0 _ 20 0 (λ h. lt-irrefl 0 (omega arith)) (p .1) in
+    let r = not-here _ 19 0 _ 20 0 (λ h. lt-irrefl 0 (omega arith)) (q .1) in
     let n = neither _ _ (p .0) in
-    let z : membersOf train a .size ≡ 0 = eqb-true _ 0 (here _ _ (r .1)) in
+    let z : membersOf train a .size ≡ 0 = eqb-true _ 0 (last-here _ 20 0 _ 20 0 (r .1)) in
     let s : length train ≡ 0 → ⊥ = eqb-false (length train) 0 (n .0) in (
       record { some = omega arith; few = ltb-false 63 (length train) (n .1); ruled = not-false _ (q .0); listed = not-false _ (r .0) },
       λ v h l.

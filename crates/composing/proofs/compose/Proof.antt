@@ -4,7 +4,7 @@ use lib.ListN.{length}
 use denote.Ref.{now}
 use borrow.Author.Needs.{needs}
 use Rattle.paper.specs.SignalList.{judge}
-use Rattle.refusals.proofs.AnswerLaws.{stays}
+use Rattle.paper.proofs.AnswerLaws.{stays}
 use Rattle.refusals.proofs.WrittenLaws.{written-refused, written-on}
 use Rattle.lists.specs.declared.Judged.the-variants.{Accepted}
 use Rattle.lists.specs.Judged.{judgedAnswer}

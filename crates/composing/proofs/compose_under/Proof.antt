@@ -6,7 +6,7 @@ use borrow.Author.Needs.{needs}
 use Rattle.paper.specs.Answer.{gives}
 use Rattle.paper.specs.SignalList.{listOf}
 use Rattle.refusals.specs.Outcome.{outcomeOf}
-use Rattle.refusals.proofs.AnswerLaws.{stays}
+use Rattle.paper.proofs.AnswerLaws.{stays}
 use Rattle.refusals.proofs.WrittenLaws.{written-refused, written-done, written-on}
 use Rattle.lists.specs.Judged.{countsOf}
 use Rattle.composing.specs.Composing.{composingTests}

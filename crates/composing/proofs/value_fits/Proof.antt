@@ -22,7 +22,7 @@ pow2-requires c κs =
     omega (
       arith,
       kept-of (now (s .args .list)) (countsOf (s .args .n)) (s .pre .0 .laid) .signal (s .args .k) (s .pre .1) .wide,
-      ap (λ (x : Signal). x .width) (r .signal .ensures .is),
+      ap (λ (x : Signal). x .width) (r .signal-in .ensures .is),
     )
 
 returns : tie.Need-returns
@@ -35,8 +35,8 @@ returns c =
     let l = listOf (now (a .list)) (countsOf (a .n)) in
     let v = getD (now (a .values)) (a .k) 0 in
     ap₂ (λ (b : Bool) (q : ℕ). not b || ltb v q && c .is-known .result)
-    (w .is-carried .ensures ∙ ap (λ (x : Signal). carries (a .kind) (x .type)) (g .signal .ensures .is))
-    (p .pow2 .ensures ∙ ap (λ (x : Signal). 2 ^ x .width) (g .signal .ensures .is))
+    (w .is-carried .ensures ∙ ap (λ (x : Signal). carries (a .kind) (x .type)) (g .signal-in .ensures .is))
+    (p .pow2 .ensures ∙ ap (λ (x : Signal). 2 ^ x .width) (g .signal-in .ensures .is))
     ∙ ap (λ (b : Bool). not (writesSignal l (a .kind) (a .k)) || ltb v (2 ^ l .signal (a .k) .width) && b) (c .is-known .ensures)
 
 pub value-fits-spec : {M : Type 1} → statement M

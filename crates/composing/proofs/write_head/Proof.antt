@@ -8,7 +8,8 @@ use borrow.Author.Needs.{needs}
 use Rattle.paper.specs.Octets.{over}
 use Rattle.paper.specs.Telegrams.{typeLength}
 use Rattle.paper.proofs.ComposingLaws.{type-range}
-use Rattle.composing.proofs.Laws.{type-least, written-head}
+use Rattle.paper.proofs.StoreLaws.{type-least}
+use Rattle.composing.proofs.Laws.{written-head}
 use Rattle.composing.proofs.write_head.Statement.{statement}
 use Rattle.composing.proofs.write_head.Tie as tie
 

@@ -1,32 +1,29 @@
 -- `composing::write_signals` meets its contract: the signals passed are put. Assumes nothing.
 use Prim.Native.Nat.{_≤_, _-_}
-use mathlib.Core.Path.{_≡_, refl, sym, ap, ap₂, subst⁻¹, _∙_}
-use mathlib.Core.Bool.{Bool, cond}
+use mathlib.Core.Path.{_≡_, refl, sym, ap, subst⁻¹, _∙_}
 use native.Mathlib.Omega.{arith}
-use lib.ListN.{length, getD}
 use denote.Ref.{now}
 use borrow.Author.Needs.{needs}
-use Rattle.paper.specs.Octets.{put, puts}
 use Rattle.paper.specs.Telegrams.{carries}
 use Rattle.paper.specs.SignalList.{Signal, listOf}
 use Rattle.paper.specs.Composing.{writesSignal, signalPut}
+use Rattle.paper.proofs.PutsLaws.{PutSoFar, none-put, one-put, all-put}
 use Rattle.paper.proofs.ListLaws.{kept-of}
 use Rattle.octets.specs.Fields.{Within}
 use Rattle.lists.specs.Judged.{countsOf}
-use Rattle.composing.proofs.Laws.{signal-there, puts-more}
+use Rattle.composing.proofs.Laws.{signal-there}
 use Rattle.composing.proofs.write_signals.Statement.{statement}
 use Rattle.composing.proofs.write_signals.Tie as tie
 
 abbrev Inv-loop : tie.InvT-loop
 Inv-loop list n kind values out₀ k₀ out k =
-    (k ≤ n .signals) × (length out ≡ length out₀) × (out ≡ puts (signalPut (listOf list (countsOf n)) kind values) out₀ k)
+    (k ≤ n .signals) × (PutSoFar (signalPut (listOf list (countsOf n)) kind values) out₀ k out)
 
 abbrev μ-loop : tie.MeasureT-loop
 μ-loop list n kind values out₀ k₀ out k = n .signals - k
 
 loop-holds : tie.Need-loop-holds Inv-loop μ-loop
-unfolding puts
-loop-holds c = (search needs, refl, refl)
+loop-holds c = (search needs, none-put _ _)
 
 -- whether signal k is written
 carried : (c : tie.After-is-carried Inv-loop μ-loop) →
@@ -35,7 +32,7 @@ carried : (c : tie.After-is-carried Inv-loop μ-loop) →
     c .is-carried .result ≡ writesSignal (listOf (now (a .list)) (countsOf (a .n))) (a .kind) (p .loop .k)
 carried c =
     let g = c .before .before in
-    c .is-carried .ensures ∙ ap (λ (x : Signal). carries (g .before .before .before .before .before .before .before .args .kind) (x .type)) (g .signal .ensures .is)
+    c .is-carried .ensures ∙ ap (λ (x : Signal). carries (g .before .before .before .before .before .before .before .args .kind) (x .type)) (g .signal-in .ensures .is)
 
 write-where-requires : tie.Need-write-where-requires Inv-loop μ-loop
 write-where-requires c κs = λ w.
@@ -44,8 +41,8 @@ write-where-requires c κs = λ w.
     let s = p .before .before .before .before in
     let xs = now (s .args .list) in
     let n = countsOf (s .args .n) in
-    subst⁻¹ (λ (x : Signal). Within (p .loop .out) (x .start) (x .width)) (g .signal .ensures .is)
-    (signal-there (listOf xs n) (kept-of xs n (s .pre .0 .laid)) (s .args .kind) (p .loop .out) (p .loop .inv .1 ∙ s .pre .1 .long) (p .loop .k) (omega arith)
+    subst⁻¹ (λ (x : Signal). Within (p .loop .out) (x .start) (x .width)) (g .signal-in .ensures .is)
+    (signal-there (listOf xs n) (kept-of xs n (s .pre .0 .laid)) (s .args .kind) (p .loop .out) (p .loop .inv .1 .long ∙ s .pre .1 .long) (p .loop .k) (omega arith)
     (sym (carried (c .before)) ∙ w))
 
 loop-again : tie.Need-loop-again Inv-loop μ-loop
@@ -54,20 +51,13 @@ loop-again c =
     let q = w .before .before in
     let g = q .before .before in
     let p = g .before .before .before in
-    let a = p .before .before .before .before .args in
-    let f = signalPut (listOf (now (a .list)) (countsOf (a .n))) (a .kind) (now (a .values)) in (
-      search needs,
-      search needs,
-      w .write-where .ensures
-          ∙ ap₂ (λ (b : Bool) (x : Signal). cond b (put (p .loop .out) (x .start) (x .width) (getD (now (a .values)) (p .loop .k) 0)) (p .loop .out)) (carried q) (g .signal .ensures .is)
-          ∙ puts-more f (now (a .out)) (p .loop .out) (p .loop .k) (p .loop .inv .2),
-    )
+    let is = g .signal-in .ensures .is in
+    (search needs, one-put _ _ (p .loop .k) (p .loop .out) _ _ _ _ _ (p .loop .inv .1) (w .write-where .ensures) (carried q) (ap (λ (x : Signal). x .start) is) (ap (λ (x : Signal). x .width) is) refl)
 
 returns : tie.Need-returns Inv-loop μ-loop
 returns c =
     let p = c .before .before in
-    let e : p .loop .k ≡ p .before .before .before .before .args .n .signals = omega arith in
-    rw (← e) (p .loop .inv .2)
+    all-put _ _ _ (p .loop .k) _ (omega arith) (p .loop .inv .1)
 
 pub write-signals-spec : {M : Type 1} → statement M
 write-signals-spec =

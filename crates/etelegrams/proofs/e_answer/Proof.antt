@@ -3,7 +3,7 @@ use mathlib.Core.Path.{sym, ap, _∙_}
 use borrow.Author.Needs.{needs}
 use Rattle.paper.specs.ETelegrams.{answering}
 use Rattle.refusals.specs.Refusal.{numberOf, carriedOf}
-use Rattle.refusals.proofs.AnswerLaws.{stays}
+use Rattle.paper.proofs.AnswerLaws.{stays}
 use Rattle.etelegrams.specs.Answers.{answerOn, eReadAnswer}
 use Rattle.refusals.proofs.WrittenLaws.{written-on, written-refused}
 use Rattle.etelegrams.proofs.e_answer.Statement.{statement}

@@ -11,15 +11,15 @@ use Rattle.extending.specs.Extending.{listed, agreed}
 use Rattle.extending.proofs.keeps_at.Statement.{statement}
 use Rattle.extending.proofs.keeps_at.Tie as tie
 
-place-of-requires : tie.Need-place-of-requires
-place-of-requires c κs =
+place-in-requires : tie.Need-place-in-requires
+place-in-requires c κs =
     let s = c .before .before .before .before in (
       s .pre .0 .0,
       omega (arith, ap (λ (x : Signal). x .check) (c .before .signal-in .ensures .is), kept-of _ _ (s .pre .0 .0) .signal (s .args .i) (s .pre .0 .1) .named .exists),
     )
 
-place-of-requires-2 : tie.Need-place-of-requires-2
-place-of-requires-2 c κs =
+place-in-requires-2 : tie.Need-place-in-requires-2
+place-in-requires-2 c κs =
     let s = c .before .before .before .before .before in (
       s .pre .1 .0,
       omega (arith, ap (λ (x : Signal). x .check) (c .before .signal-in2 .ensures .is), kept-of _ _ (s .pre .1 .0) .signal (s .args .j) (s .pre .1 .1) .named .exists),
@@ -39,9 +39,9 @@ tested c =
     let first = p .before .before .signal-in .ensures .is in
     let second = p .before .signal-in2 .ensures .is in
     c .agrees .ensures
-    ∙ ap₂ (λ (x y : Signal). agreed x (p .place-of .result) y (q .place-of2 .result)) first second
+    ∙ ap₂ (λ (x y : Signal). agreed x (p .place-in .result) y (q .place-in2 .result)) first second
     ∙ ap₂ (λ (x y : ℕ). agreed (a .signal (s .i)) x (b .signal (s .j)) y)
-    (p .place-of .ensures ∙ ap (placeOf a) first) (q .place-of2 .ensures ∙ ap (placeOf b) second)
+    (p .place-in .ensures ∙ ap (placeOf a) first) (q .place-in2 .ensures ∙ ap (placeOf b) second)
 
 returns : tie.Need-returns
 unfolding keeps
@@ -57,8 +57,8 @@ keeps-at-spec =
     (tie.spec
     (λ c κs. search needs)
     (λ c κs. search needs)
-    place-of-requires
-    place-of-requires-2
+    place-in-requires
+    place-in-requires-2
     (λ c κs. search needs)
     returns
     (λ c κs. search needs)

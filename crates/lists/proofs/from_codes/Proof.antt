@@ -6,7 +6,8 @@ use denote.Ref.{now}
 use borrow.Author.Needs.{needs}
 use Rattle.paper.specs.Answer.{Answer}
 use Rattle.paper.specs.SignalList.{Counts, codeSize, mostCodes, signalAt, codeAt, codeRule, fromRoutes, fromCodes}
-use Rattle.lists.proofs.Laws.{Part, onward, Opens, opens, not-opened, entry-broken, entries-kept, moves, follows, routes-within}
+use Rattle.paper.proofs.ListLaws.{routes-within}
+use Rattle.lists.proofs.Laws.{Part, onward, Opens, opens, not-opened, entry-broken, entries-kept, moves, follows}
 use Rattle.lists.proofs.from_codes.Statement.{statement}
 use Rattle.lists.proofs.from_codes.Tie as tie
 

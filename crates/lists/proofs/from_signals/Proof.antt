@@ -6,7 +6,8 @@ use denote.Ref.{now}
 use borrow.Author.Needs.{needs}
 use Rattle.paper.specs.Answer.{Answer}
 use Rattle.paper.specs.SignalList.{Counts, signalSize, mostSignals, checkAt, signalAt, signalRule, fromCodes, fromSignals}
-use Rattle.lists.proofs.Laws.{Part, onward, Opens, opens, not-opened, entry-broken, entries-kept, moves, follows, codes-within}
+use Rattle.paper.proofs.ListLaws.{codes-within}
+use Rattle.lists.proofs.Laws.{Part, onward, Opens, opens, not-opened, entry-broken, entries-kept, moves, follows}
 use Rattle.lists.proofs.from_signals.Statement.{statement}
 use Rattle.lists.proofs.from_signals.Tie as tie
 

@@ -6,7 +6,8 @@ use denote.Ref.{now}
 use borrow.Author.Needs.{needs}
 use Rattle.paper.specs.Answer.{Answer}
 use Rattle.paper.specs.SignalList.{Counts, checkSize, mostChecks, checkAt, checkRule, fromSignals, judge}
-use Rattle.lists.proofs.Laws.{Part, onward, Opens, opens, not-opened, entry-broken, entries-kept, moves, follows, signals-within}
+use Rattle.paper.proofs.ListLaws.{signals-within}
+use Rattle.lists.proofs.Laws.{Part, onward, Opens, opens, not-opened, entry-broken, entries-kept, moves, follows}
 use Rattle.lists.proofs.judge.Statement.{statement}
 use Rattle.lists.proofs.judge.Tie as tie
 

@@ -3,7 +3,7 @@ use mathlib.Core.Path.{_≡_, sym, ap, _∙_}
 use denote.Ref.{now}
 use borrow.Author.Needs.{needs}
 use Rattle.paper.specs.SignalList.{judge}
-use Rattle.refusals.proofs.AnswerLaws.{stays}
+use Rattle.paper.proofs.AnswerLaws.{stays}
 use Rattle.lists.specs.declared.Judged.the-variants.{Accepted}
 use Rattle.lists.specs.Judged.{judgedAnswer}
 use Rattle.lists.proofs.Laws.{accepted-laid}

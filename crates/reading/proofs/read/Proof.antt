@@ -6,7 +6,7 @@ use Rattle.paper.specs.Answer.{gives}
 use Rattle.paper.specs.SignalList.{judge}
 use Rattle.paper.specs.Reading.{reading}
 use Rattle.refusals.specs.Refusal.{numberOf, carriedOf}
-use Rattle.refusals.proofs.AnswerLaws.{stays, goes-on}
+use Rattle.paper.proofs.AnswerLaws.{stays, goes-on}
 use Rattle.lists.specs.Judged.{countsOf, judgedAnswer}
 use Rattle.lists.proofs.Laws.{accepted-laid}
 use Rattle.reading.specs.Reading.{readingUnder}

@@ -18,23 +18,18 @@ use Rattle.reading.proofs.Laws.{slot-reading, telegram-reads}
 use Rattle.reading.proofs.read_at.Statement.{statement}
 use Rattle.reading.proofs.read_at.Tie as tie
 
-signal-at-requires : tie.Need-signal-at-requires
-signal-at-requires c κs = rw (c .signals-part .ensures) (omega (arith, c .before .before .before .pre .0 .0 .signals .opens .present, c .before .before .before .pre .0 .1))
-
-signal-is : (c : tie.After-signal-at) →
-    let a = c .before .before .before .before .args in
-    signalOf (c .signal-at .result) ≡ signalAt (signalsPart (now (a .list)) (countsOf (a .n))) (a .k)
-signal-is c =
-    let a = c .before .before .before .before .args in
-    c .signal-at .ensures .is ∙ ap (λ (x : List ℕ). signalAt x (a .k)) (c .before .signals-part .ensures)
+signal-is : (c : tie.After-signal-in) →
+    let a = c .before .before .before .args in
+    signalOf (c .signal-in .result) ≡ signalAt (signalsPart (now (a .list)) (countsOf (a .n))) (a .k)
+signal-is c = c .signal-in .ensures .is
 
 whole : (c : tie.After-slot) → length (now (c .slot .result)) ≡ slotOctets
 whole c =
-    let b = c .before .before .before .before .before in
+    let b = c .before .before .before .before in
     rw (c .slot .ensures) (slot-whole (now (b .args .store)) (b .args .vehicle) (b .pre .1 .0) (b .pre .1 .1) (b .pre .1 .2))
 
 slot-is : (c : tie.After-slot) →
-    let a = c .before .before .before .before .before .args in
+    let a = c .before .before .before .before .args in
     slotFrom (now (c .slot .result)) ≡ slotOf (now (a .store)) (a .vehicle)
 unfolding slotOf
 slot-is c = ap slotFrom (c .slot .ensures)
@@ -43,18 +38,18 @@ slot-reason-requires : tie.Need-slot-reason-requires
 slot-reason-requires c κs = whole c
 
 reason-is : (c : tie.After-slot-reason) →
-    let a = c .before .before .before .before .before .before .args in
+    let a = c .before .before .before .before .before .args in
     c .slot-reason .result
     ≡ firstOf 2 (slotTests (slotOf (now (a .store)) (a .vehicle)) (a .clock) (signalAt (signalsPart (now (a .list)) (countsOf (a .n))) (a .k))) 0
 reason-is c =
-    let a = c .before .before .before .before .before .before .args in
+    let a = c .before .before .before .before .before .args in
     c .slot-reason .ensures ∙ ap₂ (λ (x : Slot) (y : Signal). firstOf 2 (slotTests x (a .clock) y) 0) (slot-is (c .before)) (signal-is (c .before .before))
 
 returns : tie.Need-returns
 unfolding readingAt
 returns c =
     let r = c .before in
-    let a = r .before .before .before .before .before .before .args in
+    let a = r .before .before .before .before .before .args in
     let l = listOf (now (a .list)) (countsOf (a .n)) in
     ap₂ (λ (x y : ℕ). record { value = x; reason = y }) (ap (λ (x : Signal). x .replacement) (signal-is (r .before .before))) (reason-is r)
     ∙ slot-reading l (slotOf (now (a .store)) (a .vehicle)) (a .clock) (a .k) (λ e. c .if1 .taken (reason-is r ∙ e))
@@ -65,7 +60,7 @@ telegram-requires c κs = whole (c .before .before)
 read-telegram-requires : tie.Need-read-telegram-requires
 read-telegram-requires c κs =
     let o = c .before .before .before in
-    let b = o .before .before .before .before .before in
+    let b = o .before .before .before .before in
     (b .pre .0, (signal-is (o .before), rw (c .telegram .ensures) (simp length-drop (omega (arith, whole o)))))
 
 returns-2 : tie.Need-returns-2
@@ -73,7 +68,7 @@ unfolding readingAt
 returns-2 c =
     let t = c .before in
     let r = t .before .before in
-    let a = r .before .before .before .before .before .before .args in
+    let a = r .before .before .before .before .before .args in
     let l = listOf (now (a .list)) (countsOf (a .n)) in
     c .read-telegram .ensures
     ∙ ap (λ (x : List ℕ). telegramReading l x (a .k)) (t .telegram .ensures ∙ ap (λ (x : Slot). x .telegram) (slot-is (r .before)))
@@ -84,7 +79,6 @@ read-at-spec =
     tie.close
     (tie.spec
     (λ c κs. search needs)
-    signal-at-requires
     (λ c κs. search needs)
     slot-reason-requires
     returns

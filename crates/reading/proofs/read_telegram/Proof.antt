@@ -2,6 +2,7 @@
 use mathlib.Core.Path.{_≡_, sym, ap, ap₂, _∙_, subst}
 use mathlib.Core.List.{List}
 use Prim.Native.Nat.{ℕ}
+use native.Mathlib.Omega.{arith}
 use denote.Ref.{now}
 use borrow.Author.Needs.{needs}
 use borrow.Author.Tests.{le-leb, lt-leb}
@@ -10,8 +11,8 @@ use Rattle.paper.specs.Extends.{knownIn, knows}
 use Rattle.paper.specs.Reading.{markOf, codeOf}
 use Rattle.octets.specs.Fields.{Within}
 use Rattle.lists.specs.Judged.{countsOf}
-use Rattle.reading.specs.Reading.{markIn, MarkThere, telegramReason}
-use Rattle.reading.proofs.Laws.{field-there, mark-there, mark-in, telegram-given}
+use Rattle.reading.specs.Reading.{telegramReason}
+use Rattle.reading.proofs.Laws.{field-there, check-there, telegram-given}
 use Rattle.reading.proofs.read_telegram.Statement.{statement}
 use Rattle.reading.proofs.read_telegram.Tie as tie
 
@@ -29,8 +30,8 @@ mark-in-requires : tie.Need-mark-in-requires
 mark-in-requires c κs =
     let b = c .before .before .before .before .before in
     let a = b .args in
-    subst (λ (x : Signal). MarkThere (now (a .list)) x (now (a .telegram))) (sym (b .pre .1 .0))
-    (mark-there (now (a .list)) (countsOf (a .n)) (a .k) (now (a .telegram)) (b .pre .0 .0) (b .pre .0 .1) (b .pre .1 .1))
+    let check = check-there (now (a .list)) (countsOf (a .n)) (a .k) (now (a .telegram)) (b .pre .0 .0) (b .pre .0 .1) (b .pre .1 .1) in
+    (b .pre .0 .0, omega (arith, ap (λ (x : Signal). x .check) (b .pre .1 .0), check), b .pre .1 .1)
 
 code-is : (c : tie.After-read-field) →
     let a = c .before .before .before .args in
@@ -60,7 +61,7 @@ reason-is c =
     let a = b .args in
     c .telegram-reason .ensures
     ∙ ap₂ telegramReason
-    (m .mark-in .ensures ∙ ap (λ (x : Signal). markIn (now (a .list)) x (now (a .telegram))) (b .pre .1 .0) ∙ mark-in (now (a .list)) (countsOf (a .n)) _ (now (a .telegram)))
+    (m .mark-in .ensures ∙ ap (λ (x : Signal). markOf (listOf (now (a .list)) (countsOf (a .n))) x (now (a .telegram))) (b .pre .1 .0))
     (known-is (m .before))
 
 returns : tie.Need-returns

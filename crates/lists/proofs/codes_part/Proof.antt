@@ -1,9 +1,9 @@
--- `reading::codes_part` meets its contract. Assumes nothing.
+-- `lists::codes_part` meets its contract. Assumes nothing.
 use mathlib.Core.Path.{ap, _∙_}
 use borrow.Author.Needs.{needs}
 use Rattle.paper.specs.SignalList.{signalSize, rest}
-use Rattle.reading.proofs.codes_part.Statement.{statement}
-use Rattle.reading.proofs.codes_part.Tie as tie
+use Rattle.lists.proofs.codes_part.Statement.{statement}
+use Rattle.lists.proofs.codes_part.Tie as tie
 
 rest-requires : tie.Need-rest-requires
 rest-requires c κs = rw (c .signals-part .ensures) (c .before .before .pre .signals .opens .present)
