@@ -1,5 +1,5 @@
 -- DEMANDS 2 and 3 of the calls themselves: what `compose` wrote, `take` took and `read` answers, by nothing but what the three calls ensure. Assumes nothing.
-use Prim.Native.Nat.{ℕ, _<_}
+use Prim.Native.Nat.{ℕ, _≤_, _<_}
 use mathlib.Core.Path.{_≡_, refl, sym, ap, ap₂, subst, _∙_}
 use mathlib.Core.Logic.{_⊎_, inl, inr}
 use mathlib.Core.Bool.{true, false, cond}
@@ -11,7 +11,7 @@ use Rattle.paper.specs.Answer.{Answer, gives, refused, after}
 use Rattle.paper.specs.Telegrams.{carries, ok, forced}
 use Rattle.paper.specs.SignalList.{Counts, judge, listOf}
 use Rattle.paper.specs.Extends.{same}
-use Rattle.paper.specs.Store.{taking, taken, turn, age, inTime}
+use Rattle.paper.specs.Store.{vehicles, storeOctets, taking, taken, turn, age, inTime}
 use Rattle.paper.specs.Reading.{reading}
 use Rattle.paper.specs.Composing.{composing}
 use Rattle.paper.specs.Demands.{Step, offer, run, NoneLater, Standing, givenMark, delivered, withheld}
@@ -23,6 +23,7 @@ use Rattle.refusals.specs.declared.Outcome.{Outcome}
 use Rattle.refusals.specs.declared.Outcome.the-variants as O
 use Rattle.refusals.specs.Refusal.{numberOf, carriedOf}
 use Rattle.refusals.specs.Outcome.{Written}
+use Rattle.refusals.proofs.WrittenLaws.{written-done, written-gives, written-not, one-written}
 use Rattle.reading.specs.declared.ReadOutcome.{ReadOutcome}
 use Rattle.reading.specs.Reading.{readAnswer}
 use Rattle.demands.specs.Told.{Told}
@@ -74,16 +75,6 @@ told-calls xs type values marks out store v stamp ys now k sent held telegram ne
       read = t .read;
     }
 
--- ---- what a call that writes tells of the paper's answer
-
-given : (a : Answer (List ℕ)) (old new : List ℕ) → Written a old O.Done new → a ≡ gives new
-given (gives x) old new w = ap gives (sym (w .octets))
-given (refused n at) old new w = let e = w .outcome in let z : _≡_ {A = ℕ} 0 1 = cc in absurd (omega arith)
-
-not-given : (a : Answer (List ℕ)) (old : List ℕ) (f : Refusal) (new : List ℕ) → Written a old (O.Refused f) new → a ≡ refused (numberOf f) (carriedOf f)
-not-given (gives x) old f new w = let e = w .outcome in let z : _≡_ {A = ℕ} 0 1 = cc in absurd (omega arith)
-not-given (refused n at) old f new w = let e = w .outcome in ap₂ refused (cc) (cc)
-
 -- ---- the calls are the paper's steps
 
 abbrev Steps : ℕ → List ℕ → List ℕ → Type 0
@@ -97,15 +88,15 @@ steps {v} (another {last = last} w now telegram r other t rest) =
     (offer w now telegram ∷ q .0, ((inl other, q .1 .0), q .1 .1))
 steps {v} (rejected {store = store} {last = last} w now telegram f t rest) =
     let q = subst (Steps v last) (t .octets) (steps rest) in
-    (offer w now telegram ∷ q .0, ((inr (numberOf f, (carriedOf f, not-given _ store f _ t)), q .1 .0), q .1 .1))
+    (offer w now telegram ∷ q .0, ((inr (numberOf f, (carriedOf f, written-not _ store f _ t)), q .1 .0), q .1 .1))
 
 module _ (xs : List ℕ) (type : ℕ) (values marks : List ℕ) (v stamp : ℕ) (ys : List ℕ) (now k : ℕ) (r : ReadOutcome) (c : Calls xs type values marks v stamp ys now k r) where
   sent : composing xs type values marks (length (c .out)) ≡ gives (c .telegram)
-  sent = given _ (c .out) (c .telegram) (c .composed)
+  sent = written-gives _ (c .out) (c .telegram) (c .composed)
 
   standing : (limit : ℕ) → inTime (age now stamp) limit ≡ true → Standing v stamp now limit (c .telegram) (c .store)
   standing limit within =
-      let e = given _ (c .before) (c .after) (c .took) in
+      let e = written-gives _ (c .before) (c .after) (c .took) in
       let t : taken (c .before) v stamp (c .telegram) ≡ c .after = takes (c .before) v stamp (c .telegram) (c .after) e .1 in
       let q = subst (Steps v (c .store)) (sym t) (steps (c .later)) in
       record {
@@ -147,3 +138,11 @@ read-back xs type values marks v stamp now k r c m e hk carried mark within =
     c .read
     ∙ paper.read-back xs type values marks (length (c .out)) (c .telegram) (sent xs type values marks v stamp xs now k r c) m e v stamp now k (c .store) hk carried mark
     (standing xs type values marks v stamp xs now k r c _ within)
+
+-- what `compose` wrote, `take` never refuses for a vehicle of the 63 and a store of the right length
+pub composed-taken : (xs : List ℕ) (type : ℕ) (values marks out telegram : List ℕ) → Written (composing xs type values marks (length out)) out O.Done telegram
+    → (before : List ℕ) (v now : ℕ) (r : Outcome) (after : List ℕ) → length before ≡ storeOctets → 1 ≤ v → v ≤ vehicles
+    → Written (taking before v now telegram) before r after → (r ≡ O.Done) × (after ≡ taken before v now telegram)
+composed-taken xs type values marks out telegram composed before v now r after whole first last took =
+    let e = paper.composed-taken xs type values marks (length out) telegram (written-gives _ out telegram composed) before v now whole first last in
+    one-written _ before r O.Done after (taken before v now telegram) took (written-done _ before _ (sym e))

@@ -8,7 +8,6 @@ use native.Mathlib.Omega.{arith}
 use native.Mathlib.Decide.{decLt}
 use lib.Dec.{ltb}
 use borrow.Author.Tests.{lt-ltb, le-ltb}
-use Rattle.paper.specs.Octets.{put, puts}
 use Rattle.paper.specs.Answer.{Answer, gives, refused, andThen}
 use Rattle.paper.specs.First.{count}
 use Rattle.paper.specs.SignalList.{SignalList, judge, listOf}
@@ -19,7 +18,7 @@ use Rattle.refusals.specs.Refusal.{refusalOf}
 use Rattle.refusals.proofs.Laws.{numbered, numbered-of}
 use Rattle.marshalling.specs.declared.Marshalled.{Marshalled}
 use Rattle.marshalling.specs.declared.Marshalled.the-variants.{Live, Refused}
-use Rattle.marshalling.specs.Marshalling.{liveAnswer, Delivered, marshallingUnder, RoutesWritten}
+use Rattle.marshalling.specs.Marshalling.{liveAnswer, Delivered, marshallingUnder}
 
 -- ---- the routes
 
@@ -34,17 +33,6 @@ too-few octets end =
 pub one-more : (b : Bool) → cond b 1 0 ≤ 1
 one-more true = omega arith
 one-more false = omega arith
-
-module _ (l : SignalList) (store : List ℕ) (now : ℕ) (old : List ℕ) where
-  pub none-yet : RoutesWritten l store now old 0 0 old
-  unfolding paper.marshalled puts count
-  none-yet = record { lives = refl; octets = refl }
-
-  -- one route more
-  pub octets-more : (r : ℕ) (new : List ℕ) → new ≡ paper.marshalled l store now old r
-      → put new (l .route r .start) (l .signal (l .route r .signal) .width) (paper.routed l store now r .value) ≡ paper.marshalled l store now old (r + 1)
-  unfolding paper.marshalled puts
-  octets-more r new e = rw (add-one, e)
 
 -- ---- the answer
 

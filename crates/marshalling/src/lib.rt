@@ -5,13 +5,11 @@ ghost use Prim.Native.Nat.{_<_};
 ghost use lib.ListN.{length};
 ghost use lib.Dec.{leb};
 ghost use Rattle.paper.specs.First.{some};
-ghost use Rattle.paper.specs.SignalList.{routesPart, listOf};
+ghost use Rattle.paper.specs.SignalList.{listOf};
 ghost use Rattle.paper.specs.Marshalling.{marshalling};
 ghost use Rattle.paper.proofs.ListLaws.{Laid};
-ghost use Rattle.entries.specs.Entries.{RouteRead, OctetRead};
 ghost use Rattle.lists.specs.Judged.{countsOf};
 ghost use Rattle.marshalling.specs.Marshalling.{isShort, Served, RouteWritten, RoutesWritten, Delivered, marshallingUnder};
-use entries::Route;
 use lists::Counts;
 use lists::Judged;
 use refusals::Refusal;
@@ -22,29 +20,13 @@ pub enum Marshalled {
     Refused(Refusal),
 }
 
-// Route r of the list.
-fn route(list: &[u8], n: Counts, r: usize) -> Route
-    requires { ⌜ (Laid (now list) (countsOf n)) × (r < n .routes) ⌝ }
-    ensures { λ t. ⌜ RouteRead (routesPart (now (list .entry)) (countsOf n)) r t ⌝ }
-{
-    entries::route_at(lists::rest(reading::codes_part(list, n), 6, n.codes), r)
-}
-
-// The width of signal k, which a route to it has too.
-fn width(list: &[u8], n: Counts, k: usize) -> usize
-    requires { ⌜ (Laid (now list) (countsOf n)) × (k < 65536) ⌝ }
-    ensures { λ w. ⌜ OctetRead (listOf (now (list .entry)) (countsOf n) .signal k .width) w ⌝ }
-{
-    entries::width_at(reading::signals_part(list, n), k)
-}
-
 // Whether the field of route r ends past so many octets. Rounded up to octets, since 8 times a length may not fit.
 fn is_short(list: &[u8], n: Counts, octets: usize, r: usize) -> bool
     requires { ⌜ (Laid (now list) (countsOf n)) × (r < n .routes) ⌝ }
     ensures { λ b. ⌜ b ≡ isShort (listOf (now (list .entry)) (countsOf n)) octets r ⌝ }
 {
-    let t = route(list, n, r);
-    octets < (t.start + width(list, n, t.signal) + 7) / 8
+    let t = lists::route_in(list, n, r);
+    octets < (t.start + lists::width_in(list, n, t.signal) + 7) / 8
 }
 
 // Asked of every route before anything is written.
@@ -74,9 +56,9 @@ fn write_route(list: &[u8], n: Counts, store: &[u8], clock: u32, bus: &mut [u8],
     requires { ⌜ (Served (now list) (countsOf n) (now store) (length (now bus))) × (r < n .routes) ⌝ }
     ensures { λ m. ⌜ RouteWritten (listOf (now (list .entry)) (countsOf n)) (now (store .entry)) clock (now (bus .entry)) r m (now (bus .exit)) ⌝ }
 {
-    let t = route(list, n, r);
+    let t = lists::route_in(list, n, r);
     let reading = reading::read_at(list, n, store, clock, t.vehicle, t.signal);
-    octets::write_field(bus, t.start, width(list, n, t.signal), reading.value);
+    octets::write_field(bus, t.start, lists::width_in(list, n, t.signal), reading.value);
     live(reading.reason)
 }
 

@@ -17,7 +17,7 @@ returns c =
     let l = listOf (now (a .list)) (countsOf (a .n)) in
     too-few (a .octets) _
     ∙ ap (ltb (8 * a .octets))
-    (ap (λ (w : ℕ). t .route .result .start + w) (c .before .width .ensures .is) ∙ ap (λ (x : Route). x .start + l .signal (x .signal) .width) (t .route .ensures .is))
+    (ap (λ (w : ℕ). t .route-in .result .start + w) (c .before .width-in .ensures .is) ∙ ap (λ (x : Route). x .start + l .signal (x .signal) .width) (t .route-in .ensures .is))
 
 pub is-short-spec : {M : Type 1} → statement M
 is-short-spec =

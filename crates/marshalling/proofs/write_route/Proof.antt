@@ -28,8 +28,8 @@ read-at-requires : tie.Need-read-at-requires
 read-at-requires c κs =
     let s = c .before .before .before .before in
     let k = kept s .route (s .args .r) (s .pre .1) in
-    let vehicle : c .route .result .vehicle ≡ under s .route (s .args .r) .vehicle = ap (λ (t : Route). t .vehicle) (c .route .ensures .is) in
-    let signal : c .route .result .signal ≡ under s .route (s .args .r) .signal = ap (λ (t : Route). t .signal) (c .route .ensures .is) in
+    let vehicle : c .route-in .result .vehicle ≡ under s .route (s .args .r) .vehicle = ap (λ (t : Route). t .vehicle) (c .route-in .ensures .is) in
+    let signal : c .route-in .result .signal ≡ under s .route (s .args .r) .signal = ap (λ (t : Route). t .signal) (c .route-in .ensures .is) in
     ((s .pre .0 .laid, omega (arith, k .exists)), (s .pre .0 .whole, omega (arith, k .first), omega (arith, k .last)))
 
 -- what route r reads, and the width of its field
@@ -40,16 +40,16 @@ unfolding routed
 reads c =
     let s = c .before .before .before .before .before in
     let at : Route → Reading = λ t. readingAt (under s) (now (s .args .store)) (s .args .clock) (t .vehicle) (t .signal) in
-    let read : asReading (c .read-at .result) ≡ at (routeOf (c .before .route .result)) = c .read-at .ensures in
-    read ∙ ap at (c .before .route .ensures .is)
+    let read : asReading (c .read-at .result) ≡ at (routeOf (c .before .route-in .result)) = c .read-at .ensures in
+    read ∙ ap at (c .before .route-in .ensures .is)
 
-wide : (c : tie.After-width) →
+wide : (c : tie.After-width-in) →
     let s = c .before .before .before .before .before .before .before in
     let l = under s in
-    c .width .result ≡ l .signal (l .route (s .args .r) .signal) .width
+    c .width-in .result ≡ l .signal (l .route (s .args .r) .signal) .width
 wide c =
     let t = c .before .before .before in
-    c .width .ensures .is ∙ ap (λ (x : Route). under (t .before .before .before .before) .signal (x .signal) .width) (t .route .ensures .is)
+    c .width-in .ensures .is ∙ ap (λ (x : Route). under (t .before .before .before .before) .signal (x .signal) .width) (t .route-in .ensures .is)
 
 write-field-requires : tie.Need-write-field-requires
 write-field-requires c κs =
@@ -57,11 +57,11 @@ write-field-requires c κs =
     let s = t .before .before .before .before in
     let r = s .args .r in
     let k = kept s .signal (under s .route r .signal) (kept s .route r (s .pre .1) .exists) in
-    let within : Within (now (s .args .bus)) (t .route .result .start) (c .width .result) =
+    let within : Within (now (s .args .bus)) (t .route-in .result .start) (c .width-in .result) =
     record {
       some = omega (arith, wide c, k .some);
       wide = omega (arith, wide c, k .wide);
-      inside = omega (arith, wide c, ap (λ (x : Route). x .start) (t .route .ensures .is), s .pre .0 .room r (s .pre .1));
+      inside = omega (arith, wide c, ap (λ (x : Route). x .start) (t .route-in .ensures .is), s .pre .0 .room r (s .pre .1));
     } in
     within
 
@@ -77,7 +77,7 @@ returns c =
       lives = c .live .ensures ∙ ap (λ (x : Reading). cond (leb (x .reason) 1) 1 0) (reads d);
       octets =
           f .write-field .ensures
-          ∙ ap₂ (λ (x : Route) (width : ℕ). put (now (s .args .bus)) (x .start) width (d .read-at .result .value)) (t .route .ensures .is) (wide w)
+          ∙ ap₂ (λ (x : Route) (width : ℕ). put (now (s .args .bus)) (x .start) width (d .read-at .result .value)) (t .route-in .ensures .is) (wide w)
           ∙ ap (λ (x : Reading). put (now (s .args .bus)) (under s .route (s .args .r) .start) (under s .signal (under s .route (s .args .r) .signal) .width) (x .value)) (reads d);
     }
 

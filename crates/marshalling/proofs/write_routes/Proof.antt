@@ -1,34 +1,36 @@
 -- `marshalling::write_routes` meets its contract: the routes passed are written and counted. Assumes nothing.
 use Prim.Native.Nat.{ℕ, _+_, _-_, _≤_}
-use mathlib.Core.Path.{_≡_, refl, ap, subst, _∙_}
+use mathlib.Core.Path.{_≡_, refl, ap, _∙_}
+use mathlib.Core.Bool.{true}
 use native.Mathlib.Omega.{arith}
-use lib.ListN.{length}
 use denote.Ref.{now}
 use borrow.Author.Needs.{needs}
+use Rattle.paper.specs.First.{count}
 use Rattle.paper.specs.SignalList.{listOf}
-use Rattle.paper.specs.Marshalling.{live}
+use Rattle.paper.specs.Marshalling.{routePut, marshalled, live}
 use Rattle.paper.proofs.FirstLaws.{count-le, count-more}
+use Rattle.paper.proofs.PutsLaws.{PutSoFar, none-put, one-put, all-put}
 use Rattle.lists.specs.Judged.{countsOf}
-use Rattle.marshalling.specs.Marshalling.{RoutesWritten}
-use Rattle.marshalling.proofs.Laws.{one-more, none-yet, octets-more}
+use Rattle.marshalling.proofs.Laws.{one-more}
 use Rattle.marshalling.proofs.write_routes.Statement.{statement}
 use Rattle.marshalling.proofs.write_routes.Tie as tie
 
 abbrev Inv-loop : tie.InvT-loop
 Inv-loop list n store clock bus₀ lives₀ r₀ bus lives r =
-    (r ≤ n .routes) × (length bus ≡ length bus₀) × (RoutesWritten (listOf list (countsOf n)) store clock bus₀ r lives bus)
+    (r ≤ n .routes) × (lives ≡ count (live (listOf list (countsOf n)) store clock) r) × (PutSoFar (routePut (listOf list (countsOf n)) store clock) bus₀ r bus)
 
 abbrev μ-loop : tie.MeasureT-loop
 μ-loop list n store clock bus₀ lives₀ r₀ bus lives r = n .routes - r
 
 loop-holds : tie.Need-loop-holds Inv-loop μ-loop
-loop-holds c = (search needs, refl, none-yet _ _ _ _)
+unfolding count
+loop-holds c = (search needs, refl, none-put _ _)
 
 write-route-requires : tie.Need-write-route-requires Inv-loop μ-loop
 write-route-requires c κs =
     let p = c .before .before .before in
     let s = p .before .before .before .before in
-    (record { laid = s .pre .laid; whole = s .pre .whole; room = λ r h. omega (arith, p .loop .inv .1, s .pre .room r h) }, search needs)
+    (record { laid = s .pre .laid; whole = s .pre .whole; room = λ r h. omega (arith, p .loop .inv .2 .long, s .pre .room r h) }, search needs)
 
 add-lives : tie.Need-add-lives Inv-loop μ-loop
 add-lives c =
@@ -36,7 +38,7 @@ add-lives c =
     let p = w .before .before .before .before in
     let a = p .before .before .before .before .args in
     let is-live = live (listOf (now (a .list)) (countsOf (a .n))) (now (a .store)) (a .clock) in
-    omega (arith, p .loop .inv .2 .lives, count-le is-live (p .loop .r), w .write-route .ensures .lives, one-more (is-live (p .loop .r)))
+    omega (arith, p .loop .inv .1, count-le is-live (p .loop .r), w .write-route .ensures .lives, one-more (is-live (p .loop .r)))
 
 loop-again : tie.Need-loop-again Inv-loop μ-loop
 loop-again c =
@@ -45,18 +47,17 @@ loop-again c =
     let a = p .before .before .before .before .args in
     let l = listOf (now (a .list)) (countsOf (a .n)) in (
       search needs,
-      search needs,
-      record {
-        lives = ap (λ (m : ℕ). p .loop .lives + m) (w .write-route .ensures .lives) ∙ count-more (live l (now (a .store)) (a .clock)) (p .loop .r) (p .loop .lives) (p .loop .inv .2 .lives);
-        octets = w .write-route .ensures .octets ∙ octets-more l (now (a .store)) (a .clock) (now (a .bus)) (p .loop .r) (p .loop .bus) (p .loop .inv .2 .octets);
-      },
+      ap (λ (m : ℕ). p .loop .lives + m) (w .write-route .ensures .lives) ∙ count-more (live l (now (a .store)) (a .clock)) (p .loop .r) (p .loop .lives) (p .loop .inv .1),
+      one-put _ _ (p .loop .r) (p .loop .bus) _ true _ _ _ (p .loop .inv .2) (w .write-route .ensures .octets) refl refl refl refl,
     )
 
 returns : tie.Need-returns Inv-loop μ-loop
+unfolding marshalled
 returns c =
     let p = c .before .before in
     let a = p .before .before .before .before .args in
-    subst (λ (r : ℕ). RoutesWritten (listOf (now (a .list)) (countsOf (a .n))) (now (a .store)) (a .clock) (now (a .bus)) r (p .loop .lives) (p .loop .bus)) (omega arith) (p .loop .inv .2)
+    let e : p .loop .r ≡ a .n .routes = omega arith in
+    record { lives = p .loop .inv .1 ∙ ap (count (live (listOf (now (a .list)) (countsOf (a .n))) (now (a .store)) (a .clock))) e; octets = all-put _ _ _ (p .loop .r) _ e (p .loop .inv .2) }
 
 pub write-routes-spec : {M : Type 1} → statement M
 write-routes-spec =
