@@ -2,9 +2,9 @@
 ghost use mathlib.Core.Path.{_≡_};
 ghost use Prim.Native.Nat.{_+_, _*_, _%_, _^_, _<_, _≤_, min};
 ghost use lib.ListN.{length, replicate};
-ghost use Rattle.paper.specs.Octets.{put, octetsOf, over};
+ghost use Rattle.paper.specs.Octets.{field, put, octetsOf, over};
 ghost use Rattle.paper.proofs.FieldLaws.{fieldOf, withField};
-ghost use Rattle.octets.specs.Fields.{Within, FieldRead, NumberRead};
+ghost use Rattle.octets.specs.Fields.{Within, FieldRead, NumberRead, merged};
 
 fn least(a: usize, b: usize) -> usize
     ensures { λ r. ⌜ r ≡ min a b ⌝ }
@@ -46,8 +46,8 @@ fn with_field(x: u8, b: usize, n: usize, v: u64) -> u8
     join(join(y >> (8 - b), n, low(v, n)), k, low(y, k)) as u8
 }
 
-// Inner: the field of `width` bits from bit `start`. A turn takes what one octet has of it; q and b never pass the field's end, as `start + i` might pass a usize.
-pub fn read_field(s: &[u8], start: usize, width: usize) -> u64
+// Fewer than eight octets: a turn takes what one octet has of the field; q and b never pass its end, as `start + i` might pass a usize.
+fn read_short(s: &[u8], start: usize, width: usize) -> u64
     requires { ⌜ Within (now s) start width ⌝ }
     ensures { λ r. ⌜ FieldRead (now (s .entry)) start width r ⌝ }
 {
@@ -65,8 +65,45 @@ pub fn read_field(s: &[u8], start: usize, width: usize) -> u64
     r
 }
 
-// Inner: v, of which the low `width` bits count, into the field.
-pub fn write_field(s: &mut [u8], start: usize, width: usize, v: u64)
+// The field that lies in the eight octets from q on, b bits in.
+fn read_window(s: &[u8], q: usize, b: usize, width: usize) -> u64
+    requires { ⌜ (q + 8 ≤ length (now s)) × (1 ≤ width) × (b + width ≤ 64) ⌝ }
+    ensures { λ r. ⌜ r ≡ field (now (s .entry)) (8 * q + b) width ⌝ }
+{
+    read64(s, q) << b >> (64 - width)
+}
+
+// The field that ends in the octet behind the eight.
+fn read_nine(s: &[u8], q: usize, b: usize, width: usize) -> u64
+    requires { ⌜ (q + 9 ≤ length (now s)) × (b < 8) × (64 < b + width) × (width ≤ 64) ⌝ }
+    ensures { λ r. ⌜ r ≡ field (now (s .entry)) (8 * q + b) width ⌝ }
+{
+    let left = b + width - 64;
+    join(
+        read_window(s, q, b, 64 - b),
+        left,
+        field_of(s[q + 8], 0, left),
+    )
+}
+
+// Inner: the field of `width` bits from bit `start`, out of eight octets at once: those from its first octet on, or the last eight.
+pub fn read_field(s: &[u8], start: usize, width: usize) -> u64
+    requires { ⌜ Within (now s) start width ⌝ }
+    ensures { λ r. ⌜ FieldRead (now (s .entry)) start width r ⌝ }
+{
+    if s.len() < 8 {
+        return read_short(s, start, width);
+    }
+    let q = least(start / 8, s.len() - 8);
+    let b = start - 8 * q;
+    if b + width <= 64 {
+        read_window(s, q, b, width)
+    } else {
+        read_nine(s, q, b, width)
+    }
+}
+
+fn write_short(s: &mut [u8], start: usize, width: usize, v: u64)
     requires { ⌜ Within (now s) start width ⌝ }
     ensures { λ _. ⌜ now (s .exit) ≡ put (now (s .entry)) start width v ⌝ }
 {
@@ -79,6 +116,50 @@ pub fn write_field(s: &mut [u8], start: usize, width: usize, v: u64)
         s[q] = with_field(s[q], b, n, v >> left);
         q += (b + n) / 8;
         b = (b + n) % 8;
+    }
+}
+
+// x with the low n bits of v in place of its n bits above the k lowest.
+fn merge(x: u64, k: usize, n: usize, v: u64) -> u64
+    requires { ⌜ (1 ≤ n) × (k + n ≤ 64) ⌝ }
+    ensures { λ r. ⌜ r ≡ merged x k n v ⌝ }
+{
+    let ones = 0xFFFF_FFFF_FFFF_FFFF >> (64 - n);
+    x - (x & ones << k) + ((v & ones) << k)
+}
+
+fn write_window(s: &mut [u8], q: usize, b: usize, width: usize, v: u64)
+    requires { ⌜ (q + 8 ≤ length (now s)) × (1 ≤ width) × (b + width ≤ 64) ⌝ }
+    ensures { λ _. ⌜ now (s .exit) ≡ put (now (s .entry)) (8 * q + b) width v ⌝ }
+{
+    let x = read64(s, q);
+    write64(s, q, merge(x, 64 - (b + width), width, v));
+}
+
+fn write_nine(s: &mut [u8], q: usize, b: usize, width: usize, v: u64)
+    requires { ⌜ (q + 9 ≤ length (now s)) × (b < 8) × (64 < b + width) × (width ≤ 64) ⌝ }
+    ensures { λ _. ⌜ now (s .exit) ≡ put (now (s .entry)) (8 * q + b) width v ⌝ }
+{
+    let left = b + width - 64;
+    write_window(s, q, b, 64 - b, v >> left);
+    s[q + 8] = with_field(s[q + 8], 0, left, v);
+}
+
+// Inner: v, of which the low `width` bits count, into the field, by the same eight octets.
+pub fn write_field(s: &mut [u8], start: usize, width: usize, v: u64)
+    requires { ⌜ Within (now s) start width ⌝ }
+    ensures { λ _. ⌜ now (s .exit) ≡ put (now (s .entry)) start width v ⌝ }
+{
+    if s.len() < 8 {
+        write_short(s, start, width, v);
+        return;
+    }
+    let q = least(start / 8, s.len() - 8);
+    let b = start - 8 * q;
+    if b + width <= 64 {
+        write_window(s, q, b, width, v);
+    } else {
+        write_nine(s, q, b, width, v);
     }
 }
 
@@ -110,6 +191,15 @@ pub fn read48(s: &[u8], at: usize) -> u64
     ensures { λ r. ⌜ NumberRead (now (s .entry)) at 6 r ⌝ }
 {
     read32(s, at) * 65536 + read16(s, at + 4) as u64
+}
+
+// Inner: of eight.
+pub fn read64(s: &[u8], at: usize) -> u64
+    requires { ⌜ at + 8 ≤ length (now s) ⌝ }
+    ensures { λ r. ⌜ NumberRead (now (s .entry)) at 8 r ⌝ }
+{
+    let high = read16(s, at) as u64 * 281474976710656 + read16(s, at + 2) as u64 * 4294967296;
+    high | read32(s, at + 4)
 }
 
 // Inner: the octets s in place of those of d from `at` on.
@@ -152,4 +242,13 @@ pub fn write32(d: &mut [u8], at: usize, v: u32)
 {
     write16(d, at, v / 65536);
     write16(d, at + 2, v);
+}
+
+// Inner: v into eight.
+pub fn write64(d: &mut [u8], at: usize, v: u64)
+    requires { ⌜ at + 8 ≤ length (now d) ⌝ }
+    ensures { λ _. ⌜ now (d .exit) ≡ over (now (d .entry)) at (octetsOf 8 v) ⌝ }
+{
+    write32(d, at, (v / 4294967296) as u32);
+    write32(d, at + 4, (v % 4294967296) as u32);
 }

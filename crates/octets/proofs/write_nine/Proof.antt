@@ -1,0 +1,32 @@
+use mathlib.Core.Path.{_≡_, ap, _∙_}
+use Prim.Native.Nat.{ℕ, _+_}
+use native.Mathlib.Omega.{arith}
+use lib.ListN.{set}
+use Rattle.octets.proofs.Laws.{put-nine}
+use borrow.Author.Needs.{needs}
+use Rattle.octets.proofs.write_nine.Statement.{statement}
+use Rattle.octets.proofs.write_nine.Tie as tie
+
+returns : tie.Need-returns
+returns c =
+    let a = c .before .before .before .before .before .before .before .args in
+    let m = c .before .before .before .before .write-window .last .0 in
+    ap (set m (a .q + 8)) (c .with-field .ensures)
+    ∙ put-nine _ (a .q) (a .b) (a .width) (omega arith) (omega arith) (omega arith) m (a .v) (c .before .before .before .before .write-window .ensures) (omega arith)
+
+pub write-nine-spec : {M : Type 1} → statement M
+write-nine-spec =
+    tie.close
+    (tie.spec
+    (λ c. search needs)
+    (λ c. search needs)
+    (λ c. search needs)
+    (λ c. search needs)
+    (λ c κs. search needs)
+    (λ c. search needs)
+    (λ c. search needs)
+    (λ c κs. search needs)
+    (λ c. search needs)
+    (λ c. search needs)
+    (λ c. search needs)
+    returns)
