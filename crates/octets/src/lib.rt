@@ -193,8 +193,8 @@ pub fn read48(s: &[u8], at: usize) -> u64
     read32(s, at) * 65536 + read16(s, at + 4) as u64
 }
 
-// Inner: of eight.
-pub fn read64(s: &[u8], at: usize) -> u64
+// Of eight; joined by `|`, of which LLVM makes one load.
+fn read64(s: &[u8], at: usize) -> u64
     requires { ⌜ at + 8 ≤ length (now s) ⌝ }
     ensures { λ r. ⌜ NumberRead (now (s .entry)) at 8 r ⌝ }
 {
@@ -244,8 +244,8 @@ pub fn write32(d: &mut [u8], at: usize, v: u32)
     write16(d, at + 2, v);
 }
 
-// Inner: v into eight.
-pub fn write64(d: &mut [u8], at: usize, v: u64)
+// v into eight.
+fn write64(d: &mut [u8], at: usize, v: u64)
     requires { ⌜ at + 8 ≤ length (now d) ⌝ }
     ensures { λ _. ⌜ now (d .exit) ≡ over (now (d .entry)) at (octetsOf 8 v) ⌝ }
 {
