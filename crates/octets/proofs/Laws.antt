@@ -3,14 +3,14 @@ use mathlib.Core.Path.{_≡_, refl, sym, ap, ap₂, _∙_}
 use mathlib.Core.Logic.{_⊎_, inl, inr}
 use mathlib.Core.List.{List}
 use Prim.Native.Nat.{ℕ, _+_, _-_, _*_, _/_, _%_, _^_, _≤_, _<_}
-use native.Mathlib.Nat.{add-zero, add-assoc, mod-lt, mod-eq-of-lt}
+use native.Mathlib.Nat.{add-zero, add-assoc, lt-of-lt-of-le, mod-lt, mod-eq-of-lt}
 use native.Mathlib.Omega.{arith}
 use native.Mathlib.Decide.{decLt}
 use lib.ListN.{length, getD, set, take}
 use lib.Seq.{take-length}
 use lib.Arith.{digits-lt}
 use lib.Bits.{bitAnd, and-mask, and-high}
-use lib.Pow.{pow-pos, pow-add, high, low, split, shr-shr, shr-lt, shl-shr, shl-exact, ones-lt, ones-split, high-ones}
+use lib.Pow.{pow-pos, pow-add, pow-mono, high, low, split, shr-shr, shr-lt, shl-shr, shl-exact, ones-lt, ones-split, high-ones}
 use lib.Pow as pow
 use Rattle.paper.specs.Octets.{bit, field, put, number, octetsOf, over, Octets}
 use Rattle.octets.specs.Fields.{FieldRead, merged}
@@ -177,29 +177,27 @@ module _ (l : List ℕ) (q b w k v : ℕ) (all : b + w + k ≡ 64) (o : Octets l
   pub put-window : over l q (octetsOf 8 (merged (number l q 8) k w v)) ≡ put l (8 * q + b) w v
   put-window = put-unique l after (8 * q + b) w v (omega arith) (length-over l q octets room) o octets-after outside field-after
 
--- ---- and in the octet behind them
+-- ---- a field whose last n bits stand first in octet e
 
-module _ (l : List ℕ) (q b w : ℕ) (some : b < 8) (long : 64 < b + w) (wide : w ≤ 64) where
-  two : 64 - b + (b + w - 64) ≡ w
-  two = omega arith
+module _ (l : List ℕ) (s d n w e : ℕ) (both : d + n ≡ w) (at : 8 * e + 0 ≡ s + d) (h : n ≤ 8) where
+  pub field-last : (x y : ℕ) → x ≡ field l s d → y ≡ fieldOf (getD l e 0) 0 n → x * 2 ^ n + y ≡ field l s w
+  field-last x y f g =
+      ap₂ (λ (i j : ℕ). i * 2 ^ n + j) f (g ∙ sym (field-octet l e 0 n (omega arith)) ∙ ap (λ (a : ℕ). field l a n) at)
+      ∙ sym (field-split l s d n)
+      ∙ ap (field l s) both
 
-  next : 8 * (q + 8) + 0 ≡ 8 * q + b + (64 - b)
-  next = omega arith
+  -- what `join` asks
+  pub joins : w ≤ 64 → (x y : ℕ) → x ≡ field l s d → y ≡ fieldOf (getD l e 0) 0 n → (n < 64) × (y < 2 ^ n) × (x * 2 ^ n + y < 2 ^ 64)
+  unfolding fieldOf
+  joins wide x y f g =
+      (omega arith, rw g (mod-lt _ (pow-pos n)), rw (field-last x y f g) (lt-of-lt-of-le (field-lt l s w) (pow-mono {i = w} {j = 64} wide)))
 
-  pub field-nine : field l (8 * q + b) (64 - b) * 2 ^ (b + w - 64) + fieldOf (getD l (q + 8) 0) 0 (b + w - 64) ≡ field l (8 * q + b) w
-  field-nine =
-      ap (λ (y : ℕ). field l (8 * q + b) (64 - b) * 2 ^ (b + w - 64) + y)
-      (sym (field-octet l (q + 8) 0 (b + w - 64) (omega arith)) ∙ ap (λ (a : ℕ). field l a (b + w - 64)) next)
-      ∙ sym (field-split l (8 * q + b) (64 - b) (b + w - 64))
-      ∙ ap (field l (8 * q + b)) two
-
-  pub put-nine : (m : List ℕ) (v : ℕ) → m ≡ put l (8 * q + b) (64 - b) (v / 2 ^ (b + w - 64)) → q + 8 < length m
-      → set m (q + 8) (withField (getD m (q + 8) 0) 0 (b + w - 64) v) ≡ put l (8 * q + b) w v
-  put-nine m v e lt =
-      sym (put-octet m (q + 8) 0 (b + w - 64) v (omega arith) lt)
-      ∙ ap₂ (λ (x : List ℕ) (a : ℕ). put x a (b + w - 64) v) e next
-      ∙ sym (put-split l (8 * q + b) (64 - b) (b + w - 64) v)
-      ∙ ap (λ (x : ℕ). put l (8 * q + b) x v) two
+  pub put-last : (m : List ℕ) (v : ℕ) → m ≡ put l s d (v / 2 ^ n) → e < length m → set m e (withField (getD m e 0) 0 n v) ≡ put l s w v
+  put-last m v f lt =
+      sym (put-octet m e 0 n v (omega arith) lt)
+      ∙ ap₂ (λ (x : List ℕ) (a : ℕ). put x a n v) f at
+      ∙ sym (put-split l s d n v)
+      ∙ ap (λ (x : ℕ). put l s x v) both
 
 -- the octets of a number say nothing of what stands above them
 pub octetsOf-mod : (n v : ℕ) → octetsOf n (v % 256 ^ n) ≡ octetsOf n v
@@ -209,10 +207,12 @@ octetsOf-mod n v =
     ∙ ap (λ (j : ℕ). take j (octetsOf n v)) (sym (length-octetsOf n v))
     ∙ take-length (octetsOf n v)
 
+pub field-is : {l : List ℕ} {s w r : ℕ} → r ≡ field l s w → FieldRead l s w r
+field-is {l} {s} {w} e = record { value = e; small = rw e (field-lt l s w) }
+
+-- where a field starts, by its octet and its bit
 pub field-at : (l : List ℕ) (s q b w r : ℕ) → 8 * q + b ≡ s → r ≡ field l (8 * q + b) w → FieldRead l s w r
-field-at l s q b w r e f =
-    let g : r ≡ field l s w = f ∙ ap (λ (a : ℕ). field l a w) e in
-    record { value = g; small = rw g (field-lt l s w) }
+field-at l s q b w r e f = field-is (f ∙ ap (λ (a : ℕ). field l a w) e)
 
 pub put-at : {m : List ℕ} (l : List ℕ) (s q b w v : ℕ) → 8 * q + b ≡ s → m ≡ put l (8 * q + b) w v → m ≡ put l s w v
 put-at l s q b w v e f = f ∙ ap (λ (a : ℕ). put l a w v) e

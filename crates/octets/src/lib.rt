@@ -46,25 +46,6 @@ fn with_field(x: u8, b: usize, n: usize, v: u64) -> u8
     join(join(y >> (8 - b), n, low(v, n)), k, low(y, k)) as u8
 }
 
-// Fewer than eight octets: a turn takes what one octet has of the field; q and b never pass its end, as `start + i` might pass a usize.
-fn read_short(s: &[u8], start: usize, width: usize) -> u64
-    requires { ⌜ Within (now s) start width ⌝ }
-    ensures { λ r. ⌜ FieldRead (now (s .entry)) start width r ⌝ }
-{
-    let mut q = start / 8;
-    let mut b = start % 8;
-    let mut left = width;
-    let mut r: u64 = 0;
-    while 0 < left {
-        let n = least(left, 8 - b);
-        r = join(r, n, field_of(s[q], b, n));
-        left -= n;
-        q += (b + n) / 8;
-        b = (b + n) % 8;
-    }
-    r
-}
-
 // The field that lies in the eight octets from q on, b bits in.
 fn read_window(s: &[u8], q: usize, b: usize, width: usize) -> u64
     requires { ⌜ (q + 8 ≤ length (now s)) × (1 ≤ width) × (b + width ≤ 64) ⌝ }
@@ -86,37 +67,38 @@ fn read_nine(s: &[u8], q: usize, b: usize, width: usize) -> u64
     )
 }
 
+// By octets, from the last: a field of one octet, of nine, or of few octets that are not eight.
+fn read_rest(s: &[u8], start: usize, width: usize) -> u64
+    requires { ⌜ Within (now s) start width ⌝ }
+    ensures { λ r. ⌜ FieldRead (now (s .entry)) start width r ⌝ }
+{
+    let q = start / 8;
+    let b = start % 8;
+    if 64 < b + width {
+        return read_nine(s, q, b, width);
+    }
+    let end = b + width - 1;
+    if end < 8 {
+        return field_of(s[q], b, width);
+    }
+    let n = end % 8 + 1;
+    let last = field_of(s[q + end / 8], 0, n);
+    join(read_rest(s, start, width - n), n, last)
+}
+
 // Inner: the field of `width` bits from bit `start`, out of eight octets at once: those from its first octet on, or the last eight.
 pub fn read_field(s: &[u8], start: usize, width: usize) -> u64
     requires { ⌜ Within (now s) start width ⌝ }
     ensures { λ r. ⌜ FieldRead (now (s .entry)) start width r ⌝ }
 {
-    if s.len() < 8 {
-        return read_short(s, start, width);
+    if 8 <= s.len() {
+        let q = least(start / 8, s.len() - 8);
+        let b = start - 8 * q;
+        if b + width <= 64 {
+            return read_window(s, q, b, width);
+        }
     }
-    let q = least(start / 8, s.len() - 8);
-    let b = start - 8 * q;
-    if b + width <= 64 {
-        read_window(s, q, b, width)
-    } else {
-        read_nine(s, q, b, width)
-    }
-}
-
-fn write_short(s: &mut [u8], start: usize, width: usize, v: u64)
-    requires { ⌜ Within (now s) start width ⌝ }
-    ensures { λ _. ⌜ now (s .exit) ≡ put (now (s .entry)) start width v ⌝ }
-{
-    let mut q = start / 8;
-    let mut b = start % 8;
-    let mut left = width;
-    while 0 < left {
-        let n = least(left, 8 - b);
-        left -= n;
-        s[q] = with_field(s[q], b, n, v >> left);
-        q += (b + n) / 8;
-        b = (b + n) % 8;
-    }
+    read_rest(s, start, width)
 }
 
 // x with the low n bits of v in place of its n bits above the k lowest.
@@ -145,22 +127,40 @@ fn write_nine(s: &mut [u8], q: usize, b: usize, width: usize, v: u64)
     s[q + 8] = with_field(s[q + 8], 0, left, v);
 }
 
+fn write_rest(s: &mut [u8], start: usize, width: usize, v: u64)
+    requires { ⌜ Within (now s) start width ⌝ }
+    ensures { λ _. ⌜ now (s .exit) ≡ put (now (s .entry)) start width v ⌝ }
+{
+    let q = start / 8;
+    let b = start % 8;
+    if 64 < b + width {
+        write_nine(s, q, b, width, v);
+        return;
+    }
+    let end = b + width - 1;
+    if end < 8 {
+        s[q] = with_field(s[q], b, width, v);
+        return;
+    }
+    let n = end % 8 + 1;
+    write_rest(s, start, width - n, v >> n);
+    s[q + end / 8] = with_field(s[q + end / 8], 0, n, v);
+}
+
 // Inner: v, of which the low `width` bits count, into the field, by the same eight octets.
 pub fn write_field(s: &mut [u8], start: usize, width: usize, v: u64)
     requires { ⌜ Within (now s) start width ⌝ }
     ensures { λ _. ⌜ now (s .exit) ≡ put (now (s .entry)) start width v ⌝ }
 {
-    if s.len() < 8 {
-        write_short(s, start, width, v);
-        return;
+    if 8 <= s.len() {
+        let q = least(start / 8, s.len() - 8);
+        let b = start - 8 * q;
+        if b + width <= 64 {
+            write_window(s, q, b, width, v);
+            return;
+        }
     }
-    let q = least(start / 8, s.len() - 8);
-    let b = start - 8 * q;
-    if b + width <= 64 {
-        write_window(s, q, b, width, v);
-    } else {
-        write_nine(s, q, b, width, v);
-    }
+    write_rest(s, start, width, v);
 }
 
 pub fn wide(x: u8) -> usize

@@ -4,24 +4,19 @@ use borrow.Author.Needs.{needs}
 use Rattle.octets.proofs.read_field.Statement.{statement}
 use Rattle.octets.proofs.read_field.Tie as tie
 
-returns-2 : tie.Need-returns-2
-returns-2 c = field-at _ _ _ _ _ _ (omega arith) (c .read-window .ensures)
-
-returns-3 : tie.Need-returns-3
-returns-3 c = field-at _ _ _ _ _ _ (omega arith) (c .read-nine .ensures)
+returns : tie.Need-returns
+returns c = field-at _ _ _ _ _ _ (omega arith) (c .read-window .ensures)
 
 pub read-field-spec : {M : Type 1} → statement M
 read-field-spec =
     tie.close
     (tie.spec
-    (λ c κs. search needs)
-    (λ c. search needs)
     (λ c. search needs)
     (λ c κs. search needs)
     (λ c. search needs)
     (λ c. search needs)
     (λ c. search needs)
     (λ c κs. search needs)
+    returns
     (λ c κs. search needs)
-    returns-2
-    returns-3)
+    (λ c. search needs))

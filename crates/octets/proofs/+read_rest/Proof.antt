@@ -1,0 +1,116 @@
+use mathlib.Core.Path.{sym, _∙_}
+use native.Mathlib.Omega.{arith}
+use denote.Ref.{now}
+use Rattle.paper.proofs.FieldLaws.{field-octet}
+use Rattle.octets.proofs.Laws.{field-at, field-is, field-last, joins}
+use borrow.Author.Needs.{needs}
+use Prim.Native.Nat.{ℕ, _+_, _-_, _/_, _%_, _<_}
+use borrow.Fn.Kinds.{In}
+use borrow.Fn.PlainCycle.{Measures, is, falls, and}
+use Rattle.octets.proofs.read_rest.Reads as read-rest
+use Rattle.octets.proofs.read_rest.Kinds as read-rest-kinds
+use Rattle.octets.proofs.+read_rest.Lts-read_rest as read-rest-lts
+use Rattle.octets.proofs.field_of.Reads as field-of-reads
+use Rattle.octets.proofs.join.Reads as join-reads
+use Rattle.octets.proofs.read_nine.Reads as read-nine-reads
+use Rattle.octets.proofs.+read_rest.{statement}
+use Rattle.octets.proofs.+read_rest.Tie.{close}
+
+abbrev μ-read-rest : Measures 1 read-rest-kinds.ps ℕ
+μ-read-rest κs a = a .1 .1 .0
+
+abbrev read-rest-at : ℕ → In 1 read-rest-kinds.ps
+read-rest-at t = and 1 read-rest-kinds.ps (is 1 read-rest-kinds.ps μ-read-rest t) read-rest.Pre
+
+abbrev read-rest-below : ℕ → In 1 read-rest-kinds.ps
+read-rest-below t =
+    and 1 read-rest-kinds.ps (falls 1 read-rest-kinds.ps _<_ μ-read-rest t) read-rest.Pre
+
+read-rest-returns : (t : ℕ) → read-rest-lts.Need-returns (
+  read-nine-reads.Asked,
+  read-nine-reads.Learnt,
+  field-of-reads.Asked,
+  field-of-reads.Learnt,
+  read-rest-below t,
+  read-rest.Post,
+  join-reads.Asked,
+  join-reads.Learnt,
+) (read-rest-at t) read-rest.Post
+read-rest-returns t c = field-at _ _ _ _ _ _ (omega arith) (c .read-nine .ensures)
+
+read-rest-returns-2 : (t : ℕ) → read-rest-lts.Need-returns-2 (
+  read-nine-reads.Asked,
+  read-nine-reads.Learnt,
+  field-of-reads.Asked,
+  field-of-reads.Learnt,
+  read-rest-below t,
+  read-rest.Post,
+  join-reads.Asked,
+  join-reads.Learnt,
+) (read-rest-at t) read-rest.Post
+read-rest-returns-2 t c =
+    let a = c .before .before .before .before .before .args in
+    field-at _ _ _ _ _ _ (omega arith) (c .field-of .ensures ∙ sym (field-octet (now (a .s)) (a .start / 8) (a .start % 8) (a .width) (omega arith)))
+
+read-rest-join-requires : (t : ℕ) → read-rest-lts.Need-join-requires (
+  read-nine-reads.Asked,
+  read-nine-reads.Learnt,
+  field-of-reads.Asked,
+  field-of-reads.Learnt,
+  read-rest-below t,
+  read-rest.Post,
+  join-reads.Asked,
+  join-reads.Learnt,
+) (read-rest-at t) read-rest.Post
+read-rest-join-requires t c κs =
+    let a = c .before .before .before .before .before .before .args in
+    let f = a .start % 8 + a .width - 1 in
+    joins (now (a .s)) (a .start) (a .width - (f % 8 + 1)) (f % 8 + 1) (a .width) (a .start / 8 + f / 8) (omega arith) (omega arith) (omega arith)
+    (omega arith) _ _ (c .read-rest .ensures .value) (c .before .field-of2 .ensures)
+
+read-rest-returns-3 : (t : ℕ) → read-rest-lts.Need-returns-3 (
+  read-nine-reads.Asked,
+  read-nine-reads.Learnt,
+  field-of-reads.Asked,
+  field-of-reads.Learnt,
+  read-rest-below t,
+  read-rest.Post,
+  join-reads.Asked,
+  join-reads.Learnt,
+) (read-rest-at t) read-rest.Post
+read-rest-returns-3 t c =
+    let a = c .before .before .before .before .before .before .before .args in
+    let f = a .start % 8 + a .width - 1 in
+    field-is (c .join .ensures
+    ∙ field-last (now (a .s)) (a .start) (a .width - (f % 8 + 1)) (f % 8 + 1) (a .width) (a .start / 8 + f / 8) (omega arith) (omega arith) (omega arith)
+    _ _ (c .before .read-rest .ensures .value) (c .before .before .field-of2 .ensures))
+
+pub +read-rest-spec : {M : Type 1} → statement M
++read-rest-spec = close μ-read-rest λ t. read-rest-lts.spec (
+  read-nine-reads.Asked,
+  read-nine-reads.Learnt,
+  field-of-reads.Asked,
+  field-of-reads.Learnt,
+  read-rest-below t,
+  read-rest.Post,
+  join-reads.Asked,
+  join-reads.Learnt,
+)
+    (read-rest-at t)
+    read-rest.Post
+    (λ c. search needs)
+    (λ c κs. search needs)
+    (read-rest-returns t)
+    (λ c. search needs)
+    (λ c. search needs)
+    (λ c. search needs)
+    (λ c κs. search needs)
+    (read-rest-returns-2 t)
+    (λ c. search needs)
+    (λ c. search needs)
+    (λ c. search needs)
+    (λ c κs. search needs)
+    (λ c. search needs)
+    (λ c κs. search needs)
+    (read-rest-join-requires t)
+    (read-rest-returns-3 t)

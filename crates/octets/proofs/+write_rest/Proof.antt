@@ -1,0 +1,102 @@
+use mathlib.Core.Path.{sym, ap, _∙_}
+use native.Mathlib.Omega.{arith}
+use lib.ListN.{set}
+use denote.Ref.{now}
+use Rattle.paper.proofs.FieldLaws.{put-octet}
+use Rattle.octets.proofs.Laws.{put-at, put-last}
+use borrow.Author.Needs.{needs}
+use Prim.Native.Nat.{ℕ, _+_, _-_, _/_, _%_, _<_}
+use borrow.Fn.Kinds.{In}
+use borrow.Fn.PlainCycle.{Measures, is, falls, and}
+use Rattle.octets.proofs.write_rest.Reads as write-rest
+use Rattle.octets.proofs.write_rest.Kinds as write-rest-kinds
+use Rattle.octets.proofs.+write_rest.Lts-write_rest as write-rest-lts
+use Rattle.octets.proofs.with_field.Reads as with-field-reads
+use Rattle.octets.proofs.write_nine.Reads as write-nine-reads
+use Rattle.octets.proofs.+write_rest.{statement}
+use Rattle.octets.proofs.+write_rest.Tie.{close}
+
+abbrev μ-write-rest : Measures 1 write-rest-kinds.ps ℕ
+μ-write-rest κs a = a .1 .1 .0
+
+abbrev write-rest-at : ℕ → In 1 write-rest-kinds.ps
+write-rest-at t =
+    and 1 write-rest-kinds.ps (is 1 write-rest-kinds.ps μ-write-rest t) write-rest.Pre
+
+abbrev write-rest-below : ℕ → In 1 write-rest-kinds.ps
+write-rest-below t =
+    and 1 write-rest-kinds.ps (falls 1 write-rest-kinds.ps _<_ μ-write-rest t) write-rest.Pre
+
+write-rest-returns : (t : ℕ) → write-rest-lts.Need-returns (
+  write-nine-reads.Asked,
+  write-nine-reads.Learnt,
+  with-field-reads.Asked,
+  with-field-reads.Learnt,
+  write-rest-below t,
+  write-rest.Post,
+) (write-rest-at t) write-rest.Post
+write-rest-returns t c = put-at _ _ _ _ _ _ (omega arith) (c .before .before .write-nine .ensures)
+
+write-rest-returns-2 : (t : ℕ) → write-rest-lts.Need-returns-2 (
+  write-nine-reads.Asked,
+  write-nine-reads.Learnt,
+  with-field-reads.Asked,
+  with-field-reads.Learnt,
+  write-rest-below t,
+  write-rest.Post,
+) (write-rest-at t) write-rest.Post
+write-rest-returns-2 t c =
+    let a = c .before .before .before .before .before .args in
+    let q = a .start / 8 in
+    put-at _ _ q (a .start % 8) _ _ (omega arith) (ap (set (now (a .s)) q) (c .with-field .ensures) ∙ sym (put-octet (now (a .s)) q (a .start % 8) (a .width) (a .v) (omega arith) (omega arith)))
+
+write-rest-returns-3 : (t : ℕ) → write-rest-lts.Need-returns-3 (
+  write-nine-reads.Asked,
+  write-nine-reads.Learnt,
+  with-field-reads.Asked,
+  with-field-reads.Learnt,
+  write-rest-below t,
+  write-rest.Post,
+) (write-rest-at t) write-rest.Post
+write-rest-returns-3 t c =
+    let p = c .before .before .before .before in
+    let a = p .before .before .before .before .before .args in
+    let m = p .write-rest .last .0 in
+    let f = a .start % 8 + a .width - 1 in
+    ap (set m (a .start / 8 + f / 8)) (c .with-field2 .ensures)
+    ∙ put-last (now (a .s)) (a .start) (a .width - (f % 8 + 1)) (f % 8 + 1) (a .width) (a .start / 8 + f / 8) (omega arith) (omega arith) (omega arith)
+    m (a .v) (p .write-rest .ensures) (omega arith)
+
+pub +write-rest-spec : {M : Type 1} → statement M
++write-rest-spec = close μ-write-rest λ t. write-rest-lts.spec (
+  write-nine-reads.Asked,
+  write-nine-reads.Learnt,
+  with-field-reads.Asked,
+  with-field-reads.Learnt,
+  write-rest-below t,
+  write-rest.Post,
+)
+    (write-rest-at t)
+    write-rest.Post
+    (λ c. search needs)
+    (λ c κs. search needs)
+    (λ c. search needs)
+    (write-rest-returns t)
+    (λ c. search needs)
+    (λ c. search needs)
+    (λ c. search needs)
+    (λ c κs. search needs)
+    (λ c. search needs)
+    (λ c. search needs)
+    (write-rest-returns-2 t)
+    (λ c. search needs)
+    (λ c. search needs)
+    (λ c. search needs)
+    (λ c κs. search needs)
+    (λ c. search needs)
+    (λ c. search needs)
+    (λ c κs. search needs)
+    (λ c. search needs)
+    (λ c. search needs)
+    (λ c. search needs)
+    (write-rest-returns-3 t)
