@@ -1,5 +1,5 @@
 -- Eight octets as one number, by which a field in them is read and written. Assumes nothing.
-use mathlib.Core.Path.{_≡_, refl, sym, ap, ap₂, _∙_}
+use mathlib.Core.Path.{_≡_, sym, ap, ap₂, _∙_}
 use mathlib.Core.Logic.{_⊎_, inl, inr}
 use mathlib.Core.List.{List}
 use Prim.Native.Nat.{ℕ, _+_, _-_, _*_, _/_, _%_, _^_, _≤_, _<_}
@@ -178,6 +178,15 @@ module _ (l : List ℕ) (q b w k v : ℕ) (all : b + w + k ≡ 64) (o : Octets l
   put-window = put-unique l after (8 * q + b) w v (omega arith) (length-over l q octets room) o octets-after outside field-after
 
 -- ---- a field whose last n bits stand first in octet e
+
+-- the first n bits of an octet need no mask
+pub first-bits : (x n : ℕ) → n ≤ 8 → x < 256 → x / 2 ^ (8 - n) ≡ fieldOf x 0 n
+unfolding fieldOf
+first-bits x n h lt =
+    let i : n + (8 - n) ≡ 8 = omega arith in
+    let e : 8 - n ≡ 8 - (0 + n) = omega arith in
+    let g : x < 2 ^ (n + (8 - n)) = rw i lt in
+    sym (mod-eq-of-lt {m = 2 ^ n} (shr-lt n (8 - n) g)) ∙ ap (λ (k : ℕ). x / 2 ^ k % 2 ^ n) e
 
 module _ (l : List ℕ) (s d n w e : ℕ) (both : d + n ≡ w) (at : 8 * e + 0 ≡ s + d) (h : n ≤ 8) where
   pub field-last : (x y : ℕ) → x ≡ field l s d → y ≡ fieldOf (getD l e 0) 0 n → x * 2 ^ n + y ≡ field l s w

@@ -54,7 +54,7 @@ fn read_window(s: &[u8], q: usize, b: usize, width: usize) -> u64
     read64(s, q) << b >> (64 - width)
 }
 
-// The field that ends in the octet behind the eight.
+// The field that begins in octet q and ends in the octet behind the eight.
 fn read_nine(s: &[u8], q: usize, b: usize, width: usize) -> u64
     requires { ⌜ (q + 9 ≤ length (now s)) × (b < 8) × (64 < b + width) × (width ≤ 64) ⌝ }
     ensures { λ r. ⌜ r ≡ field (now (s .entry)) (8 * q + b) width ⌝ }
@@ -63,11 +63,12 @@ fn read_nine(s: &[u8], q: usize, b: usize, width: usize) -> u64
     join(
         read_window(s, q, b, 64 - b),
         left,
-        field_of(s[q + 8], 0, left),
+        wide(s[q + 8]) as u64 >> (8 - left),
     )
 }
 
-// By octets, from the last: a field of one octet, of nine, or of few octets that are not eight.
+// What no eight octets hold: a field over nine, or one of fewer octets, by the octet, from its last.
+// LLVM inlines no function that calls itself, and so inlines `read_field`; `&s[..]` leaves the caller's s in registers.
 fn read_rest(s: &[u8], start: usize, width: usize) -> u64
     requires { ⌜ Within (now s) start width ⌝ }
     ensures { λ r. ⌜ FieldRead (now (s .entry)) start width r ⌝ }
@@ -83,10 +84,11 @@ fn read_rest(s: &[u8], start: usize, width: usize) -> u64
     }
     let n = end % 8 + 1;
     let last = field_of(s[q + end / 8], 0, n);
-    join(read_rest(s, start, width - n), n, last)
+    join(read_rest(&s[..], start, width - n), n, last)
 }
 
-// Inner: the field of `width` bits from bit `start`, out of eight octets at once: those from its first octet on, or the last eight.
+// Inner: the field of `width` bits from bit `start`. Eight octets are read at once: those from its first on, or the last eight. Nothing is added to
+// `start`, as the sum might pass a usize.
 pub fn read_field(s: &[u8], start: usize, width: usize) -> u64
     requires { ⌜ Within (now s) start width ⌝ }
     ensures { λ r. ⌜ FieldRead (now (s .entry)) start width r ⌝ }
@@ -98,7 +100,7 @@ pub fn read_field(s: &[u8], start: usize, width: usize) -> u64
             return read_window(s, q, b, width);
         }
     }
-    read_rest(s, start, width)
+    read_rest(&s[..], start, width)
 }
 
 // x with the low n bits of v in place of its n bits above the k lowest.
@@ -143,11 +145,11 @@ fn write_rest(s: &mut [u8], start: usize, width: usize, v: u64)
         return;
     }
     let n = end % 8 + 1;
-    write_rest(s, start, width - n, v >> n);
+    write_rest(&mut s[..], start, width - n, v >> n);
     s[q + end / 8] = with_field(s[q + end / 8], 0, n, v);
 }
 
-// Inner: v, of which the low `width` bits count, into the field, by the same eight octets.
+// Inner: v, of which the low `width` bits count, into the field, in the same way.
 pub fn write_field(s: &mut [u8], start: usize, width: usize, v: u64)
     requires { ⌜ Within (now s) start width ⌝ }
     ensures { λ _. ⌜ now (s .exit) ≡ put (now (s .entry)) start width v ⌝ }
@@ -160,7 +162,7 @@ pub fn write_field(s: &mut [u8], start: usize, width: usize, v: u64)
             return;
         }
     }
-    write_rest(s, start, width, v);
+    write_rest(&mut s[..], start, width, v);
 }
 
 pub fn wide(x: u8) -> usize
