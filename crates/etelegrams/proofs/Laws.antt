@@ -1,10 +1,10 @@
 -- Codes of requests and reports, and what reading an answer back gives. Assumes nothing.
 use mathlib.Core.Path.{_≡_, refl, sym, ap, ap₂, _∙_}
-use mathlib.Core.Bool.{Bool, true, false, not, _||_, or-true}
+use mathlib.Core.Bool.{Bool, true, false, not, _||_, or-true, or-false}
 use mathlib.Core.List.{List, [], _∷_, _++_, append-assoc}
-use Prim.Native.Nat.{ℕ, _+_, _*_, _^_, _%_, _≤_, _<_}
+use Prim.Native.Nat.{ℕ, zero, suc, _+_, _*_, _^_, _%_, _≤_, _<_}
 use native.Mathlib.Omega.{arith}
-use native.Mathlib.Nat.{mod-eq-of-lt}
+use native.Mathlib.Nat.{mod-eq-of-lt, lt-irrefl}
 use native.Mathlib.Decide.{ℕ-discrete}
 use lib.Dec.{eqb, ltb}
 use native.Mathlib.Numerals.{add-one}
@@ -13,17 +13,56 @@ use lib.Seq.{set-split, getD-append-add}
 use borrow.Author.Tests.{eq-eqb, ne-eqb, eqb-true, ltb-true, ltb-false, not-true, not-false}
 use Rattle.paper.specs.Answer.{Answer, gives, refused, refuseIf, andThen}
 use Rattle.paper.specs.Octets.{octet, number, octetsOf, over}
-use Rattle.paper.specs.First.{all, firstBad, firstFrom}
-use Rattle.paper.specs.ETelegrams.{requests, reportTo, isRequest, isReport, eCode, EReading, eReading, answerTo, answering}
+use Rattle.paper.specs.First.{all, some, firstBad, firstFrom}
+use Rattle.paper.specs.ETelegrams.{requests, reportTo, isRequest, isReport, eCode, eLimit, EReading, eReading, answerTo, answering}
 use Rattle.paper.proofs.AnswerLaws.{not-refused, and-then, gives-one, one-answer}
 use Rattle.paper.proofs.NumberLaws.{number-two, number-back, number-octetsOf-front, length-octetsOf, part-over, length-over, over-over}
 use Rattle.refusals.proofs.Laws.{numbered, numbered-of}
 use Rattle.etelegrams.specs.declared.ERead.{ERead}
 use Rattle.etelegrams.specs.declared.ERead.the-variants as E
 use Rattle.etelegrams.specs.Answers.{eReadAnswer}
-use Rattle.paper.proofs.FirstLaws.{all-at, some-false, some-at}
+use Rattle.paper.proofs.FirstLaws.{all-at, some-true, some-false, some-none, some-at}
 
 -- ---- the codes
+
+-- whether a number is in a table: the first test, then the rest of it
+some-first : (ok : ℕ → Bool) (n : ℕ) → some ok (suc n) ≡ (ok 0 || some (λ i. ok (suc i)) n)
+some-first ok n = by (ok 0) refl (some (λ i. ok (suc i)) n) refl
+  where
+    none : (ok 0 ≡ false) → some (λ i. ok (suc i)) n ≡ false → (k : ℕ) → k < suc n → ok k ≡ false
+    none f g zero h = f
+    none f g (suc k) h = some-none (λ i. ok (suc i)) n g k (omega arith)
+
+    by : (a : Bool) → ok 0 ≡ a → (b : Bool) → some (λ i. ok (suc i)) n ≡ b → some ok (suc n) ≡ (a || b)
+    by true f b g = some-true ok (suc n) 0 (omega arith) f
+    by false f true g = let w = some-at (λ i. ok (suc i)) n g in some-true ok (suc n) (suc (w .0)) (omega (arith, w .1 .0)) (w .1 .1)
+    by false f false g = some-false ok (suc n) (none f g)
+
+-- the comparisons with the numbers of a table, in a chain from the left
+abbrev pub chain : Bool → List ℕ → ℕ → Bool
+chain b [] c = b
+chain b (x ∷ l) c = chain (b || eqb c x) l c
+
+swap : (a b : ℕ) → eqb a b ≡ eqb b a
+swap a b = elim (ℕ-discrete a b) [
+  | yes e ↦ eq-eqb a b e ∙ sym (eq-eqb b a (sym e))
+  | no n ↦ ne-eqb a b n ∙ sym (ne-eqb b a (λ e. n (sym e)))
+]
+
+either-of-three : (a b c : Bool) → ((a || b) || c) ≡ (a || (b || c))
+either-of-three true b c = refl
+either-of-three false b c = refl
+
+chain-some : (b : Bool) (l : List ℕ) (c : ℕ) → chain b l c ≡ (b || some (λ i. eqb (getD l i 0) c) (length l))
+chain-some b [] c = sym (ap (λ (y : Bool). b || y) (some-false (λ i. eqb (getD [] i 0) c) 0 (λ k h. absurd (lt-irrefl k (omega arith)))) ∙ or-false b)
+chain-some b (x ∷ l) c =
+    chain-some (b || eqb c x) l c
+    ∙ either-of-three b (eqb c x) (some (λ i. eqb (getD l i 0) c) (length l))
+    ∙ ap (λ (y : Bool). b || y) (ap (λ (y : Bool). y || some (λ i. eqb (getD l i 0) c) (length l)) (swap c x) ∙ sym (some-first (λ i. eqb (getD (x ∷ l) i 0) c) (length l)))
+
+pub is-request : (code : ℕ) → chain false requests code ≡ isRequest code
+unfolding isRequest requests
+is-request code = chain-some false requests code
 
 -- where a request stands in the table
 pub request-at : (code : ℕ) → isRequest code ≡ true → (i : ℕ) × ((i < 25) × (getD requests i 0 ≡ code))
@@ -70,6 +109,21 @@ apart code e =
     some-false (λ i. eqb (reportTo (getD requests i 0)) code) 25 (λ i h.
     ap (eqb (reportTo (getD requests i 0))) (sym (w .1 .1))
     ∙ not-true _ (all-at (λ j. not (eqb (reportTo (getD requests i 0)) (getD requests j 0))) 25 (all-at _ 25 no-meeting i h) (w .0) (w .1 .0)))
+
+-- ---- the three answers to a telegram of a good length
+
+module _ (t : List ℕ) (code : ℕ) (long : (ltb (length t) 9 || ltb (eLimit (eCode t)) (length t)) ≡ false) (e : code ≡ eCode t) where
+  pub by-request : isRequest code ≡ true → gives (record { code = code; report = false; status = octet t 9 }) ≡ eReading t
+  unfolding eReading refuseIf
+  by-request q = simp (long, sym e, q, apart code q)
+
+  pub by-neither : isRequest code ≡ false → isReport code ≡ false → refused 22 0 ≡ eReading t
+  unfolding eReading refuseIf
+  by-neither q r = simp (long, sym e, q, r)
+
+  pub by-report : isRequest code ≡ false → isReport code ≡ true → gives (record { code = code; report = true; status = octet t 9 }) ≡ eReading t
+  unfolding eReading refuseIf
+  by-report q r = simp (long, sym e, q, r)
 
 -- ---- an answer's octets
 

@@ -6,35 +6,6 @@ ghost use Rattle.refusals.specs.Outcome.{Written};
 use refusals::Outcome;
 use refusals::Refusal;
 
-// The request codes of document 01.
-const REQUESTS: [usize; 25] = [
-    0x1007,
-    0x1012,
-    0x1013,
-    0x1015,
-    0x2001,
-    0x4002,
-    0x4007,
-    0x4009,
-    0x4011,
-    0x4013,
-    0x4015,
-    0x4020,
-    0x4047,
-    0x5003,
-    0x5007,
-    0x5009,
-    0x6002,
-    0x7001,
-    0x8002,
-    0x8003,
-    0x8007,
-    0x8008,
-    0x8009,
-    0x8010,
-    0x9001,
-];
-
 // What a telegram says: its code, whether that is a report's, and octet 9.
 pub struct EReading {
     pub code: u16,
@@ -54,15 +25,35 @@ fn e_limit(code: usize) -> usize
     1024
 }
 
+// The request codes of document 01: one chain of comparisons, of which a compiler makes a switch.
 fn is_request(code: usize) -> bool
     ensures { λ r. ⌜ r ≡ isRequest code ⌝ }
 {
-    for i in 0..25usize {
-        if REQUESTS[i] == code {
-            return true;
-        }
-    }
-    false
+    (code == 0x1007)
+        | (code == 0x1012)
+        | (code == 0x1013)
+        | (code == 0x1015)
+        | (code == 0x2001)
+        | (code == 0x4002)
+        | (code == 0x4007)
+        | (code == 0x4009)
+        | (code == 0x4011)
+        | (code == 0x4013)
+        | (code == 0x4015)
+        | (code == 0x4020)
+        | (code == 0x4047)
+        | (code == 0x5003)
+        | (code == 0x5007)
+        | (code == 0x5009)
+        | (code == 0x6002)
+        | (code == 0x7001)
+        | (code == 0x8002)
+        | (code == 0x8003)
+        | (code == 0x8007)
+        | (code == 0x8008)
+        | (code == 0x8009)
+        | (code == 0x8010)
+        | (code == 0x9001)
 }
 
 // A report's code is its request's plus 0A00.
@@ -86,15 +77,21 @@ pub fn e_read(telegram: &[u8]) -> ERead
     if e_limit(code) < telegram.len() {
         return ERead::Refused(Refusal::ELength);
     }
-    let request = is_request(code);
-    let report = is_report(code);
-    if !(request | report) {
+    let status = telegram[8];
+    if is_request(code) {
+        return ERead::Read(EReading {
+            code: code as u16,
+            report: false,
+            status,
+        });
+    }
+    if !is_report(code) {
         return ERead::Refused(Refusal::ECode);
     }
     ERead::Read(EReading {
         code: code as u16,
-        report,
-        status: telegram[8],
+        report: true,
+        status,
     })
 }
 

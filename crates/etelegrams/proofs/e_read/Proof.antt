@@ -1,30 +1,29 @@
 -- `etelegrams::e_read` meets its contract. Assumes nothing.
-use mathlib.Core.Path.{_≡_, sym, ap, ap₂, _∙_}
-use mathlib.Core.Bool.{Bool, not, _||_}
+use mathlib.Core.Path.{_≡_, sym, ap, _∙_}
+use mathlib.Core.Bool.{false, _||_}
+use mathlib.Core.List.{List}
 use Prim.Native.Nat.{ℕ}
 use native.Mathlib.Omega.{arith}
 use lib.ListN.{length}
+use lib.Dec.{ltb}
 use denote.Ref.{now}
-use borrow.Author.Tests.{lt-ltb, le-ltb}
-use Rattle.paper.specs.Answer.{gives, refuseIf}
-use Rattle.paper.specs.Octets.{octet}
-use Rattle.paper.specs.ETelegrams.{isReport, isRequest, eCode, eLimit, eReading}
+use borrow.Author.Tests.{lt-ltb, le-ltb, not-true, not-false}
+use Rattle.paper.specs.Answer.{refuseIf}
+use Rattle.paper.specs.ETelegrams.{eCode, eLimit, eReading}
 use borrow.Author.Needs.{needs}
+use Rattle.etelegrams.proofs.Laws.{by-request, by-report, by-neither}
 use Rattle.etelegrams.proofs.e_read.Statement.{statement}
 use Rattle.etelegrams.proofs.e_read.Tie as tie
 
 limit : (c : tie.After-e-limit) → c .e-limit .result ≡ eLimit (eCode (now (c .before .before .before .before .args .telegram)))
 limit c = c .e-limit .ensures ∙ ap eLimit (c .before .read16 .ensures .value)
 
-reports : (c : tie.After-is-report) → c .is-report .result ≡ isReport (eCode (now (c .before .before .before .before .before .before .before .args .telegram)))
-reports c = c .is-report .ensures ∙ ap isReport (c .before .before .before .before .read16 .ensures .value)
+lent : tie.Else2 → List ℕ
+lent c = now (c .before .before .before .before .before .args .telegram)
 
-codes : (c : tie.After-is-report) →
-    let t = now (c .before .before .before .before .before .before .before .args .telegram) in
-    (c .before .is-request .result || c .is-report .result) ≡ (isRequest (eCode t) || isReport (eCode t))
-codes c =
-    let v = c .before .before .before .before .read16 .ensures .value in
-    ap₂ _||_ (c .before .is-request .ensures ∙ ap isRequest v) (reports c)
+long : (c : tie.Else2) → (ltb (length (lent c)) 9 || ltb (eLimit (eCode (lent c))) (length (lent c))) ≡ false
+unfolding lent
+long c = simp (le-ltb (length (lent c)) 9 (omega arith), le-ltb (eLimit (eCode (lent c))) (length (lent c)) (omega (arith, limit (c .before))))
 
 returns : tie.Need-returns
 unfolding eReading refuseIf
@@ -38,20 +37,29 @@ returns-2 c =
     simp (le-ltb (length t) 9 (omega arith), lt-ltb (eLimit (eCode t)) (length t) (omega (arith, limit (c .before))))
 
 returns-3 : tie.Need-returns-3
-unfolding eReading refuseIf
+unfolding lent
 returns-3 c =
-    let m = c .before .before .before .before in
-    let t = now (m .before .before .before .before .args .telegram) in
-    simp (le-ltb (length t) 9 (omega arith), le-ltb (eLimit (eCode t)) (length t) (omega (arith, limit m)), ap not (sym (codes (c .before))) ∙ c .if3 .taken)
+    let q = c .before in
+    let x = q .before .before in
+    by-request (lent x) _ (long x) (x .before .before .read16 .ensures .value) (sym (q .is-request .ensures) ∙ c .if3 .taken)
 
 returns-4 : tie.Need-returns-4
-unfolding eReading refuseIf
+unfolding lent
 returns-4 c =
-    let r = c .before .before in
-    let m = r .before .before .before in
-    let t = now (m .before .before .before .before .args .telegram) in
-    simp (le-ltb (length t) 9 (omega arith), le-ltb (eLimit (eCode t)) (length t) (omega (arith, limit m)), ap not (sym (codes r)) ∙ c .before .if3 .left)
-    (ap₂ (λ (x : ℕ) (y : Bool). gives (record { code = x; report = y; status = octet t 9 })) (m .before .read16 .ensures .value) (reports r))
+    let p = c .before in
+    let q = p .before .before in
+    let x = q .before .before in
+    by-neither (lent x) _ (long x) (x .before .before .read16 .ensures .value) (sym (q .is-request .ensures) ∙ p .before .if3 .left)
+    (sym (p .is-report .ensures) ∙ not-true _ (c .if4 .taken))
+
+returns-5 : tie.Need-returns-5
+unfolding lent
+returns-5 c =
+    let p = c .before in
+    let q = p .before .before in
+    let x = q .before .before in
+    by-report (lent x) _ (long x) (x .before .before .read16 .ensures .value) (sym (q .is-request .ensures) ∙ p .before .if3 .left)
+    (sym (p .is-report .ensures) ∙ not-false _ (c .if4 .left))
 
 pub e-read-spec : {M : Type 1} → statement M
 e-read-spec =
@@ -61,9 +69,11 @@ e-read-spec =
     (λ c κs. search needs)
     (λ c κs. search needs)
     returns-2
+    (λ c. search needs)
     (λ c κs. search needs)
-    (λ c κs. search needs)
+    (λ c. search needs)
     returns-3
+    (λ c κs. search needs)
+    returns-4
     (λ c. search needs)
-    (λ c. search needs)
-    returns-4)
+    returns-5)
