@@ -4,10 +4,10 @@ ghost use Rattle.paper.proofs.ListLaws.{Laid};
 ghost use Rattle.lists.specs.Judged.{countsOf};
 ghost use Rattle.saying.specs.Ready.{Ready, IsVehicle};
 use entries::Signal;
-use reading::Reading;
 use libc::STDOUT_FILENO;
 use lists::Counts;
 use lists::Judged;
+use reading::Reading;
 use refusals::Refusal;
 use saying::Clock;
 use saying::Number;
@@ -64,7 +64,7 @@ fn one_signal(
 ) -> Totals
     requires { ⌜ (Ready (now list) (countsOf n) (now store)) × (IsVehicle vehicle) × (k < n .signals) ⌝ }
 {
-    let s = saying::signal(list, n, k);
+    let s = lists::signal_in(list, n, k);
     let r = reading::read_at(list, n, store, clock, vehicle, k);
     print_signal(vehicle, k, s, r);
     saying::count_reason(totals, r.reason)

@@ -43,7 +43,7 @@ fn replacements(list: &[u8], n: Counts, values: &mut [u64])
 {
     let mut k = 0;
     while k < values.len() {
-        let s = saying::signal(list, n, k);
+        let s = lists::signal_in(list, n, k);
         values[k] = s.replacement;
         k += 1;
     }

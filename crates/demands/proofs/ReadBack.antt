@@ -1,13 +1,12 @@
 -- DEMANDS 2 and 3 of the calls themselves: what `compose` wrote, `take` took and `read` answers, by nothing but what the three calls ensure. Assumes nothing.
 use Prim.Native.Nat.{ℕ, _≤_, _<_}
-use mathlib.Core.Path.{_≡_, refl, sym, ap, ap₂, subst, _∙_}
+use mathlib.Core.Path.{_≡_, refl, sym, ap, subst, _∙_}
 use mathlib.Core.Logic.{_⊎_, inl, inr}
 use mathlib.Core.Bool.{true, false, cond}
 use mathlib.Core.List.{List, [], _∷_}
-use native.Mathlib.Omega.{arith}
 use lib.ListN.{length, getD}
 use lib.Dec.{eqb}
-use Rattle.paper.specs.Answer.{Answer, gives, refused, after}
+use Rattle.paper.specs.Answer.{Answer, gives, after}
 use Rattle.paper.specs.Telegrams.{carries, ok, forced}
 use Rattle.paper.specs.SignalList.{Counts, judge, listOf}
 use Rattle.paper.specs.Extends.{same}

@@ -68,7 +68,7 @@ fn side_at(list: &[u8], n: Counts, store: &[u8], clock: u32, vehicle: usize, k: 
     if n.signals <= k {
         return missing();
     }
-    let s = saying::signal(list, n, k);
+    let s = lists::signal_in(list, n, k);
     let r = reading::read_at(list, n, store, clock, vehicle, k);
     Side {
         there: true,

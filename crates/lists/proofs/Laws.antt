@@ -1,7 +1,7 @@
 -- How a judge puts its answer together, and that an accepted list is laid out as its counts say. Assumes nothing.
 use Prim.Native.Nat.{ℕ, _+_, _*_, _≤_, _<_}
 use mathlib.Core.Path.{_≡_, refl, sym, ap, _∙_}
-use mathlib.Core.Bool.{Bool, true, false}
+use mathlib.Core.Bool.{Bool}
 use mathlib.Core.List.{List}
 use native.Mathlib.Nat.{lt-of-mul-lt-mul-left, mul-lt-mul-of-pos-left}
 use native.Mathlib.Decide.{decLt}

@@ -5,11 +5,11 @@ ghost use Rattle.lists.specs.Judged.{countsOf};
 ghost use Rattle.saying.specs.Ready.{Ready};
 use entries::Route;
 use entries::Signal;
-use reading::Reading;
 use libc::STDOUT_FILENO;
 use lists::Counts;
 use lists::Judged;
 use marshalling::Marshalled;
+use reading::Reading;
 use saying::Clock;
 
 fn help() {
@@ -47,8 +47,8 @@ fn print_route(r: usize, t: Route, s: Signal, x: Reading) {
 fn one_route(list: &[u8], n: Counts, store: &[u8], clock: u32, r: usize)
     requires { ⌜ (Ready (now list) (countsOf n) (now store)) × (r < n .routes) ⌝ }
 {
-    let t = saying::route(list, n, r);
-    let s = saying::signal(list, n, t.signal);
+    let t = lists::route_in(list, n, r);
+    let s = lists::signal_in(list, n, t.signal);
     let x = reading::read_at(list, n, store, clock, t.vehicle, t.signal);
     print_route(r, t, s, x);
 }

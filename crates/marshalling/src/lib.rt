@@ -58,7 +58,12 @@ fn write_route(list: &[u8], n: Counts, store: &[u8], clock: u32, bus: &mut [u8],
 {
     let t = lists::route_in(list, n, r);
     let reading = reading::read_at(list, n, store, clock, t.vehicle, t.signal);
-    octets::write_field(bus, t.start, lists::width_in(list, n, t.signal), reading.value);
+    octets::write_field(
+        bus,
+        t.start,
+        lists::width_in(list, n, t.signal),
+        reading.value,
+    );
     live(reading.reason)
 }
 

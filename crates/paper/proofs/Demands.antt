@@ -23,7 +23,7 @@ use Rattle.paper.specs.Demands.{Standing, givenMark, delivered, withheld
 use Rattle.paper.proofs.AnswerLaws.{goes-on, gives-one}
 use Rattle.paper.proofs.FieldLaws.{field-ext}
 use Rattle.paper.proofs.ListLaws.{Kept, kept}
-use Rattle.paper.proofs.StoreLaws.{type-least, Takes, takes-it, padded, stood, standing-slot, standing-whole}
+use Rattle.paper.proofs.StoreLaws.{type-least, takes-it, padded, stood, standing-slot, standing-whole}
 use Rattle.paper.proofs.ExtendsLaws.{Agree, agree-itself, Related, agree, only-newer, same-of}
 use Rattle.paper.proofs.ComposingLaws.{version-least, version-at, Fitting, Composes, composes, type-range, carried-within, named-written, length-composed, composed-application, composed-type, composed-version, composed-signal, composed-check}
 

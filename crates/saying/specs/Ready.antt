@@ -1,11 +1,10 @@
 -- What a program has found out before it reads signals.
-use Prim.Native.Nat.{ℕ, _≤_, _<_}
+use Prim.Native.Nat.{ℕ, _≤_}
 use mathlib.Core.Path.{_≡_}
 use mathlib.Core.List.{List}
 use lib.ListN.{length}
 use Rattle.paper.specs.SignalList.{Counts}
 use Rattle.paper.specs.Store.{vehicles, storeOctets}
-use Rattle.entries.specs.declared.Route.{Route}
 use Rattle.paper.proofs.ListLaws.{Laid}
 
 -- a list that was accepted with these counts, and a whole store
@@ -16,8 +15,3 @@ pub record Ready (list : List ℕ) (n : Counts) (store : List ℕ) : Type 0 wher
 pub record IsVehicle (v : ℕ) : Type 0 where
   pub first : 1 ≤ v
   pub last : v ≤ vehicles
-
--- a route whose signal and vehicle can be read
-pub record RouteReady (signals : ℕ) (t : Route) : Type 0 where
-  pub exists : t .signal < signals
-  pub vehicle : IsVehicle (t .vehicle)

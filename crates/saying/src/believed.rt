@@ -2,12 +2,7 @@
 ghost use mathlib.Core.Path.{_≡_};
 ghost use Prim.Native.Nat.{_≤_, _<_};
 ghost use lib.ListN.{length};
-ghost use Rattle.paper.specs.SignalList.{signalsPart};
 ghost use Rattle.paper.specs.Store.{slotOctets};
-ghost use Rattle.paper.proofs.ListLaws.{Laid};
-ghost use Rattle.entries.specs.Entries.{SignalRead};
-ghost use Rattle.lists.specs.Judged.{countsOf};
-ghost use Rattle.saying.specs.Ready.{RouteReady};
 use crate::line::Line;
 use crate::line::empty;
 use crate::line::print;
@@ -17,25 +12,6 @@ use crate::line::say_number;
 use crate::line::say_right;
 use crate::words::say_reason;
 use crate::words::say_telegram;
-use entries::Route;
-use entries::Signal;
-use lists::Counts;
-
-// Inner: signal k of a list that was accepted with these counts.
-pub fn signal(list: &[u8], n: Counts, k: usize) -> Signal
-    requires { ⌜ (Laid (now list) (countsOf n)) × (k < n .signals) ⌝ }
-    ensures { λ r. ⌜ SignalRead (signalsPart (now (list .entry)) (countsOf n)) k r ⌝ }
-{
-    entries::signal_at(reading::signals_part(list, n), k)
-}
-
-// Inner: route r of such a list.
-pub fn route(list: &[u8], n: Counts, r: usize) -> Route
-    requires { ⌜ (Laid (now list) (countsOf n)) × (r < n .routes) ⌝ }
-    ensures { λ t. ⌜ RouteReady (n .signals) t ⌝ }
-{
-    entries::route_at(lists::rest(reading::codes_part(list, n), 6, n.codes), r)
-}
 
 // What a vehicle's slot holds.
 struct Held {

@@ -24,8 +24,6 @@ pub use believed::no_totals;
 pub use believed::print_head;
 pub use believed::print_never;
 pub use believed::print_totals;
-pub use believed::route;
-pub use believed::signal;
 pub use file::Input;
 pub use file::begin;
 pub use file::commit;

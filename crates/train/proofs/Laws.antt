@@ -10,7 +10,7 @@ use borrow.Author.Tests.{le-leb, lt-leb, eq-eqb, ne-eqb, le-ltb, eqb-true, eqb-f
 use lib.Dec.{eqb, leb, ltb}
 use lib.ListN.{length}
 use lib.Pow.{pow-mono}
-use Rattle.paper.specs.Answer.{Answer, gives, refused, refuseIf}
+use Rattle.paper.specs.Answer.{Answer, gives, refused}
 use Rattle.paper.specs.Train.{Vehicle, Members, consistRule, isAddress, member, setTo, membersOf, resolving}
 use Rattle.paper.proofs.FirstLaws.{count-none, none-counted}
 use Rattle.paper.proofs.ListLaws.{neither}
