@@ -1,3 +1,4 @@
+-- `octets::write_rest` meets its contract, as `read_rest` does. Assumes nothing.
 use mathlib.Core.Path.{sym, ap, _∙_}
 use native.Mathlib.Omega.{arith}
 use lib.ListN.{set}
@@ -27,46 +28,6 @@ abbrev write-rest-below : ℕ → In 1 write-rest-kinds.ps
 write-rest-below t =
     and 1 write-rest-kinds.ps (falls 1 write-rest-kinds.ps _<_ μ-write-rest t) write-rest.Pre
 
-write-rest-returns : (t : ℕ) → write-rest-lts.Need-returns (
-  write-nine-reads.Asked,
-  write-nine-reads.Learnt,
-  with-field-reads.Asked,
-  with-field-reads.Learnt,
-  write-rest-below t,
-  write-rest.Post,
-) (write-rest-at t) write-rest.Post
-write-rest-returns t c = put-at _ _ _ _ _ _ (omega arith) (c .before .before .write-nine .ensures)
-
-write-rest-returns-2 : (t : ℕ) → write-rest-lts.Need-returns-2 (
-  write-nine-reads.Asked,
-  write-nine-reads.Learnt,
-  with-field-reads.Asked,
-  with-field-reads.Learnt,
-  write-rest-below t,
-  write-rest.Post,
-) (write-rest-at t) write-rest.Post
-write-rest-returns-2 t c =
-    let a = c .before .before .before .before .before .args in
-    let q = a .start / 8 in
-    put-at _ _ q (a .start % 8) _ _ (omega arith) (ap (set (now (a .s)) q) (c .with-field .ensures) ∙ sym (put-octet (now (a .s)) q (a .start % 8) (a .width) (a .v) (omega arith) (omega arith)))
-
-write-rest-returns-3 : (t : ℕ) → write-rest-lts.Need-returns-3 (
-  write-nine-reads.Asked,
-  write-nine-reads.Learnt,
-  with-field-reads.Asked,
-  with-field-reads.Learnt,
-  write-rest-below t,
-  write-rest.Post,
-) (write-rest-at t) write-rest.Post
-write-rest-returns-3 t c =
-    let p = c .before .before .before .before in
-    let a = p .before .before .before .before .before .args in
-    let m = p .write-rest .last .0 in
-    let f = a .start % 8 + a .width - 1 in
-    ap (set m (a .start / 8 + f / 8)) (c .with-field2 .ensures)
-    ∙ put-last (now (a .s)) (a .start) (a .width - (f % 8 + 1)) (f % 8 + 1) (a .width) (a .start / 8 + f / 8) (omega arith) (omega arith) (omega arith)
-    m (a .v) (p .write-rest .ensures) (omega arith)
-
 pub +write-rest-spec : {M : Type 1} → statement M
 +write-rest-spec = close μ-write-rest λ t. write-rest-lts.spec (
   write-nine-reads.Asked,
@@ -81,14 +42,17 @@ pub +write-rest-spec : {M : Type 1} → statement M
     (λ c. search needs)
     (λ c κs. search needs)
     (λ c. search needs)
-    (write-rest-returns t)
+    (λ c. put-at _ _ _ _ _ _ (omega arith) (c .before .before .write-nine .ensures))
     (λ c. search needs)
     (λ c. search needs)
     (λ c. search needs)
     (λ c κs. search needs)
     (λ c. search needs)
     (λ c. search needs)
-    (write-rest-returns-2 t)
+    (λ c.
+    let a = c .before .before .before .before .before .args in
+    let q = a .start / 8 in
+    put-at _ _ q (a .start % 8) _ _ (omega arith) (ap (set (now (a .s)) q) (c .with-field .ensures) ∙ sym (put-octet (now (a .s)) q (a .start % 8) (a .width) (a .v) (omega arith) (omega arith))))
     (λ c. search needs)
     (λ c. search needs)
     (λ c. search needs)
@@ -99,4 +63,11 @@ pub +write-rest-spec : {M : Type 1} → statement M
     (λ c. search needs)
     (λ c. search needs)
     (λ c. search needs)
-    (write-rest-returns-3 t)
+    (λ c.
+    let p = c .before .before .before .before in
+    let a = p .before .before .before .before .before .args in
+    let m = p .write-rest .last .0 in
+    let f = a .start % 8 + a .width - 1 in
+    ap (set m (a .start / 8 + f / 8)) (c .with-field2 .ensures)
+    ∙ put-last (now (a .s)) (a .start) (a .width - (f % 8 + 1)) (f % 8 + 1) (a .width) (a .start / 8 + f / 8) (omega arith) (omega arith) (omega arith)
+    m (a .v) (p .write-rest .ensures) (omega arith))
