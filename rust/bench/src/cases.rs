@@ -1,0 +1,252 @@
+//! The calls that are measured: each on both sides, with the same octets lent for reading and an area of its own lent for writing.
+
+use crate::lists::{self, NOW, STAMP};
+use crate::proved::{self, Said};
+use std::fmt::Debug;
+use std::hint::black_box;
+
+/// One side of a call, to be made so many times. What was lent for writing is not cleared between two calls.
+pub type Run = Box<dyn FnMut(u64)>;
+
+pub struct Case {
+    pub name: String,
+    /// The octets of the list, where the call is given one.
+    pub octets: usize,
+    /// How many calls one run makes.
+    pub calls: u64,
+    pub proved: Run,
+    pub rust: Run,
+}
+
+/// How many fields one run reads or writes, each at another bit of an octet.
+const FIELDS: usize = 64;
+
+fn leak<T>(of: Vec<T>) -> &'static [T] {
+    Vec::leak(of)
+}
+
+fn repeated<T>(mut lent: Vec<u8>, call: impl Fn(&mut [u8]) -> T + 'static) -> Run {
+    Box::new(move |runs| {
+        for _ in 0..runs {
+            black_box(call(black_box(&mut lent)));
+        }
+    })
+}
+
+/// A call on both sides; refused here if the two answer or write something else.
+fn case<A: Debug + PartialEq, P: 'static, R: 'static>(
+    name: &str,
+    lent: Vec<u8>,
+    proved: (impl Fn(&mut [u8]) -> P + 'static, fn(P) -> A),
+    rust: (impl Fn(&mut [u8]) -> R + 'static, fn(R) -> A),
+) -> Case {
+    let (mut ours, mut theirs) = (lent.clone(), lent.clone());
+    assert_eq!(proved.1(proved.0(&mut ours)), rust.1(rust.0(&mut theirs)), "{name}");
+    assert!(ours == theirs, "{name}: something else is written");
+    Case {
+        name: name.to_string(),
+        octets: 0,
+        calls: 1,
+        proved: repeated(lent.clone(), proved.0),
+        rust: repeated(lent, rust.0),
+    }
+}
+
+/// As [`case`], where the proved side's answer is said as the other side says it.
+fn said<P: Said + 'static>(
+    name: &str,
+    lent: Vec<u8>,
+    proved: impl Fn(&mut [u8]) -> P + 'static,
+    rust: impl Fn(&mut [u8]) -> P::As + 'static,
+) -> Case
+where
+    P::As: 'static,
+{
+    case(name, lent, (proved, P::said), (rust, |answer| answer))
+}
+
+/// The calls whose cost grows with the list, under a list of so many units of [`lists::list`].
+pub fn growing(units: usize) -> [Case; 3] {
+    let list = leak(lists::list(units, 5_000));
+    let other = leak(lists::list(units, 6_000));
+    let store = leak(lists::store(&lists::telegram()));
+    let live = reference::marshal(list, store, NOW, &mut [0; 256]);
+    assert_eq!(live.ok(), Some(8 * units as u64), "every route is live");
+    let cases = [
+        said("judge", vec![], move |_| proved::judge(black_box(list)), move |_| reference::judge(black_box(list))),
+        said(
+            "extends",
+            vec![],
+            move |_| proved::extends(black_box(list), black_box(other)),
+            move |_| reference::extends(black_box(list), black_box(other)),
+        ),
+        said(
+            "marshal",
+            vec![0xA5; 256],
+            move |data| proved::marshal(black_box(list), black_box(store), black_box(NOW), data),
+            move |data| reference::marshal(black_box(list), black_box(store), black_box(NOW), data),
+        ),
+    ];
+    cases.map(|case| Case { octets: list.len(), ..case })
+}
+
+fn reads() -> Vec<Case> {
+    let longest = leak(lists::list(64, 5_000));
+    let store = leak(lists::store(&lists::telegram()));
+    let coded = leak(lists::coded(500));
+    // The last code of the last entry.
+    let mut telegram = vec![0x11, 1];
+    telegram.resize(128, 0);
+    telegram[40] = 0x10;
+    telegram[50..52].copy_from_slice(&49_950u16.to_be_bytes());
+    let heard = leak(lists::store(&telegram));
+    assert_eq!(reference::read(coded, heard, NOW, 1, 0).map(|r| r.reason), Ok(0));
+    let read = |name, list: &'static [u8], store: &'static [u8], signal| {
+        let case = said(
+            name,
+            vec![],
+            move |_| proved::read(black_box(list), black_box(store), black_box(NOW), black_box(63), black_box(signal)),
+            move |_| reference::read(black_box(list), black_box(store), black_box(NOW), black_box(63), black_box(signal)),
+        );
+        Case { octets: list.len(), ..case }
+    };
+    vec![
+        read("read, a signal with 500 code entries", coded, heard, 0),
+        read("read, the last signal of the longest list", longest, store, 255),
+    ]
+}
+
+fn compose() -> Case {
+    let list = leak(lists::list(64, 5_000));
+    let (values, marks) = (leak(lists::values(64)), leak(lists::marks(64)));
+    let case = said(
+        "compose R1, 256 signals",
+        vec![0xA5; 128],
+        move |out| proved::compose(black_box(list), black_box(1), black_box(values), black_box(marks), out),
+        move |out| reference::compose(black_box(list), black_box(1), black_box(values), black_box(marks), out),
+    );
+    Case { octets: list.len(), ..case }
+}
+
+fn take(name: &str, telegram: Vec<u8>) -> Case {
+    let telegram = leak(telegram);
+    said(
+        name,
+        vec![0xA5; 63 * 133],
+        move |store| proved::take(store, black_box(32), black_box(STAMP), black_box(telegram)),
+        move |store| reference::take(store, black_box(32), black_box(STAMP), black_box(telegram)),
+    )
+}
+
+fn e_read(name: &str, code: u16) -> Case {
+    let mut telegram = vec![0; 9];
+    telegram[6..8].copy_from_slice(&code.to_be_bytes());
+    let telegram = leak(telegram);
+    said(
+        name,
+        vec![],
+        move |_| proved::e_read(black_box(telegram)),
+        move |_| reference::e_read(black_box(telegram)),
+    )
+}
+
+fn resolve(name: &str, address: u64) -> Case {
+    let marks = leak(lists::train());
+    said(
+        name,
+        vec![],
+        move |_| proved::resolve(black_box(marks), black_box(address)),
+        move |_| reference::resolve(black_box(marks), black_box(address)),
+    )
+}
+
+// A call on this side too: the proved one is never inlined into the bench.
+
+#[inline(never)]
+fn rust_read_field(octets: &[u8], start: usize, width: usize) -> u64 {
+    reference::read_field(octets, start, width)
+}
+
+#[inline(never)]
+fn rust_write_field(octets: &mut [u8], start: usize, width: usize, value: u64) {
+    reference::write_field(octets, start, width, value)
+}
+
+/// What is read at each start, as one number.
+#[inline(always)]
+fn each_start(mut read: impl FnMut(usize) -> u64) -> u64 {
+    (0..FIELDS).fold(0, |sum: u64, number| sum.rotate_left(1) ^ read(15 * number))
+}
+
+fn read_fields(width: usize) -> Case {
+    let octets = leak((0..128).map(|octet| octet * 37 + 11).collect());
+    let case = case(
+        &format!("field read, width {width}"),
+        vec![],
+        (move |_: &mut [u8]| each_start(|start| proved::read_field(octets, start, black_box(width))), |sum| sum),
+        (move |_: &mut [u8]| each_start(|start| rust_read_field(octets, start, black_box(width))), |sum| sum),
+    );
+    Case { calls: FIELDS as u64, ..case }
+}
+
+fn write_fields(width: usize) -> Case {
+    let value = 0x9E37_79B9_7F4A_7C15 >> (64 - width);
+    let case = case(
+        &format!("field write, width {width}"),
+        vec![0xA5; 128],
+        (
+            move |octets: &mut [u8]| {
+                each_start(|start| {
+                    proved::write_field(octets, start, black_box(width), value);
+                    0
+                })
+            },
+            |sum| sum,
+        ),
+        (
+            move |octets: &mut [u8]| {
+                each_start(|start| {
+                    rust_write_field(octets, start, black_box(width), value);
+                    0
+                })
+            },
+            |sum| sum,
+        ),
+    );
+    Case { calls: FIELDS as u64, ..case }
+}
+
+/// The two sides refuse alike, too: a wrong layout of an answer does not go unnoticed.
+fn refused_alike() {
+    let list = lists::list(8, 5_000);
+    for cut in 0..list.len() {
+        let short = &list[..cut];
+        assert_eq!(proved::judge(short).said(), reference::judge(short));
+        assert_eq!(proved::extends(&list, short).said(), reference::extends(&list, short));
+        assert_eq!(proved::read(short, &[], 0, 0, 0).said(), reference::read(short, &[], 0, 0, 0));
+        assert_eq!(proved::marshal(short, &[], 0, &mut []).said(), reference::marshal(short, &[], 0, &mut []));
+        assert_eq!(proved::e_read(short).said(), reference::e_read(short));
+        assert_eq!(proved::resolve(short, 66).said(), reference::resolve(short, 66));
+        assert_eq!(proved::read_field(short, 100, 7), reference::read_field(short, 100, 7));
+    }
+}
+
+/// Every call of the table, in its order.
+pub fn all() -> Vec<Case> {
+    refused_alike();
+    let [judge, extends, marshal] = growing(64).map(|mut case| {
+        case.name += ", longest list";
+        case
+    });
+    let telegram = lists::telegram();
+    let r3 = [&[0x13], &telegram[1..40]].concat();
+    let mut cases = vec![judge];
+    cases.extend(reads());
+    cases.extend([marshal, compose(), take("take R1", telegram), take("take R3", r3), extends]);
+    cases.extend([e_read("E read, a request", 0x9001), e_read("E read, a report", 0x9A01)]);
+    cases.extend([resolve("resolve 63 vehicles, coaches", 67), resolve("resolve 63 vehicles, all", 66)]);
+    for width in [1, 4, 8, 16, 48, 64] {
+        cases.extend([read_fields(width), write_fields(width)]);
+    }
+    cases
+}

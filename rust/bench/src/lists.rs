@@ -1,0 +1,133 @@
+//! The lists, the store and the telegrams that are measured.
+//!
+//! The bits of a telegram are laid out in units of 14: a check, then signals of 2, 3, 3 and 4 bits that name it. The longest list has 64
+//! units, 21 of them in the octets that every type carries and 43 in those of R1, so that an R1 carries all its 256 signals.
+
+/// The stamp of every slot, and the clock at which signals are read: within every time limit.
+pub const STAMP: u32 = 1_000;
+pub const NOW: u32 = 4_000;
+
+const MOST_UNITS: usize = 64;
+const COMMON_UNITS: usize = 21;
+const WIDTHS: [u8; 4] = [2, 3, 3, 4];
+
+fn put16(list: &mut Vec<u8>, number: usize) {
+    list.extend((number as u16).to_be_bytes());
+}
+
+/// Where the unit starts, in a list of so many units.
+fn unit(number: usize, units: usize) -> (u8, usize) {
+    let common = COMMON_UNITS * units / MOST_UNITS;
+    match number.checked_sub(common) {
+        None => (0, 16 + 14 * number),
+        Some(later) => (1, 320 + 14 * later),
+    }
+}
+
+/// A list of so many units: as many checks, four signals a unit, two code entries and two routes a signal. Every time limit is `limit`,
+/// which one list that extends another may change.
+pub fn list(units: usize, limit: u32) -> Vec<u8> {
+    let mut list = Vec::new();
+    put16(&mut list, units);
+    for number in 0..units {
+        put16(&mut list, unit(number, units).1);
+    }
+    put16(&mut list, 4 * units);
+    for number in 0..4 * units {
+        signal(&mut list, units, number, limit);
+    }
+    put16(&mut list, 8 * units);
+    for number in 0..4 * units {
+        codes(&mut list, number);
+    }
+    put16(&mut list, 8 * units);
+    routes(&mut list, units);
+    list
+}
+
+fn signal(list: &mut Vec<u8>, units: usize, number: usize, limit: u32) {
+    let (kind, start) = unit(number / 4, units);
+    let before: u8 = WIDTHS[..number % 4].iter().sum();
+    put16(list, start + 2 + usize::from(before));
+    let (check, since) = (1 + number / 4, 1 + number % 3);
+    list.extend([WIDTHS[number % 4], kind, check as u8, since as u8]);
+    list.extend(limit.to_be_bytes());
+    list.extend([0, 0, 0, 0, 0, (number % 4) as u8]);
+}
+
+/// Code 1 alone is not known.
+fn codes(list: &mut Vec<u8>, number: usize) {
+    let past = 1 << WIDTHS[number % 4];
+    for (low, high) in [(0, 0), (2, past - 1)] {
+        put16(list, number);
+        put16(list, low);
+        put16(list, high);
+    }
+}
+
+/// Every signal twice, not in the order of the signals, with a bit between two fields; all vehicles.
+fn routes(list: &mut Vec<u8>, units: usize) {
+    let mut start = 0;
+    for number in 0..8 * units {
+        let signal = (37 * number + 11) % (4 * units);
+        put16(list, signal);
+        list.extend([1 + (number % 63) as u8, 0]);
+        put16(list, start);
+        start += usize::from(WIDTHS[signal % 4]) + 1;
+    }
+}
+
+/// One signal of 16 bits with `entries` code entries, one check and one route.
+pub fn coded(entries: usize) -> Vec<u8> {
+    let mut list = Vec::new();
+    put16(&mut list, 1);
+    put16(&mut list, 322);
+    put16(&mut list, 1);
+    put16(&mut list, 400);
+    list.extend([16, 1, 1, 1, 0, 0, 0x13, 0x88, 0, 0, 0, 0, 0, 0]);
+    put16(&mut list, entries);
+    for number in 0..entries {
+        put16(&mut list, 0);
+        put16(&mut list, 100 * number);
+        put16(&mut list, 100 * number + 50);
+    }
+    put16(&mut list, 1);
+    list.extend([0, 0, 1, 0, 0, 0]);
+    list
+}
+
+/// One value for each signal of [`list`], none of them code 1.
+pub fn values(units: usize) -> Vec<u64> {
+    (0..4 * units as u64).map(|number| 2 + number % 2).collect()
+}
+
+/// One mark for each check: ok, and every fourth forced.
+pub fn marks(units: usize) -> Vec<u8> {
+    (0..units).map(|number| 1 + u8::from(number % 4 == 3)).collect()
+}
+
+/// An R1 under the longest list.
+pub fn telegram() -> Vec<u8> {
+    let mut out = vec![0; 128];
+    let list = list(MOST_UNITS, 5_000);
+    let composed = reference::compose(&list, 1, &values(MOST_UNITS), &marks(MOST_UNITS), &mut out);
+    composed.expect("the telegram of the bench is composed");
+    out
+}
+
+/// All 63 vehicles heard, each with this telegram.
+pub fn store(telegram: &[u8]) -> Vec<u8> {
+    let mut store = vec![0; 63 * 133];
+    for vehicle in 1..=63 {
+        reference::take(&mut store, vehicle, STAMP, telegram).expect("the telegram of the bench is taken");
+    }
+    store
+}
+
+/// 63 vehicles: the first leads, the last is led, between them coaches, every fourth a sleeping car.
+pub fn train() -> Vec<u8> {
+    let mut marks: Vec<u8> = (0..63).map(|number| if number % 4 == 0 { 18 } else { 2 }).collect();
+    marks[0] = 5;
+    marks[62] = 12;
+    marks
+}

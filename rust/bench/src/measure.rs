@@ -1,0 +1,48 @@
+//! Times of many short samples, taken in turn from both sides.
+
+use crate::cases::{Case, Run};
+use std::time::{Duration, Instant};
+
+const SAMPLES: usize = 1_001;
+/// A sample is long enough for the clock and short enough that most are not interrupted.
+const SAMPLE: Duration = Duration::from_micros(20);
+
+/// In nanoseconds for one call.
+#[derive(Clone, Copy)]
+pub struct Times {
+    pub median: f64,
+    pub fastest: f64,
+}
+
+fn sample(run: &mut Run, runs: u64) -> Duration {
+    let start = Instant::now();
+    run(runs);
+    start.elapsed()
+}
+
+/// How many runs a sample needs; the doubling warms the side up.
+fn runs_of(run: &mut Run) -> u64 {
+    let mut runs = 1;
+    while sample(run, runs) < SAMPLE {
+        runs *= 2;
+    }
+    runs
+}
+
+fn times(mut samples: Vec<Duration>, calls: u64) -> Times {
+    samples.sort();
+    let of = |sample: Duration| sample.as_nanos() as f64 / calls as f64;
+    Times {
+        median: of(samples[samples.len() / 2]),
+        fastest: of(samples[0]),
+    }
+}
+
+/// The times of the proved side and of the other.
+pub fn both(case: &mut Case) -> (Times, Times) {
+    let (ours, theirs) = (runs_of(&mut case.proved), runs_of(&mut case.rust));
+    let (proved, rust) = (0..SAMPLES)
+        .map(|_| (sample(&mut case.proved, ours), sample(&mut case.rust, theirs)))
+        .unzip();
+    (times(proved, ours * case.calls), times(rust, theirs * case.calls))
+}

@@ -1,0 +1,245 @@
+//! The proved library, as its module lays out the calls: an answer of more than 16 octets is written where the first word points. On
+//! x86-64 that is what C does with such an answer; on other machines it is not, so it is said here.
+
+use reference::{Counts, EReading, Extends, Members, Reading, Refusal};
+use std::mem::MaybeUninit;
+
+#[repr(C)]
+pub struct Outcome {
+    refusal: u32,
+    carried: u64,
+}
+
+#[repr(C)]
+pub struct Judged {
+    refusal: u32,
+    carried: u64,
+    checks: u64,
+    signals: u64,
+    codes: u64,
+    routes: u64,
+    version: u64,
+}
+
+#[repr(C)]
+pub struct Extending {
+    refusal: u32,
+    which: u32,
+    carried: u64,
+    extends: u32,
+}
+
+#[repr(C)]
+pub struct Read {
+    refusal: u32,
+    reason: u32,
+    carried: u64,
+    value: u64,
+}
+
+#[repr(C)]
+pub struct Marshalled {
+    refusal: u32,
+    carried: u64,
+    lives: u64,
+}
+
+#[repr(C)]
+pub struct Resolved {
+    refusal: u32,
+    size: u32,
+    set: u64,
+}
+
+#[repr(C)]
+pub struct ERead {
+    refusal: u32,
+    code: u32,
+    report: u32,
+    status: u32,
+}
+
+type To<T> = *mut MaybeUninit<T>;
+
+extern "C" {
+    fn df_judge(to: To<Judged>, list: *const u8, list_len: usize);
+    fn df_extends(to: To<Extending>, a: *const u8, a_len: usize, b: *const u8, b_len: usize);
+    #[rustfmt::skip]
+    fn df_read(
+        to: To<Read>, list: *const u8, list_len: usize, store: *const u8, store_len: usize, clock: u32, vehicle: u64, signal: u64,
+    );
+    #[rustfmt::skip]
+    fn df_marshal(
+        to: To<Marshalled>, list: *const u8, list_len: usize, store: *const u8, store_len: usize, clock: u32, data: *mut u8,
+        data_len: usize,
+    );
+    #[rustfmt::skip]
+    fn df_compose(
+        list: *const u8, list_len: usize, kind: u64, values: *const u64, values_len: usize, marks: *const u8, marks_len: usize,
+        out: *mut u8, out_len: usize,
+    ) -> Outcome;
+    #[rustfmt::skip]
+    fn df_take(
+        store: *mut u8, store_len: usize, vehicle: u64, clock: u32, telegram: *const u8, telegram_len: usize,
+    ) -> Outcome;
+    fn df_resolve(marks: *const u8, marks_len: usize, address: u64) -> Resolved;
+    fn df_e_read(telegram: *const u8, telegram_len: usize) -> ERead;
+
+    fn proved_read_field(octets: *const u8, len: usize, start: usize, width: usize) -> u64;
+    fn proved_write_field(octets: *mut u8, len: usize, start: usize, width: usize, value: u64);
+}
+
+// SAFETY, of every `unsafe` below: a slice names as much memory as its length says; one lent for writing overlaps no other; and a call
+// that is handed a place for its answer always writes the whole answer.
+
+#[inline(always)]
+fn answer<T>(call: impl FnOnce(To<T>)) -> T {
+    let mut to = MaybeUninit::uninit();
+    call(&mut to);
+    unsafe { to.assume_init() }
+}
+
+#[inline(always)]
+pub fn judge(list: &[u8]) -> Judged {
+    answer(|to| unsafe { df_judge(to, list.as_ptr(), list.len()) })
+}
+
+#[inline(always)]
+pub fn extends(a: &[u8], b: &[u8]) -> Extending {
+    answer(|to| unsafe { df_extends(to, a.as_ptr(), a.len(), b.as_ptr(), b.len()) })
+}
+
+#[inline(always)]
+pub fn read(list: &[u8], store: &[u8], now: u32, vehicle: u64, signal: u64) -> Read {
+    let (octets, slots) = (list.as_ptr(), store.as_ptr());
+    answer(|to| unsafe { df_read(to, octets, list.len(), slots, store.len(), now, vehicle, signal) })
+}
+
+#[inline(always)]
+pub fn marshal(list: &[u8], store: &[u8], now: u32, data: &mut [u8]) -> Marshalled {
+    let (octets, slots, fields) = (list.as_ptr(), store.as_ptr(), data.as_mut_ptr());
+    answer(|to| unsafe { df_marshal(to, octets, list.len(), slots, store.len(), now, fields, data.len()) })
+}
+
+#[inline(always)]
+pub fn compose(list: &[u8], kind: u64, values: &[u64], marks: &[u8], out: &mut [u8]) -> Outcome {
+    unsafe {
+        df_compose(
+            list.as_ptr(),
+            list.len(),
+            kind,
+            values.as_ptr(),
+            values.len(),
+            marks.as_ptr(),
+            marks.len(),
+            out.as_mut_ptr(),
+            out.len(),
+        )
+    }
+}
+
+#[inline(always)]
+pub fn take(store: &mut [u8], vehicle: u64, now: u32, telegram: &[u8]) -> Outcome {
+    let (slots, octets) = (store.as_mut_ptr(), telegram.as_ptr());
+    unsafe { df_take(slots, store.len(), vehicle, now, octets, telegram.len()) }
+}
+
+#[inline(always)]
+pub fn resolve(marks: &[u8], address: u64) -> Resolved {
+    unsafe { df_resolve(marks.as_ptr(), marks.len(), address) }
+}
+
+#[inline(always)]
+pub fn e_read(telegram: &[u8]) -> ERead {
+    unsafe { df_e_read(telegram.as_ptr(), telegram.len()) }
+}
+
+#[inline(always)]
+pub fn read_field(octets: &[u8], start: usize, width: usize) -> u64 {
+    unsafe { proved_read_field(octets.as_ptr(), octets.len(), start, width) }
+}
+
+#[inline(always)]
+pub fn write_field(octets: &mut [u8], start: usize, width: usize, value: u64) {
+    unsafe { proved_write_field(octets.as_mut_ptr(), octets.len(), start, width, value) }
+}
+
+/// What a call answers, as the independent implementation says it: the two sides are compared so.
+pub trait Said {
+    type As: std::fmt::Debug + PartialEq;
+    fn said(self) -> Self::As;
+}
+
+fn unless_refused<T>(number: u32, carried: u64, answer: T) -> Result<T, Refusal> {
+    match number {
+        0 => Ok(answer),
+        _ => Err(Refusal { number: number as u8, carried }),
+    }
+}
+
+impl Said for Outcome {
+    type As = Result<(), Refusal>;
+    fn said(self) -> Self::As {
+        unless_refused(self.refusal, self.carried, ())
+    }
+}
+
+impl Said for Judged {
+    type As = Result<Counts, Refusal>;
+    fn said(self) -> Self::As {
+        let counts = Counts {
+            checks: self.checks as usize,
+            signals: self.signals as usize,
+            codes: self.codes as usize,
+            routes: self.routes as usize,
+            version: self.version as usize,
+        };
+        unless_refused(self.refusal, self.carried, counts)
+    }
+}
+
+impl Said for Extending {
+    type As = Extends;
+    fn said(self) -> Extends {
+        match unless_refused(self.refusal, self.carried, self.extends) {
+            Ok(0) => Extends::No,
+            Ok(_) => Extends::Yes,
+            Err(refusal) if self.which == 1 => Extends::First(refusal),
+            Err(refusal) => Extends::Second(refusal),
+        }
+    }
+}
+
+impl Said for Read {
+    type As = Result<Reading, Refusal>;
+    fn said(self) -> Self::As {
+        let reading = Reading { value: self.value, reason: self.reason as u8 };
+        unless_refused(self.refusal, self.carried, reading)
+    }
+}
+
+impl Said for Marshalled {
+    type As = Result<u64, Refusal>;
+    fn said(self) -> Self::As {
+        unless_refused(self.refusal, self.carried, self.lives)
+    }
+}
+
+impl Said for Resolved {
+    type As = Result<Members, Refusal>;
+    fn said(self) -> Self::As {
+        unless_refused(self.refusal, 0, Members { set: self.set, size: self.size })
+    }
+}
+
+impl Said for ERead {
+    type As = Result<EReading, Refusal>;
+    fn said(self) -> Self::As {
+        let reading = EReading {
+            code: self.code as u16,
+            report: self.report != 0,
+            status: self.status as u8,
+        };
+        unless_refused(self.refusal, 0, reading)
+    }
+}
