@@ -2,6 +2,7 @@
 
 use crate::lists::{self, NOW, STAMP};
 use crate::proved::{self, Said};
+use crate::rust;
 use std::fmt::Debug;
 use std::hint::black_box;
 
@@ -10,8 +11,6 @@ pub type Run = Box<dyn FnMut(u64)>;
 
 pub struct Case {
     pub name: String,
-    /// The octets of the list, where the call is given one.
-    pub octets: usize,
     /// How many calls one run makes.
     pub calls: u64,
     pub proved: Run,
@@ -41,11 +40,14 @@ fn case<A: Debug + PartialEq, P: 'static, R: 'static>(
     rust: (impl Fn(&mut [u8]) -> R + 'static, fn(R) -> A),
 ) -> Case {
     let (mut ours, mut theirs) = (lent.clone(), lent.clone());
-    assert_eq!(proved.1(proved.0(&mut ours)), rust.1(rust.0(&mut theirs)), "{name}");
+    assert_eq!(
+        proved.1(proved.0(&mut ours)),
+        rust.1(rust.0(&mut theirs)),
+        "{name}"
+    );
     assert!(ours == theirs, "{name}: something else is written");
     Case {
         name: name.to_string(),
-        octets: 0,
         calls: 1,
         proved: repeated(lent.clone(), proved.0),
         rust: repeated(lent, rust.0),
@@ -73,21 +75,29 @@ pub fn growing(units: usize) -> [Case; 3] {
     let live = reference::marshal(list, store, NOW, &mut [0; 256]);
     assert_eq!(live.ok(), Some(8 * units as u64), "every route is live");
     let cases = [
-        said("judge", vec![], move |_| proved::judge(black_box(list)), move |_| reference::judge(black_box(list))),
+        said(
+            "judge",
+            vec![],
+            move |_| proved::judge(black_box(list)),
+            move |_| rust::judge(black_box(list)),
+        ),
         said(
             "extends",
             vec![],
             move |_| proved::extends(black_box(list), black_box(other)),
-            move |_| reference::extends(black_box(list), black_box(other)),
+            move |_| rust::extends(black_box(list), black_box(other)),
         ),
         said(
             "marshal",
             vec![0xA5; 256],
             move |data| proved::marshal(black_box(list), black_box(store), black_box(NOW), data),
-            move |data| reference::marshal(black_box(list), black_box(store), black_box(NOW), data),
+            move |data| rust::marshal(black_box(list), black_box(store), black_box(NOW), data),
         ),
     ];
-    cases.map(|case| Case { octets: list.len(), ..case })
+    cases.map(|mut case| {
+        case.name += &format!(", {} octets", list.len());
+        case
+    })
 }
 
 fn reads() -> Vec<Case> {
@@ -100,32 +110,70 @@ fn reads() -> Vec<Case> {
     telegram[40] = 0x10;
     telegram[50..52].copy_from_slice(&49_950u16.to_be_bytes());
     let heard = leak(lists::store(&telegram));
-    assert_eq!(reference::read(coded, heard, NOW, 1, 0).map(|r| r.reason), Ok(0));
+    assert_eq!(
+        reference::read(coded, heard, NOW, 1, 0).map(|r| r.reason),
+        Ok(0)
+    );
     let read = |name, list: &'static [u8], store: &'static [u8], signal| {
-        let case = said(
+        said(
             name,
             vec![],
-            move |_| proved::read(black_box(list), black_box(store), black_box(NOW), black_box(63), black_box(signal)),
-            move |_| reference::read(black_box(list), black_box(store), black_box(NOW), black_box(63), black_box(signal)),
-        );
-        Case { octets: list.len(), ..case }
+            move |_| {
+                proved::read(
+                    black_box(list),
+                    black_box(store),
+                    black_box(NOW),
+                    black_box(63),
+                    black_box(signal),
+                )
+            },
+            move |_| {
+                rust::read(
+                    black_box(list),
+                    black_box(store),
+                    black_box(NOW),
+                    black_box(63),
+                    black_box(signal),
+                )
+            },
+        )
     };
     vec![
         read("read, a signal with 500 code entries", coded, heard, 0),
-        read("read, the last signal of the longest list", longest, store, 255),
+        read(
+            "read, the last signal of the longest list",
+            longest,
+            store,
+            255,
+        ),
     ]
 }
 
 fn compose() -> Case {
     let list = leak(lists::list(64, 5_000));
     let (values, marks) = (leak(lists::values(64)), leak(lists::marks(64)));
-    let case = said(
+    said(
         "compose R1, 256 signals",
         vec![0xA5; 128],
-        move |out| proved::compose(black_box(list), black_box(1), black_box(values), black_box(marks), out),
-        move |out| reference::compose(black_box(list), black_box(1), black_box(values), black_box(marks), out),
-    );
-    Case { octets: list.len(), ..case }
+        move |out| {
+            proved::compose(
+                black_box(list),
+                black_box(1),
+                black_box(values),
+                black_box(marks),
+                out,
+            )
+        },
+        move |out| {
+            rust::compose(
+                black_box(list),
+                black_box(1),
+                black_box(values),
+                black_box(marks),
+                out,
+            )
+        },
+    )
 }
 
 fn take(name: &str, telegram: Vec<u8>) -> Case {
@@ -134,7 +182,7 @@ fn take(name: &str, telegram: Vec<u8>) -> Case {
         name,
         vec![0xA5; 63 * 133],
         move |store| proved::take(store, black_box(32), black_box(STAMP), black_box(telegram)),
-        move |store| reference::take(store, black_box(32), black_box(STAMP), black_box(telegram)),
+        move |store| rust::take(store, black_box(32), black_box(STAMP), black_box(telegram)),
     )
 }
 
@@ -146,7 +194,7 @@ fn e_read(name: &str, code: u16) -> Case {
         name,
         vec![],
         move |_| proved::e_read(black_box(telegram)),
-        move |_| reference::e_read(black_box(telegram)),
+        move |_| rust::e_read(black_box(telegram)),
     )
 }
 
@@ -156,20 +204,8 @@ fn resolve(name: &str, address: u64) -> Case {
         name,
         vec![],
         move |_| proved::resolve(black_box(marks), black_box(address)),
-        move |_| reference::resolve(black_box(marks), black_box(address)),
+        move |_| rust::resolve(black_box(marks), black_box(address)),
     )
-}
-
-// A call on this side too: the proved one is never inlined into the bench.
-
-#[inline(never)]
-fn rust_read_field(octets: &[u8], start: usize, width: usize) -> u64 {
-    reference::read_field(octets, start, width)
-}
-
-#[inline(never)]
-fn rust_write_field(octets: &mut [u8], start: usize, width: usize, value: u64) {
-    reference::write_field(octets, start, width, value)
 }
 
 /// What is read at each start, as one number.
@@ -183,10 +219,23 @@ fn read_fields(width: usize) -> Case {
     let case = case(
         &format!("field read, width {width}"),
         vec![],
-        (move |_: &mut [u8]| each_start(|start| proved::read_field(octets, start, black_box(width))), |sum| sum),
-        (move |_: &mut [u8]| each_start(|start| rust_read_field(octets, start, black_box(width))), |sum| sum),
+        (
+            move |_: &mut [u8]| {
+                each_start(|start| proved::read_field(octets, start, black_box(width)))
+            },
+            |sum| sum,
+        ),
+        (
+            move |_: &mut [u8]| {
+                each_start(|start| rust::read_field(octets, start, black_box(width)))
+            },
+            |sum| sum,
+        ),
     );
-    Case { calls: FIELDS as u64, ..case }
+    Case {
+        calls: FIELDS as u64,
+        ..case
+    }
 }
 
 fn write_fields(width: usize) -> Case {
@@ -206,45 +255,71 @@ fn write_fields(width: usize) -> Case {
         (
             move |octets: &mut [u8]| {
                 each_start(|start| {
-                    rust_write_field(octets, start, black_box(width), value);
+                    rust::write_field(octets, start, black_box(width), value);
                     0
                 })
             },
             |sum| sum,
         ),
     );
-    Case { calls: FIELDS as u64, ..case }
+    Case {
+        calls: FIELDS as u64,
+        ..case
+    }
 }
 
 /// The two sides refuse alike, too: a wrong layout of an answer does not go unnoticed.
-fn refused_alike() {
+pub fn refused_alike() {
     let list = lists::list(8, 5_000);
     for cut in 0..list.len() {
         let short = &list[..cut];
         assert_eq!(proved::judge(short).said(), reference::judge(short));
-        assert_eq!(proved::extends(&list, short).said(), reference::extends(&list, short));
-        assert_eq!(proved::read(short, &[], 0, 0, 0).said(), reference::read(short, &[], 0, 0, 0));
-        assert_eq!(proved::marshal(short, &[], 0, &mut []).said(), reference::marshal(short, &[], 0, &mut []));
+        assert_eq!(
+            proved::extends(&list, short).said(),
+            reference::extends(&list, short)
+        );
+        assert_eq!(
+            proved::read(short, &[], 0, 0, 0).said(),
+            reference::read(short, &[], 0, 0, 0)
+        );
+        assert_eq!(
+            proved::marshal(short, &[], 0, &mut []).said(),
+            reference::marshal(short, &[], 0, &mut [])
+        );
         assert_eq!(proved::e_read(short).said(), reference::e_read(short));
-        assert_eq!(proved::resolve(short, 66).said(), reference::resolve(short, 66));
-        assert_eq!(proved::read_field(short, 100, 7), reference::read_field(short, 100, 7));
+        assert_eq!(
+            proved::resolve(short, 66).said(),
+            reference::resolve(short, 66)
+        );
+        assert_eq!(
+            proved::read_field(short, 100, 7),
+            reference::read_field(short, 100, 7)
+        );
     }
 }
 
 /// Every call of the table, in its order.
 pub fn all() -> Vec<Case> {
-    refused_alike();
-    let [judge, extends, marshal] = growing(64).map(|mut case| {
-        case.name += ", longest list";
-        case
-    });
+    let [judge, extends, marshal] = growing(64);
     let telegram = lists::telegram();
     let r3 = [&[0x13], &telegram[1..40]].concat();
     let mut cases = vec![judge];
     cases.extend(reads());
-    cases.extend([marshal, compose(), take("take R1", telegram), take("take R3", r3), extends]);
-    cases.extend([e_read("E read, a request", 0x9001), e_read("E read, a report", 0x9A01)]);
-    cases.extend([resolve("resolve 63 vehicles, coaches", 67), resolve("resolve 63 vehicles, all", 66)]);
+    cases.extend([
+        marshal,
+        compose(),
+        take("take R1", telegram),
+        take("take R3", r3),
+        extends,
+    ]);
+    cases.extend([
+        e_read("E read, a request", 0x9001),
+        e_read("E read, a report", 0x9A01),
+    ]);
+    cases.extend([
+        resolve("resolve 63 vehicles, coaches", 67),
+        resolve("resolve 63 vehicles, all", 66),
+    ]);
     for width in [1, 4, 8, 16, 48, 64] {
         cases.extend([read_fields(width), write_fields(width)]);
     }

@@ -1,10 +1,6 @@
-//! Instructions, counted by valgrind's callgrind: it writes a file each time [`mark`] is entered, with what was executed since the last.
+//! Instructions. What counts them says how many were executed each time [`bench_mark`] is entered, since the last time.
 
 use crate::cases::Case;
-use std::fs;
-
-/// How often a counted run is made; the cost of the loop around it is spread over as many.
-const RUNS: u64 = 8;
 
 #[no_mangle]
 #[inline(never)]
@@ -12,29 +8,21 @@ pub extern "C" fn bench_mark() {
     std::hint::black_box(());
 }
 
-/// Runs both sides of every case, a mark before and after each.
-pub fn run(cases: &mut [Case]) {
-    for case in cases {
-        for side in [&mut case.proved, &mut case.rust] {
-            side(1);
-            bench_mark();
-            side(RUNS);
-            bench_mark();
-        }
+/// Runs both sides of every case, each once and then, between two marks, so often.
+pub fn run(cases: Vec<Case>, runs: u64) {
+    let sides = cases.into_iter().flat_map(|case| [case.proved, case.rust]);
+    for mut side in sides {
+        side(1);
+        bench_mark();
+        side(runs);
+        bench_mark();
     }
 }
 
-/// What one file says was executed.
-fn executed(file: &str) -> f64 {
-    let text = fs::read_to_string(file).unwrap_or_else(|error| panic!("{file}: {error}"));
-    let line = text.lines().find_map(|line| line.strip_prefix("summary: "));
-    line.and_then(|count| count.trim().parse().ok()).unwrap_or_else(|| panic!("{file} has no summary"))
-}
-
-/// The counts for one call of each case, proved and not, from the files `NAME.1`, `NAME.2` and so on.
-pub fn read(name: &str, cases: &[Case]) -> Vec<(f64, f64)> {
-    let counted = |number: usize, case: &Case| executed(&format!("{name}.{number}")) / (RUNS * case.calls) as f64;
-    // The files of a case: before its first mark, the proved runs, between, the other's runs.
-    let of = |(number, case)| (counted(4 * number + 2, case), counted(4 * number + 4, case));
-    cases.iter().enumerate().map(of).collect()
+/// The instructions of one call of each case, proved and not, from the numbers at the marks.
+pub fn read(cases: &[Case], runs: u64, marks: &[f64]) -> Vec<(f64, f64)> {
+    assert_eq!(marks.len(), 4 * cases.len(), "four marks a case");
+    let one = |case: &Case, count: f64| count / (runs * case.calls) as f64;
+    let of = |(case, marks): (&Case, &[f64])| (one(case, marks[1]), one(case, marks[3]));
+    cases.iter().zip(marks.chunks(4)).map(of).collect()
 }

@@ -103,7 +103,9 @@ pub fn values(units: usize) -> Vec<u64> {
 
 /// One mark for each check: ok, and every fourth forced.
 pub fn marks(units: usize) -> Vec<u8> {
-    (0..units).map(|number| 1 + u8::from(number % 4 == 3)).collect()
+    (0..units)
+        .map(|number| 1 + u8::from(number % 4 == 3))
+        .collect()
 }
 
 /// An R1 under the longest list.
@@ -119,14 +121,17 @@ pub fn telegram() -> Vec<u8> {
 pub fn store(telegram: &[u8]) -> Vec<u8> {
     let mut store = vec![0; 63 * 133];
     for vehicle in 1..=63 {
-        reference::take(&mut store, vehicle, STAMP, telegram).expect("the telegram of the bench is taken");
+        reference::take(&mut store, vehicle, STAMP, telegram)
+            .expect("the telegram of the bench is taken");
     }
     store
 }
 
 /// 63 vehicles: the first leads, the last is led, between them coaches, every fourth a sleeping car.
 pub fn train() -> Vec<u8> {
-    let mut marks: Vec<u8> = (0..63).map(|number| if number % 4 == 0 { 18 } else { 2 }).collect();
+    let mut marks: Vec<u8> = (0..63)
+        .map(|number| if number % 4 == 0 { 18 } else { 2 })
+        .collect();
     marks[0] = 5;
     marks[62] = 12;
     marks

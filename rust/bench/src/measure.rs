@@ -42,7 +42,15 @@ fn times(mut samples: Vec<Duration>, calls: u64) -> Times {
 pub fn both(case: &mut Case) -> (Times, Times) {
     let (ours, theirs) = (runs_of(&mut case.proved), runs_of(&mut case.rust));
     let (proved, rust) = (0..SAMPLES)
-        .map(|_| (sample(&mut case.proved, ours), sample(&mut case.rust, theirs)))
+        .map(|_| {
+            (
+                sample(&mut case.proved, ours),
+                sample(&mut case.rust, theirs),
+            )
+        })
         .unzip();
-    (times(proved, ours * case.calls), times(rust, theirs * case.calls))
+    (
+        times(proved, ours * case.calls),
+        times(rust, theirs * case.calls),
+    )
 }

@@ -66,21 +66,46 @@ extern "C" {
     fn df_extends(to: To<Extending>, a: *const u8, a_len: usize, b: *const u8, b_len: usize);
     #[rustfmt::skip]
     fn df_read(
-        to: To<Read>, list: *const u8, list_len: usize, store: *const u8, store_len: usize, clock: u32, vehicle: u64, signal: u64,
+        to: To<Read>,
+        list: *const u8,
+        list_len: usize,
+        store: *const u8,
+        store_len: usize,
+        clock: u32,
+        vehicle: u64,
+        signal: u64,
     );
     #[rustfmt::skip]
     fn df_marshal(
-        to: To<Marshalled>, list: *const u8, list_len: usize, store: *const u8, store_len: usize, clock: u32, data: *mut u8,
+        to: To<Marshalled>,
+        list: *const u8,
+        list_len: usize,
+        store: *const u8,
+        store_len: usize,
+        clock: u32,
+        data: *mut u8,
         data_len: usize,
     );
     #[rustfmt::skip]
     fn df_compose(
-        list: *const u8, list_len: usize, kind: u64, values: *const u64, values_len: usize, marks: *const u8, marks_len: usize,
-        out: *mut u8, out_len: usize,
+        list: *const u8,
+        list_len: usize,
+        kind: u64,
+        values: *const u64,
+        values_len: usize,
+        marks: *const u8,
+        marks_len: usize,
+        out: *mut u8,
+        out_len: usize,
     ) -> Outcome;
     #[rustfmt::skip]
     fn df_take(
-        store: *mut u8, store_len: usize, vehicle: u64, clock: u32, telegram: *const u8, telegram_len: usize,
+        store: *mut u8,
+        store_len: usize,
+        vehicle: u64,
+        clock: u32,
+        telegram: *const u8,
+        telegram_len: usize,
     ) -> Outcome;
     fn df_resolve(marks: *const u8, marks_len: usize, address: u64) -> Resolved;
     fn df_e_read(telegram: *const u8, telegram_len: usize) -> ERead;
@@ -112,13 +137,35 @@ pub fn extends(a: &[u8], b: &[u8]) -> Extending {
 #[inline(always)]
 pub fn read(list: &[u8], store: &[u8], now: u32, vehicle: u64, signal: u64) -> Read {
     let (octets, slots) = (list.as_ptr(), store.as_ptr());
-    answer(|to| unsafe { df_read(to, octets, list.len(), slots, store.len(), now, vehicle, signal) })
+    answer(|to| unsafe {
+        df_read(
+            to,
+            octets,
+            list.len(),
+            slots,
+            store.len(),
+            now,
+            vehicle,
+            signal,
+        )
+    })
 }
 
 #[inline(always)]
 pub fn marshal(list: &[u8], store: &[u8], now: u32, data: &mut [u8]) -> Marshalled {
     let (octets, slots, fields) = (list.as_ptr(), store.as_ptr(), data.as_mut_ptr());
-    answer(|to| unsafe { df_marshal(to, octets, list.len(), slots, store.len(), now, fields, data.len()) })
+    answer(|to| unsafe {
+        df_marshal(
+            to,
+            octets,
+            list.len(),
+            slots,
+            store.len(),
+            now,
+            fields,
+            data.len(),
+        )
+    })
 }
 
 #[inline(always)]
@@ -173,7 +220,10 @@ pub trait Said {
 fn unless_refused<T>(number: u32, carried: u64, answer: T) -> Result<T, Refusal> {
     match number {
         0 => Ok(answer),
-        _ => Err(Refusal { number: number as u8, carried }),
+        _ => Err(Refusal {
+            number: number as u8,
+            carried,
+        }),
     }
 }
 
@@ -213,7 +263,10 @@ impl Said for Extending {
 impl Said for Read {
     type As = Result<Reading, Refusal>;
     fn said(self) -> Self::As {
-        let reading = Reading { value: self.value, reason: self.reason as u8 };
+        let reading = Reading {
+            value: self.value,
+            reason: self.reason as u8,
+        };
         unless_refused(self.refusal, self.carried, reading)
     }
 }
@@ -228,7 +281,14 @@ impl Said for Marshalled {
 impl Said for Resolved {
     type As = Result<Members, Refusal>;
     fn said(self) -> Self::As {
-        unless_refused(self.refusal, 0, Members { set: self.set, size: self.size })
+        unless_refused(
+            self.refusal,
+            0,
+            Members {
+                set: self.set,
+                size: self.size,
+            },
+        )
     }
 }
 

@@ -1,0 +1,131 @@
+#!/usr/bin/env bash
+# bench.sh [times|counts|x86]: the proved library beside the independent implementation, as tables in Markdown. Outside the gate.
+#   times    medians and fastest samples, all in one process
+#   counts   instructions executed, counted by valgrind's callgrind
+#   x86      instructions executed of x86-64 code, counted by the emulator: some minutes
+# On x86-64 the product's own archive is linked. On another machine emulated times would mean nothing: there the module that the archive
+# is made of is compiled for the machine, by the kit's compiler with the kit's flags.
+set -eu
+cd "$(dirname "$0")/.."
+. .ci/native.sh
+machine=$(uname -m)
+kit=$(dirname "$(dirname "$(rt doc)")")
+tools=$kit/on/$machine/toolchain
+room=$PWD/target/bench
+
+# link_all FROM TO: what is in one folder, into another that does not have it
+link_all() {
+    local file
+    mkdir -p "$2"
+    for file in "$1"/*; do
+        [ -e "$2/$(basename "$file")" ] || ln -s "$file" "$2/"
+    done
+}
+
+# A kit like the installed one, whose compiler keeps the module that it is given, and the words.
+keeping_kit() {
+    local own=$room/kit/on/$machine
+    rm -rf "$room/kit"
+    mkdir -p "$own/toolchain/bin"
+    printf '#!/bin/sh\nprintf "%%s\\n" "$@" >"%s/words"\ncp module.bc "%s/"\nexec "%s" "$@"\n' "$room" "$room" "$tools/bin/clang" \
+        >"$own/toolchain/bin/clang"
+    chmod +x "$own/toolchain/bin/clang"
+    link_all "$tools/bin" "$own/toolchain/bin"
+    link_all "$tools" "$own/toolchain"
+    link_all "$kit/on/$machine" "$own"
+    link_all "$kit" "$room/kit"
+}
+
+# Proves the library, writes its archive, and keeps its module as text.
+module() {
+    local text=$room/module.ll
+    [ -e "$text" ] && [ -e target/staticlib/libdustferrule.a ] && [ -z "$(find crates crates.txt -newer "$text" -print -quit)" ] && return 0
+    keeping_kit
+    RATTLE_HOME=$room/kit rt staticlib dustferrule
+    "$tools/bin/clang" --target=x86_64-unknown-linux-gnu -S -emit-llvm -Xclang -disable-llvm-passes -x ir "$room/module.bc" -o "$text"
+}
+
+# text_for MACHINE: a module of x86-64 as one of the machine
+text_for() {
+    [ "$1" != x86_64 ] || exec cat
+    sed -e '/^target datalayout/d' -e "s/^target triple.*/target triple = \"$1-unknown-linux-gnu\"/" -e 's/"target-cpu"="x86-64"//'
+}
+
+# archive MACHINE NAME: the module on standard input, compiled with the words that the kit compiles it with
+archive() {
+    local to=$room/$1 words=() word
+    mkdir -p "$to"
+    (text_for "$1") >"$to/$2.ll"
+    while read -r word; do
+        case $word in
+        --target=*) words+=("--target=$1-unknown-linux-gnu") ;;
+        -march=*) [ "$1" != x86_64 ] || words+=("$word") ;;
+        module.bc) words+=("$to/$2.ll") ;;
+        module.o) words+=("$to/$2.o") ;;
+        *) words+=("$word") ;;
+        esac
+    done <"$room/words"
+    "$tools/bin/clang" "${words[@]}"
+    rm -f "$to/lib$2.a"
+    "$tools/bin/llvm-ar" rcs "$to/lib$2.a" "$to/$2.o"
+}
+
+# libraries MACHINE: the library, and its field functions, which it does not export, from the same module
+libraries() {
+    module >&2
+    if [ "$1" = x86_64 ]; then
+        mkdir -p "$room/$1" && cp target/staticlib/libdustferrule.a "$room/$1/"
+    else
+        archive "$1" dustferrule <"$room/module.ll"
+    fi
+    { sed 's/^define \(.*@df_\)/define internal \1/' "$room/module.ll" && cat rust/bench/fields.ll; } | archive "$1" fields
+}
+
+# Debian's rustc where native.sh installs it, since it has the LLVM that the kit's compiler has.
+cargo_here() {
+    if [ -x /usr/bin/rustc ]; then RUSTC=/usr/bin/rustc /usr/bin/cargo "$@"; else cargo "$@"; fi
+}
+
+# built CARGO [WORDS..]: the bench
+built() {
+    local cargo=$1
+    shift
+    (cd rust && "$cargo" build "$@" --locked -q --profile measured -p bench)
+}
+
+times() {
+    libraries "$machine"
+    BENCH_LIB=$room/$machine built cargo_here
+    rust/target/measured/bench
+}
+
+counts() {
+    need valgrind valgrind
+    libraries "$machine"
+    BENCH_LIB=$room/$machine built cargo_here
+    rm -f "$room"/callgrind*
+    valgrind -q --tool=callgrind --callgrind-out-file="$room/callgrind" --dump-before=bench_mark rust/target/measured/bench count 8
+    # A file for each mark, and one for the end.
+    local number=1
+    while [ -e "$room/callgrind.$number" ]; do
+        sed -n 's/^summary: //p' "$room/callgrind.$number"
+        number=$((number + 1))
+    done >"$room/counts"
+    rust/target/measured/bench counted 8 "$room/counts"
+}
+
+# The emulator names the place of every instruction that it executes.
+x86() {
+    local program=rust/target/x86_64-unknown-linux-gnu/measured/bench mark
+    libraries x86_64
+    BENCH_LIB=$room/x86_64 built cargo_x86 --target x86_64-unknown-linux-gnu
+    mark=$(nm "$program" | sed -n 's/ T bench_mark$//p')
+    "${RUN:-qemu-x86_64}" -one-insn-per-tb -d exec,nochain -D /dev/stdout "$program" count 1 |
+        awk -v mark="/$mark/" 'index($0, mark) { print n; n = 0 } { n++ }' >"$room/counts-x86"
+    "${RUN:-qemu-x86_64}" "$program" counted 1 "$room/counts-x86"
+}
+
+case ${1:-times} in
+times | counts | x86) "${1:-times}" ;;
+*) echo "usage: bench.sh [times|counts|x86]" >&2; exit 2 ;;
+esac

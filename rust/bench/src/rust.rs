@@ -1,0 +1,65 @@
+//! The independent implementation, each function a call as the proved one is, whose archive is never inlined into the bench.
+
+use reference::{Counts, EReading, Extends, Members, Reading, Refusal};
+
+#[inline(never)]
+pub fn judge(list: &[u8]) -> Result<Counts, Refusal> {
+    reference::judge(list)
+}
+
+#[inline(never)]
+pub fn extends(a: &[u8], b: &[u8]) -> Extends {
+    reference::extends(a, b)
+}
+
+#[inline(never)]
+pub fn read(
+    list: &[u8],
+    store: &[u8],
+    now: u32,
+    vehicle: u64,
+    signal: u64,
+) -> Result<Reading, Refusal> {
+    reference::read(list, store, now, vehicle, signal)
+}
+
+#[inline(never)]
+pub fn marshal(list: &[u8], store: &[u8], now: u32, data: &mut [u8]) -> Result<u64, Refusal> {
+    reference::marshal(list, store, now, data)
+}
+
+#[inline(never)]
+pub fn compose(
+    list: &[u8],
+    kind: u64,
+    values: &[u64],
+    marks: &[u8],
+    out: &mut [u8],
+) -> Result<(), Refusal> {
+    reference::compose(list, kind, values, marks, out)
+}
+
+#[inline(never)]
+pub fn take(store: &mut [u8], vehicle: u64, now: u32, telegram: &[u8]) -> Result<(), Refusal> {
+    reference::take(store, vehicle, now, telegram)
+}
+
+#[inline(never)]
+pub fn resolve(marks: &[u8], address: u64) -> Result<Members, Refusal> {
+    reference::resolve(marks, address)
+}
+
+#[inline(never)]
+pub fn e_read(telegram: &[u8]) -> Result<EReading, Refusal> {
+    reference::e_read(telegram)
+}
+
+#[inline(never)]
+pub fn read_field(octets: &[u8], start: usize, width: usize) -> u64 {
+    reference::read_field(octets, start, width)
+}
+
+#[inline(never)]
+pub fn write_field(octets: &mut [u8], start: usize, width: usize, value: u64) {
+    reference::write_field(octets, start, width, value)
+}
