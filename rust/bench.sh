@@ -116,13 +116,15 @@ counts() {
 
 # The emulator names the place of every instruction that it executes.
 x86() {
-    local program=rust/target/x86_64-unknown-linux-gnu/measured/bench mark
+    [ "$machine" != x86_64 ] || { counts; return; }
+    local program=rust/target/x86_64-unknown-linux-gnu/measured/bench mark step=-one-insn-per-tb
+    "$RUN" -h | grep -q -e "$step" || step=-singlestep
     libraries x86_64
     BENCH_LIB=$room/x86_64 built cargo_x86 --target x86_64-unknown-linux-gnu
     mark=$(nm "$program" | sed -n 's/ T bench_mark$//p')
-    "${RUN:-qemu-x86_64}" -one-insn-per-tb -d exec,nochain -D /dev/stdout "$program" count 1 |
+    "$RUN" "$step" -d exec,nochain -D /dev/stdout "$program" count 1 |
         awk -v mark="/$mark/" 'index($0, mark) { print n; n = 0 } { n++ }' >"$room/counts-x86"
-    "${RUN:-qemu-x86_64}" "$program" counted 1 "$room/counts-x86"
+    "$RUN" "$program" counted 1 "$room/counts-x86"
 }
 
 case ${1:-times} in
