@@ -198,6 +198,15 @@ fn e_read(name: &str, code: u16) -> Case {
     )
 }
 
+fn check_place(bit: u64) -> Case {
+    said(
+        "check place, the last row of the grouping",
+        vec![],
+        move |_| proved::check_place(black_box(bit)),
+        move |_| rust::check_place(black_box(bit)),
+    )
+}
+
 fn resolve(name: &str, address: u64) -> Case {
     let marks = leak(lists::train());
     said(
@@ -320,6 +329,7 @@ pub fn all() -> Vec<Case> {
         resolve("resolve 63 vehicles, coaches", 67),
         resolve("resolve 63 vehicles, all", 66),
     ]);
+    cases.push(check_place(583));
     for width in [1, 4, 8, 16, 48, 64] {
         cases.extend([read_fields(width), write_fields(width)]);
     }

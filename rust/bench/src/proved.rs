@@ -52,6 +52,12 @@ pub struct Resolved {
 }
 
 #[repr(C)]
+pub struct Placed {
+    refusal: u32,
+    place: u64,
+}
+
+#[repr(C)]
 pub struct ERead {
     refusal: u32,
     code: u32,
@@ -107,6 +113,7 @@ extern "C" {
         telegram: *const u8,
         telegram_len: usize,
     ) -> Outcome;
+    fn df_check_place(bit: u64) -> Placed;
     fn df_resolve(marks: *const u8, marks_len: usize, address: u64) -> Resolved;
     fn df_e_read(telegram: *const u8, telegram_len: usize) -> ERead;
 
@@ -189,6 +196,11 @@ pub fn compose(list: &[u8], kind: u64, values: &[u64], marks: &[u8], out: &mut [
 pub fn take(store: &mut [u8], vehicle: u64, now: u32, telegram: &[u8]) -> Outcome {
     let (slots, octets) = (store.as_mut_ptr(), telegram.as_ptr());
     unsafe { df_take(slots, store.len(), vehicle, now, octets, telegram.len()) }
+}
+
+#[inline(always)]
+pub fn check_place(bit: u64) -> Placed {
+    unsafe { df_check_place(bit) }
 }
 
 #[inline(always)]
@@ -289,6 +301,13 @@ impl Said for Resolved {
                 size: self.size,
             },
         )
+    }
+}
+
+impl Said for Placed {
+    type As = Result<u64, Refusal>;
+    fn said(self) -> Self::As {
+        unless_refused(self.refusal, 0, self.place)
     }
 }
 

@@ -45,6 +45,11 @@ pub fn take(store: &mut [u8], vehicle: u64, now: u32, telegram: &[u8]) -> Result
 }
 
 #[inline(never)]
+pub fn check_place(bit: u64) -> Result<u64, Refusal> {
+    reference::check_place(bit)
+}
+
+#[inline(never)]
 pub fn resolve(marks: &[u8], address: u64) -> Result<Members, Refusal> {
     reference::resolve(marks, address)
 }
