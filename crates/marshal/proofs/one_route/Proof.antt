@@ -1,4 +1,5 @@
 -- `marshal::one_route` is safe and ends: an accepted list's route names a signal and a vehicle. Assumes nothing.
+use Prim.Native.Nat.{_<_}
 use mathlib.Core.Path.{ap}
 use native.Mathlib.Omega.{arith}
 use denote.Ref.{now}
@@ -14,17 +15,18 @@ kept : (s : tie.Start) →
     RouteKept (l .signals) (l .signal) (l .route) (s .args .r)
 kept s = kept-of (now (s .args .list)) (countsOf (s .args .n)) (s .pre .0 .laid) .route (s .args .r) (s .pre .1)
 
+exists : (c : tie.After-route-in) → c .route-in .result .signal < c .before .before .before .args .n .signals
+exists c = omega (arith, kept (c .before .before .before) .exists, ap (λ (t : Route). t .signal) (c .route-in .ensures .is))
+
 signal-in-requires : tie.Need-signal-in-requires
-signal-in-requires c κs =
-    let s = c .before .before .before in
-    (s .pre .0 .laid, omega (arith, kept s .exists, ap (λ (t : Route). t .signal) (c .route-in .ensures .is)))
+signal-in-requires c κs = (c .before .before .before .pre .0 .laid, exists c)
 
 read-at-requires : tie.Need-read-at-requires
 read-at-requires c κs =
     let t = c .before in
     let s = t .before .before .before in
     let vehicle = ap (λ (t : Route). t .vehicle) (t .route-in .ensures .is) in
-    (signal-in-requires t κs, (s .pre .0 .whole, omega (arith, kept s .first, vehicle), omega (arith, kept s .last, vehicle)))
+    ((s .pre .0 .laid, exists t), (s .pre .0 .whole, omega (arith, kept s .first, vehicle), omega (arith, kept s .last, vehicle)))
 
 pub one-route-spec : {M : Type 1} → statement M
 one-route-spec =
