@@ -52,15 +52,17 @@ pub record Calls (xs : List ℕ) (type : ℕ) (values marks : List ℕ) (v stamp
   -- `read` of signal k under the list ys answers r at the clock value `now`
   pub read : readAnswer r ≡ reading ys store now v k
 
--- `told` is such a run of calls, with none of `take` between: what it ensures it has from the contracts of the three, so they fit this record
+-- a call that was done, by what the paper gives
 done : (a : Answer (List ℕ)) (old new sent : List ℕ) → a ≡ gives new → sent ≡ after old a → Written a old O.Done sent
 done a old new sent e q = record { outcome = rw e; octets = q }
 
-pub told-calls : (xs : List ℕ) (type : ℕ) (values marks out store : List ℕ) (v stamp : ℕ) (ys : List ℕ) (now k : ℕ) (sent held telegram next : List ℕ) (r : ReadOutcome)
-    → Told xs type values marks out store v stamp ys now k sent held r → stamp < turn
-    → composing xs type values marks (length out) ≡ gives telegram → taking store v stamp sent ≡ gives next
-    → Calls xs type values marks v stamp ys now k r
-told-calls xs type values marks out store v stamp ys now k sent held telegram next r t clock c e =
+-- `told` is such a run of calls, with none of `take` between: what it ensures it has from the contracts of the three, so they fit this record.
+-- That `take` is done need not be asked, for a vehicle of the 63 and a store of the right length
+pub told-calls : (xs : List ℕ) (type : ℕ) (values marks out store : List ℕ) (v stamp : ℕ) (ys : List ℕ) (now k : ℕ) (sent held telegram : List ℕ) (r : ReadOutcome)
+    → Told xs type values marks out store v stamp ys now k sent held r → stamp < turn → length store ≡ storeOctets → 1 ≤ v → v ≤ vehicles
+    → composing xs type values marks (length out) ≡ gives telegram → Calls xs type values marks v stamp ys now k r
+told-calls xs type values marks out store v stamp ys now k sent held telegram r t clock whole first last c =
+    let is : sent ≡ telegram = t .composed ∙ ap (after out) c in
     record {
       out = out;
       telegram = sent;
@@ -68,7 +70,7 @@ told-calls xs type values marks out store v stamp ys now k sent held telegram ne
       before = store;
       after = held;
       clock = clock;
-      took = done _ store next held e (t .took);
+      took = done _ store _ held (paper.composed-taken xs type values marks (length out) sent (c ∙ ap gives (sym is)) store v stamp whole first last) (t .took);
       store = held;
       later = none;
       read = t .read;
