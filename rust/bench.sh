@@ -1,11 +1,11 @@
 #!/usr/bin/env bash
-# bench.sh [times|counts|x86]: the proved library beside the independent implementation, as tables in Markdown. Outside the gate.
+# bench.sh [times|counts|page]: the proved library beside the independent implementation, as tables in Markdown. Outside the gate.
 #   times    medians and fastest samples, all in one process
-#   counts   instructions executed, counted by valgrind's callgrind
-#   x86      instructions executed of x86-64 code, counted by the emulator: some minutes
+#   counts   instructions executed: of x86-64 code, and of this machine's where it is another (some minutes: x86-64 is emulated)
+#   page     both, into docs/BENCHMARK.md
 # On x86-64 the product's own archive is linked. On another machine emulated times would mean nothing: there the module that the archive
 # is made of is compiled for the machine, by the kit's compiler with the kit's flags.
-set -eu
+set -euo pipefail
 cd "$(dirname "$0")/.."
 . .ci/native.sh
 machine=$(uname -m)
@@ -93,41 +93,61 @@ built() {
     (cd rust && "$cargo" build "$@" --locked -q --profile measured -p bench)
 }
 
-times() {
+timed() {
     libraries "$machine"
     BENCH_LIB=$room/$machine built cargo_here
     rust/target/measured/bench
 }
 
-counts() {
+# Valgrind writes a file at each mark.
+counted_here() {
     need valgrind valgrind
     libraries "$machine"
     BENCH_LIB=$room/$machine built cargo_here
     rm -f "$room"/callgrind*
-    valgrind -q --tool=callgrind --callgrind-out-file="$room/callgrind" --dump-before=bench_mark rust/target/measured/bench count 8
-    # A file for each mark, and one for the end.
+    valgrind -q --tool=callgrind --callgrind-out-file="$room/callgrind" --dump-before=bench_mark rust/target/measured/bench count "$RUNS"
     local number=1
     while [ -e "$room/callgrind.$number" ]; do
         sed -n 's/^summary: //p' "$room/callgrind.$number"
         number=$((number + 1))
-    done >"$room/counts"
-    rust/target/measured/bench counted 8 "$room/counts"
+    done >"$room/counts.$machine"
 }
 
 # The emulator names the place of every instruction that it executes.
-x86() {
-    [ "$machine" != x86_64 ] || { counts; return; }
+counted_emulated() {
     local program=rust/target/x86_64-unknown-linux-gnu/measured/bench mark step=-one-insn-per-tb
-    "$RUN" -h | grep -q -e "$step" || step=-singlestep
+    case $("$RUN" -h) in *"$step"*) ;; *) step=-singlestep ;; esac
     libraries x86_64
     BENCH_LIB=$room/x86_64 built cargo_x86 --target x86_64-unknown-linux-gnu
     mark=$(nm "$program" | sed -n 's/ T bench_mark$//p')
-    "$RUN" "$step" -d exec,nochain -D /dev/stdout "$program" count 1 |
-        awk -v mark="/$mark/" 'index($0, mark) { print n; n = 0 } { n++ }' >"$room/counts-x86"
-    "$RUN" "$program" counted 1 "$room/counts-x86"
+    "$RUN" "$step" -d exec,nochain -D /dev/stdout "$program" count "$RUNS" |
+        awk -v mark="/$mark/" 'index($0, mark) { print n; n = 0 } { n++ }' >"$room/counts.x86_64"
+}
+
+# How often a counted call is made.
+RUNS=2
+
+counted() {
+    local files=("$RUNS" "$room/counts.x86_64")
+    counted_here
+    if [ "$machine" != x86_64 ]; then
+        counted_emulated
+        files+=("$RUNS" "$room/counts.$machine")
+    fi
+    rust/target/measured/bench counted "${files[@]}"
+}
+
+page() {
+    need python3 python3
+    timed >"$room/times.md"
+    counted >"$room/counts.md"
+    python3 rust/bench/page.py times <"$room/times.md"
+    python3 rust/bench/page.py counts <"$room/counts.md"
 }
 
 case ${1:-times} in
-times | counts | x86) "${1:-times}" ;;
-*) echo "usage: bench.sh [times|counts|x86]" >&2; exit 2 ;;
+times) timed ;;
+counts) counted ;;
+page) page ;;
+*) echo "usage: bench.sh [times|counts|page]" >&2; exit 2 ;;
 esac

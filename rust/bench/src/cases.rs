@@ -32,6 +32,11 @@ fn repeated<T>(mut lent: Vec<u8>, call: impl Fn(&mut [u8]) -> T + 'static) -> Ru
     })
 }
 
+/// The loop around a call, without one.
+pub fn nothing() -> Run {
+    repeated(vec![], |_| ())
+}
+
 /// A call on both sides; refused here if the two answer or write something else.
 fn case<A: Debug + PartialEq, P: 'static, R: 'static>(
     name: &str,
@@ -95,7 +100,7 @@ pub fn growing(units: usize) -> [Case; 3] {
         ),
     ];
     cases.map(|mut case| {
-        case.name += &format!(", {} octets", list.len());
+        case.name += &format!(", list of {} octets", list.len());
         case
     })
 }

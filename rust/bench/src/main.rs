@@ -2,7 +2,7 @@
 //!
 //!     bench                       times, and how they grow
 //!     bench count RUNS            makes every call so often between two marks, for what counts instructions
-//!     bench counted RUNS FILE     the counts, one for each mark
+//!     bench counted RUNS FILE ..  the counts, one for each mark, of one machine or more
 
 mod cases;
 mod counts;
@@ -18,9 +18,9 @@ use measure::Times;
 const PARTS: [usize; 4] = [1, 2, 4, 8];
 
 fn growing() -> Vec<Case> {
-    PARTS
-        .iter()
-        .flat_map(|part| cases::growing(8 * part))
+    let call = |call: usize, part: usize| cases::growing(8 * part).into_iter().nth(call);
+    (0..3)
+        .flat_map(|number| PARTS.iter().filter_map(move |&part| call(number, part)))
         .collect()
 }
 
@@ -51,16 +51,15 @@ fn row(name: &str, (proved, rust): (Times, Times)) {
 
 fn timed() {
     cases::refused_alike();
-    for (first, cases) in [
-        ("call", cases::all()),
-        ("call under a list of so many octets", growing()),
-    ] {
-        println!("\n| {first} | proved, median | Rust, median | ratio | proved, fastest | Rust, fastest | ratio |");
-        println!("|---|---:|---:|---:|---:|---:|---:|");
+    for cases in [cases::all(), growing()] {
+        let times = ["proved, median", "Rust, median", "ratio"];
+        let fastest = ["proved, fastest", "Rust, fastest", "ratio"];
+        head(&[&["call"], &times[..], &fastest[..]].concat());
         for mut case in cases {
             let times = measure::both(&mut case);
             row(&case.name, times);
         }
+        println!();
     }
 }
 
@@ -68,32 +67,42 @@ fn all() -> Vec<Case> {
     cases::all().into_iter().chain(growing()).collect()
 }
 
-fn counted(runs: u64, file: &str) {
-    let marks = std::fs::read_to_string(file).expect("the file of the counts is read");
-    let marks: Vec<f64> = marks
-        .lines()
-        .map(|line| line.parse().expect("a count"))
-        .collect();
+/// The table's head: a word for each column, of which all but the first are numbers.
+fn head(columns: &[&str]) {
+    println!("| {} |", columns.join(" | "));
+    println!("|---|{}", "---:|".repeat(columns.len() - 1));
+}
+
+fn counted(files: &[&str]) {
     let cases = all();
-    println!("| call | proved | Rust | ratio |");
-    println!("|---|---:|---:|---:|");
-    for (case, (proved, rust)) in cases.iter().zip(counts::read(&cases, runs, &marks)) {
-        println!(
-            "| {} | {proved:.0} | {rust:.0} | {:.2} |",
-            case.name,
-            proved / rust
-        );
+    let mut columns = vec!["call"];
+    let mut counts = Vec::new();
+    for of in files.chunks_exact(2) {
+        columns.extend(["proved", "Rust", "ratio"]);
+        counts.push(counts::read(&cases, number(of[0]), of[1]));
     }
+    head(&columns);
+    for (row, case) in cases.iter().enumerate() {
+        let told = |of: &Vec<(f64, f64)>| {
+            let (proved, rust) = of[row];
+            format!("{proved:.0} | {rust:.0} | {:.2}", proved / rust)
+        };
+        let told: Vec<String> = counts.iter().map(told).collect();
+        println!("| {} | {} |", case.name, told.join(" | "));
+    }
+}
+
+fn number(word: &str) -> u64 {
+    word.parse().expect("a number of runs")
 }
 
 fn main() {
     let words: Vec<String> = std::env::args().skip(1).collect();
     let words: Vec<&str> = words.iter().map(String::as_str).collect();
-    let runs = |word: &str| word.parse().expect("a number of runs");
     match words[..] {
         [] => timed(),
-        ["count", number] => counts::run(all(), runs(number)),
-        ["counted", number, file] => counted(runs(number), file),
-        _ => panic!("usage: bench, bench count RUNS, or bench counted RUNS FILE"),
+        ["count", runs] => counts::run(all(), number(runs)),
+        ["counted", ref files @ ..] => counted(files),
+        _ => panic!("usage: bench, bench count RUNS, or bench counted RUNS FILE .."),
     }
 }

@@ -20,13 +20,11 @@ fn sample(run: &mut Run, runs: u64) -> Duration {
     start.elapsed()
 }
 
-/// How many runs a sample needs; the doubling warms the side up.
+/// How many runs a sample needs, told by the fastest of a few, since one may be interrupted; the doubling warms the side up.
 fn runs_of(run: &mut Run) -> u64 {
-    let mut runs = 1;
-    while sample(run, runs) < SAMPLE {
-        runs *= 2;
-    }
-    runs
+    let mut fastest = |runs| (0..5).map(|_| sample(run, runs)).min();
+    let enough = |runs: &u64| fastest(*runs) >= Some(SAMPLE);
+    (0..).map(|power| 1 << power).find(enough).unwrap_or(1)
 }
 
 fn times(mut samples: Vec<Duration>, calls: u64) -> Times {
