@@ -108,8 +108,10 @@ const ROWS: [Row; 17] = [
 pub fn check_place(bit: u64) -> Place
     ensures { λ r. ⌜ placeAnswer r ≡ checkPlace bit ⌝ }
 {
+    // Once, and not at each turn: a constant is built where it stands.
+    let rows = ROWS;
     for i in 0..17usize {
-        let row = ROWS[i];
+        let row = rows[i];
         if row.from <= bit {
             if bit < row.end {
                 return Place::At(row.place);

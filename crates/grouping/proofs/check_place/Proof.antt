@@ -15,10 +15,10 @@ use Rattle.grouping.proofs.check_place.Statement.{statement}
 use Rattle.grouping.proofs.check_place.Tie as tie
 
 abbrev Inv-loop : tie.InvT-loop
-Inv-loop bit i₀ i = (i ≤ 17) × (checkPlace bit ≡ placeIn (drop i rows) bit)
+Inv-loop bit t i₀ i = (i ≤ 17) × (checkPlace bit ≡ placeIn (drop i rows) bit)
 
 abbrev μ-loop : tie.MeasureT-loop
-μ-loop bit i₀ i = 17 - i
+μ-loop bit t i₀ i = 17 - i
 
 abbrev nothing : Row
 nothing = record { place = 0; from = 0; end = 0 }
