@@ -1,7 +1,7 @@
 // The marked cases (a) to (l) of document 01, run on the compiled calls. The table that is proved stands in crates/paper/specs/Marked.antt.
-use reading::ReadOutcome;
 use libc::STDOUT_FILENO;
 use marshalling::Marshalled;
+use reading::ReadOutcome;
 use refusals::Outcome;
 use shown::Kind;
 use shown::Showing;

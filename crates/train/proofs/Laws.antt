@@ -49,7 +49,6 @@ nobody-meets train a h n =
     let few : ltb 63 (length train) ≡ false = le-ltb 63 (length train) (h .few) in
     sym (goes-past _ 17 0 _ _ (ap₂ _||_ some few) (goes-past _ 18 0 _ _ (ap not (h .ruled)) (goes-past _ 19 0 _ _ (ap not (h .listed)) (refuses _ 20 0 _ (eq-eqb _ 0 z)))))
 
-
 pub refused-20 : (train : List Vehicle) (a : ℕ) → resolving train a ≡ refused 20 0 → Asked train a × ((v : ℕ) → 1 ≤ v → v ≤ length train → member train a v ≡ false)
 unfolding resolving membersOf
 refused-20 train a e =
