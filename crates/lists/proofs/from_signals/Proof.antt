@@ -26,7 +26,7 @@ part s =
     }
 
 opened : (c : tie.After-known-told2) → Opens (part (c .before .before .before .before .before .before)) (c .before .opened2 .given .0 .0)
-opened c = opens _ (c .before .before .before .«open» .ensures) _ (c .before .opened2 .given .1)
+opened c = opens (part (c .before .before .before .before .before .before)) (c .before .before .before .«open» .ensures) _ (c .before .opened2 .given .1)
 
 returns : tie.Need-returns
 unfolding fromSignals
