@@ -63,8 +63,6 @@ pub record OctetRead (x r : ℕ) : Type 0 where
   pub is : r ≡ x
   pub small : r < 256
 
--- the rule of a signal's entry but for the bits that it may share with a check
-unfoldable pub ownRule : ℕ → (ℕ → ℕ) → (ℕ → PaperSignal) → ℕ → Bool
-ownRule checks check signal k =
-    widthRule (signal k) && typeRule (signal k) && placeRule (signal k) && namedRule checks check (signal k) && valueRule (signal k)
-    && (eqb k 0 || orderRule (signal (k - 1)) (signal k))
+-- the rule of a signal's entry k, which is s behind p, but for the bits that it may share with a check
+unfoldable pub ownRule : ℕ → (ℕ → ℕ) → ℕ → PaperSignal → PaperSignal → Bool
+ownRule checks check k p s = widthRule s && typeRule s && placeRule s && namedRule checks check s && valueRule s && (eqb k 0 || orderRule p s)

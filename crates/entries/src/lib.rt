@@ -1,8 +1,10 @@
 // The entries of a signal list, read by value, and the rule of each. What has a `requires` is inner: its caller in the library shows it.
 ghost use mathlib.Core.Path.{_≡_};
 ghost use Prim.Native.Nat.{_+_, _-_, _^_, _<_, _≤_};
+ghost use mathlib.Core.Bool.{_&&_};
 ghost use lib.ListN.{length, getD};
-ghost use Rattle.paper.specs.SignalList.{entry, checkSize, signalSize, codeSize, routeSize, widest, checkAt, signalAt, codeAt, routeAt, checkRule, placeRule, namedRule, valueRule, orderRule, apart, codeOrder, codeRule, routeRule};
+ghost use lib.Dec.{ltb};
+ghost use Rattle.paper.specs.SignalList.{entry, checkSize, signalSize, codeSize, routeSize, widest, checkAt, signalAt, codeAt, routeAt, checkRule, placeRule, namedRule, valueRule, orderRule, codeOrder, codeRule, routeRule};
 ghost use Rattle.entries.specs.Entries.{signalOf, codeOf, CheckRead, SignalRead, CodeRead, RouteRead, OctetRead, Placeable, ownRule};
 
 pub struct Signal {
@@ -168,14 +170,27 @@ fn order_rule(p: Signal, s: Signal) -> bool
     (p.kind < s.kind) | (p.kind == s.kind) & (p.start + p.width <= s.start)
 }
 
-// Inner: signal k keeps its rule but for the checks that it may share a bit with. The width first: only then is 2^width computed.
-pub fn signal_own(list: &[u8], checks: usize, tail: &[u8], k: usize) -> bool
-    requires { ⌜ entry checkSize checks ≤ length (now list) ⌝ }
-    requires { ⌜ entry signalSize (k + 1) ≤ length (now tail) ⌝ }
-    ensures { λ r. ⌜ r ≡ ownRule checks (checkAt (now (list .entry))) (signalAt (now (tail .entry))) k ⌝ }
+// Inner: stands before the first signal; nothing is asked of it.
+pub fn no_signal() -> Signal
+    ensures { λ r. ⌜ Placeable r ⌝ }
 {
-    let s = signal_at(tail, k);
-    let p = signal_at(tail, before(k));
+    Signal {
+        start: 0,
+        width: 0,
+        kind: 0,
+        check: 0,
+        since: 0,
+        limit: 0,
+        replacement: 0,
+    }
+}
+
+// Inner: signal k, which is s behind p, keeps its rule but for the checks that it may share a bit with. The width first: only then is 2^width computed.
+pub fn signal_own(list: &[u8], checks: usize, k: usize, p: Signal, s: Signal) -> bool
+    requires { ⌜ entry checkSize checks ≤ length (now list) ⌝ }
+    requires { ⌜ (Placeable p) × (Placeable s) ⌝ }
+    ensures { λ r. ⌜ r ≡ ownRule checks (checkAt (now (list .entry))) k (signalOf p) (signalOf s) ⌝ }
+{
     let w = s.width;
     if 48 < w {
         return false;
@@ -189,12 +204,16 @@ pub fn signal_own(list: &[u8], checks: usize, tail: &[u8], k: usize) -> bool
         & ((k == 0) | order_rule(p, s))
 }
 
-// Inner: the signal shares no bit with the check at `place`.
-pub fn is_apart(s: Signal, place: usize) -> bool
-    requires { ⌜ (Placeable s) × (place < 65536) ⌝ }
-    ensures { λ r. ⌜ r ≡ apart (signalOf s) place ⌝ }
+// Inner: check j exists and lies before the bit `end`.
+pub fn check_before(list: &[u8], checks: usize, j: usize, end: usize) -> bool
+    requires { ⌜ entry checkSize checks ≤ length (now list) ⌝ }
+    ensures { λ r. ⌜ r ≡ (ltb j checks && ltb (checkAt (now (list .entry)) j) end) ⌝ }
 {
-    (s.start + s.width <= place) | (place + 2 <= s.start)
+    if j < checks {
+        check_at(list, j) < end
+    } else {
+        false
+    }
 }
 
 fn code_order(p: Code, c: Code) -> bool

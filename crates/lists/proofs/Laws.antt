@@ -1,18 +1,21 @@
--- How a judge puts its answer together, and that an accepted list is laid out as its counts say. Assumes nothing.
-use Prim.Native.Nat.{ℕ, _+_, _*_, _≤_, _<_}
+-- How a judge puts its answer together, which checks a field need not be tested against, and that an accepted list is laid out as its counts say. Assumes nothing.
+use Prim.Native.Nat.{ℕ, zero, suc, _+_, _-_, _*_, _≤_, _<_}
 use mathlib.Core.Path.{_≡_, refl, sym, ap, _∙_}
-use mathlib.Core.Bool.{Bool}
+use mathlib.Core.Bool.{Bool, true, false, cond, _&&_, or-true}
 use mathlib.Core.List.{List}
-use native.Mathlib.Nat.{lt-of-mul-lt-mul-left, mul-lt-mul-of-pos-left}
+use native.Mathlib.Nat.{le-refl, add-zero, add-suc, lt-of-mul-lt-mul-left, mul-lt-mul-of-pos-left}
 use native.Mathlib.Decide.{decLt}
 use native.Mathlib.Omega.{arith}
 use lib.ListN.{length}
-use borrow.Author.Tests.{lt-ltb, le-ltb}
+use lib.Dec.{ltb, leb}
+use borrow.Author.Count.{below-none, below-more}
+use borrow.Author.Tests.{lt-ltb, le-ltb, le-leb, lt-leb, ltb-true, ltb-false, leb-true}
 use Rattle.paper.specs.Answer.{Answer, gives, refused, refuseIf, andThen, shift}
-use Rattle.paper.specs.First.{firstBad}
-use Rattle.paper.specs.SignalList.{Counts as PaperCounts, entry, rest, opening, judgeEntries, judgeSection, judge}
+use Rattle.paper.specs.First.{firstBad, all}
+use Rattle.paper.specs.SignalList.{Signal, Counts as PaperCounts, fieldEnd, entry, rest, checkRule, apart, clearRule, opening, judgeEntries, judgeSection, judge}
 use Rattle.paper.proofs.AnswerLaws.{one-answer}
-use Rattle.paper.proofs.ListLaws.{opened-of, Laid, laid, RefusedWithin, within-rest}
+use Rattle.paper.proofs.FirstLaws.{first-passed, all-true, all-false, all-at}
+use Rattle.paper.proofs.ListLaws.{both, check-kept, opened-of, Laid, laid, RefusedWithin, within-rest}
 use Rattle.refusals.specs.declared.Refusal.{Refusal}
 use Rattle.refusals.specs.Refusal.{refusalOf}
 use Rattle.refusals.proofs.Laws.{numbered, numbered-of}
@@ -65,14 +68,19 @@ module _ {p : Part} {n : ℕ} (o : Opens p n) where
     unfolding judgeSection judgeEntries refuseIf
     entry-broken h = rw (← (o .told), lt-ltb (firstBad (p .rule) n) n (lt-of-mul-lt-mul-left (p .size) (omega arith)), is)
 
-    pub entries-kept : 0 < p .size → entry (p .size) n ≤ at → (y : Answer PaperCounts) → y ≡ p .next n → y ≡ judgedPart p
-    unfolding judgeSection judgeEntries refuseIf
-    entries-kept pos h y q =
-        let all : n ≤ firstBad (p .rule) n = elim (decLt (firstBad (p .rule) n) n) [
-          | yes lt ↦ let less : p .size * firstBad (p .rule) n < p .size * n = mul-lt-mul-of-pos-left lt pos in omega arith
-          | no ge ↦ omega arith
-        ] in
-        rw (← (o .told), le-ltb (firstBad (p .rule) n) n all) q
+    module _ (pos : 0 < p .size) (h : entry (p .size) n ≤ at) where
+      none-broken : n ≤ firstBad (p .rule) n
+      none-broken = elim (decLt (firstBad (p .rule) n) n) [
+        | yes lt ↦ let less : p .size * firstBad (p .rule) n < p .size * n = mul-lt-mul-of-pos-left lt pos in omega arith
+        | no ge ↦ omega arith
+      ]
+
+      pub entries-kept : (y : Answer PaperCounts) → y ≡ p .next n → y ≡ judgedPart p
+      unfolding judgeSection judgeEntries refuseIf
+      entries-kept y q = rw (← (o .told), le-ltb (firstBad (p .rule) n) n none-broken) q
+
+      pub all-kept : all (p .rule) n ≡ true
+      all-kept = all-true (p .rule) n (λ k lt. first-passed (p .rule) n k (omega (arith, none-broken)))
 
   -- x is what the judge of the rest answered: it can be moved to its place, and is then what follows
   module _ (from : ℕ → List ℕ → Answer PaperCounts) {x : Answer PaperCounts} {ys : List ℕ} (is : x ≡ from n ys) (past : ys ≡ rest (p .size) n (p .octets)) where
@@ -81,6 +89,56 @@ module _ {p : Part} {n : ℕ} (o : Opens p n) where
 
     pub follows : {y : Answer PaperCounts} → y ≡ shift (entry (p .size) n) x → y ≡ onward (p .size) (p .octets) from n
     follows e = e ∙ ap (shift (entry (p .size) n)) (is ∙ ap (from n) past)
+
+-- ---- signals against checks
+
+-- a loop over the checks stands at j: those before end at or before the bit `start`
+pub record Behind (checks : ℕ) (check : ℕ → ℕ) (start j : ℕ) : Type 0 where
+  pub within : j ≤ checks
+  pub each : (m : ℕ) → m < j → check m + 2 ≤ start
+
+module _ {checks : ℕ} {check : ℕ → ℕ} where
+  pub behind-none : (start : ℕ) → Behind checks check start 0
+  behind-none start = record { within = omega arith; each = below-none _ }
+
+  module _ {start j : ℕ} (b : Behind checks check start j) where
+    pub behind-more : j < checks → check j + 2 ≤ start → Behind checks check start (j + 1)
+    behind-more lt h = record { within = omega arith; each = below-more _ _ (b .each) h }
+
+    -- a field that starts no earlier has them behind it too
+    pub behind-resumed : (later : ℕ) → Behind checks check later (cond (leb start later) j 0)
+    behind-resumed later = by (leb start later) refl
+      where
+        by : (t : Bool) → leb start later ≡ t → Behind checks check later (cond t j 0)
+        by true e = record { within = b .within; each = λ m h. omega (arith, b .each m h, leb-true start later e) }
+        by false e = behind-none later
+
+module _ (checks : ℕ) (check : ℕ → ℕ) where
+  module _ (kept : all (checkRule check) checks ≡ true) where
+    checks-rise : (d j : ℕ) → j + d < checks → check j ≤ check (j + d)
+    checks-rise zero j lt = rw add-zero (le-refl _)
+    checks-rise (suc d) j lt =
+        let z : suc (j + d) - 1 ≡ j + d = omega arith in
+        let r = rw z at (check-kept check (suc (j + d)) (all-at (checkRule check) checks kept (suc (j + d)) (omega arith)) .rises (omega arith)) in
+        rw add-suc (omega (arith, r, checks-rise d j (omega arith)))
+
+  module _ (s : Signal) (j : ℕ) where
+    -- no check from j on lies before the field's end: it shares a bit with none
+    pub shares-none : all (checkRule check) checks ≡ true → Behind checks check (s .start) j → (ltb j checks && ltb (check j) (fieldEnd s)) ≡ false
+        → true ≡ clearRule checks check s
+    shares-none kept b e = sym (all-true (λ m. apart s (check m)) checks (λ m lt. elim (decLt m j) [
+      | yes h ↦ rw (le-leb (check m + 2) (s .start) (b .each m h), or-true)
+      | no ge ↦
+          let z : j + (m - j) ≡ m = omega arith in
+          let far : fieldEnd s ≤ check j = ltb-false _ _ (rw (lt-ltb j checks (omega arith)) at e) in
+          let r = rw z at (checks-rise kept (m - j) j (rw z lt)) in
+          rw (le-leb (fieldEnd s) (check m) (omega (arith, far, r)))
+    ]))
+
+    pub shares-one : (ltb j checks && ltb (check j) (fieldEnd s)) ≡ true → s .start < check j + 2 → false ≡ clearRule checks check s
+    shares-one e h =
+        let p = both _ _ e in
+        sym (all-false (λ m. apart s (check m)) checks j (ltb-true _ _ (p .0)) (rw (lt-leb (fieldEnd s) (check j) (ltb-true _ _ (p .1)), lt-leb (check j + 2) (s .start) h)))
 
 -- ---- what an accepted list keeps
 

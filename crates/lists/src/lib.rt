@@ -2,9 +2,11 @@
 // hands on the rest past its entries.
 ghost use mathlib.Core.Path.{_≡_};
 ghost use Prim.Native.Nat.{_-_, _^_, _≤_, _<_, max};
+ghost use mathlib.Core.Bool.{true, cond};
 ghost use lib.ListN.{length};
+ghost use lib.Dec.{leb};
 ghost use Rattle.paper.specs.Answer.{shift};
-ghost use Rattle.paper.specs.First.{firstBad};
+ghost use Rattle.paper.specs.First.{firstBad, all};
 ghost use Rattle.paper.specs.SignalList.{entry, checkSize, signalSize, codeSize, routeSize, mostSignals, checkAt, signalAt, codeAt, routeAt, checkRule, signalRule, codeRule, routeRule, opening, greatestSince, fromRoutes, fromCodes, fromSignals, judge as judgedList, rest as restOf, listOf, signalsPart, codesPart, routesPart};
 ghost use Rattle.paper.specs.Extends.{placeOf};
 ghost use Rattle.paper.proofs.ListLaws.{RefusedWithin, Laid};
@@ -86,28 +88,41 @@ fn first_bad_check(list: &[u8], n: usize) -> usize
     2 + 2 * n
 }
 
-// The same of n signals, each tested by its own rule and then against every check.
+// The first check that a field from s on may share a bit with: those before `from` end at or before the start of p.
+fn resumed(p: Signal, s: Signal, from: usize) -> usize
+    ensures { λ r. ⌜ r ≡ cond (leb (p .start) (s .start)) from 0 ⌝ }
+{
+    if p.start <= s.start { from } else { 0 }
+}
+
+// The same of n signals, each tested by its own rule and then against the checks from the first that may matter to the first at or past its end:
+// checks rise, and starts do within a type.
 fn first_bad_signal(list: &[u8], checks: usize, tail: &[u8], n: usize) -> usize
-    requires { ⌜ entry checkSize checks ≤ length (now list) ⌝ }
+    requires { ⌜ (entry checkSize checks ≤ length (now list)) × (all (checkRule (checkAt (now list))) checks ≡ true) ⌝ }
     requires { ⌜ entry signalSize n ≤ length (now tail) ⌝ }
     ensures { λ r. ⌜ r ≡ entry signalSize (firstBad (signalRule checks (checkAt (now (list .entry))) (signalAt (now (tail .entry)))) n) ⌝ }
 {
+    let mut p = entries::no_signal();
+    let mut from = 0;
     let mut k = 0;
     'signals: loop {
         if n <= k {
             break 'signals 2 + 16 * n;
         }
-        if !entries::signal_own(list, checks, tail, k) {
+        let s = entries::signal_at(tail, k);
+        if !entries::signal_own(list, checks, k, p, s) {
             break 'signals 2 + 16 * k;
         }
-        let s = entries::signal_at(tail, k);
-        let mut j = 0;
-        while j < checks {
-            if !entries::is_apart(s, entries::check_at(list, j)) {
+        let end = s.start + s.width;
+        let mut j = resumed(p, s, from);
+        while entries::check_before(list, checks, j, end) {
+            if s.start < entries::check_at(list, j) + 2 {
                 break 'signals 2 + 16 * k;
             }
             j += 1;
         }
+        from = j;
+        p = s;
         k += 1;
     }
 }
@@ -226,7 +241,7 @@ fn from_codes(sig: &[u8], signals: usize, checks: usize, tail: &[u8]) -> Judged
 
 // From its signals on; list starts at the checks' count.
 fn from_signals(list: &[u8], checks: usize, tail: &[u8]) -> Judged
-    requires { ⌜ entry checkSize checks ≤ length (now list) ⌝ }
+    requires { ⌜ (entry checkSize checks ≤ length (now list)) × (all (checkRule (checkAt (now list))) checks ≡ true) ⌝ }
     ensures { λ r. ⌜ judgedAnswer r ≡ fromSignals checks (checkAt (now (list .entry))) (now (tail .entry)) ⌝ }
 {
     let opened = open(tail, MOST_SIGNALS, 16);

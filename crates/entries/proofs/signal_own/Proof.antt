@@ -7,30 +7,18 @@ use Rattle.entries.proofs.signal_own.Tie as tie
 
 returns : tie.Need-returns
 unfolding ownRule
-returns c = simp (← (c .before .before .before .signal-at .ensures .is), lt-leb _ _ (c .if1 .taken), and-false)
+returns c = simp (lt-leb _ _ (c .if1 .taken), and-false)
 
 returns-2 : tie.Need-returns-2
 unfolding ownRule
 returns-2 c =
     let v = c .before in
-    let q = v .before .before .before .before .before in
-    rw (
-      ← (q .before .before .signal-at .ensures .is),
-      ← (q .before .before2 .ensures),
-      ← (q .signal-at2 .ensures .is),
-      ← (v .before .before .place-rule .ensures),
-      ← (v .before .named-rule .ensures),
-      ← (v .value-rule .ensures),
-      ← (c .order-rule .ensures),
-    )
+    rw (← (v .before .before .place-rule .ensures), ← (v .before .named-rule .ensures), ← (v .value-rule .ensures), ← (c .order-rule .ensures))
 
 pub signal-own-spec : {M : Type 1} → statement M
 signal-own-spec =
     tie.close
     (tie.spec
-    (λ c κs. search needs)
-    (λ c κs. search needs)
-    (λ c κs. search needs)
     returns
     (λ c κs. search needs)
     (λ c κs. search needs)

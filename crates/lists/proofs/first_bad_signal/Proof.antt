@@ -1,65 +1,115 @@
--- `lists::first_bad_signal` meets its contract. The outer invariant: every signal passed keeps its rule; the inner: the signal shares no bit with the checks
--- passed. Assumes nothing.
-use Prim.Native.Nat.{_-_}
-use mathlib.Core.Path.{_≡_, refl, ap, ap₂, _∙_}
+-- `lists::first_bad_signal` meets its contract. The outer invariant: every signal passed keeps its rule, and the checks before `from` end at or before the last
+-- one's start; the inner: the checks passed end at or before the signal's start. Assumes nothing.
+use Prim.Native.Nat.{ℕ, _+_, _-_, _^_, _<_}
+use mathlib.Core.Path.{_≡_, refl, sym, ap, _∙_}
+use mathlib.Core.List.{List}
+use mathlib.Core.Bool.{true, _&&_}
+use native.Mathlib.Omega.{arith}
+use lib.Dec.{ltb}
 use denote.Ref.{now}
+use borrow.Author.Tests.{ltb-true}
 use borrow.Author.Needs.{needs}
-use Rattle.paper.specs.SignalList.{entry, signalSize, checkAt, signalAt, apart, signalRule}
-use Rattle.paper.proofs.LoopLaws.{Passed, passed-none, passed-more, fails-here, not-all-here, fails-nowhere, all-passed}
+use Rattle.paper.specs.SignalList.{fieldEnd, entry, signalSize, checkAt, signalAt, signalRule}
+use Rattle.paper.proofs.ListLaws.{both}
+use Rattle.paper.proofs.LoopLaws.{Passed, passed-none, passed-more, fails-here, fails-nowhere}
+use Rattle.entries.specs.declared.Signal.{Signal}
+use Rattle.entries.specs.Entries.{signalOf, Placeable}
 use Rattle.entries.proofs.Laws.{own-breaks, own-passes}
+use Rattle.lists.proofs.Laws.{Behind, behind-none, behind-more, behind-resumed, shares-none, shares-one}
 use Rattle.lists.proofs.first_bad_signal.Statement.{statement}
 use Rattle.lists.proofs.first_bad_signal.Tie as tie
 
+record Stands (list : List ℕ) (checks : ℕ) (tail : List ℕ) (n : ℕ) (p : Signal) (from k : ℕ) : Type 0 where
+  passed : Passed (signalRule checks (checkAt list) (signalAt tail)) n k
+  small : Placeable p
+  before : 0 < k → signalOf p ≡ signalAt tail (k - 1)
+  behind : Behind checks (checkAt list) (p .start) from
+
 abbrev Inv-loop : tie.InvT-loop
-Inv-loop list checks tail n k s j₀ j = Passed (λ m. apart (signalAt tail k) (checkAt list m)) checks j
+Inv-loop list checks tail n from k s end j₀ j = Behind checks (checkAt list) (s .start) j
 
 abbrev μ-loop : tie.MeasureT-loop
-μ-loop list checks tail n k s j₀ j = checks - j
+μ-loop list checks tail n from k s end j₀ j = checks - j
 
 abbrev Inv-signals : tie.InvT-signals
-Inv-signals list checks tail n k₀ k = Passed (signalRule checks (checkAt list) (signalAt tail)) n k
+Inv-signals list checks tail n p₀ from₀ k₀ p from k = Stands list checks tail n p from k
 
 abbrev μ-signals : tie.MeasureT-signals
-μ-signals list checks tail n k₀ k = n - k
+μ-signals list checks tail n p₀ from₀ k₀ p from k = n - k
 
--- the inner test is that of the entry and the check as the paper reads them
-clear : (c : tie.After-is-apart Inv-loop μ-loop Inv-signals μ-signals) →
-    let l = c .before .before .before in
-    let o = l .before .before .before .before .before in
-    let a = o .before .before .before .args in
-    c .is-apart .result ≡ apart (signalAt (now (a .tail)) (o .signals .k)) (checkAt (now (a .list)) (l .loop .j))
-clear c = c .is-apart .ensures ∙ ap₂ apart (c .before .before .before .before .signal-at .ensures .is) (c .before .check-at .ensures .is)
+signals-holds : tie.Need-signals-holds Inv-loop μ-loop Inv-signals μ-signals
+signals-holds c = record { passed = passed-none _ _; small = c .no-signal .ensures; before = λ h. absurd (omega arith); behind = behind-none _ }
+
+loop-holds : tie.Need-loop-holds Inv-loop μ-loop Inv-signals μ-signals
+loop-holds c = rw (c .resumed .ensures) (behind-resumed (c .before .before .before .before .before .before .signals .inv .behind) _)
+
+-- the check that the inner loop stands at lies before the signal's end, and exists
+lies : (c : tie.Then3 Inv-loop μ-loop Inv-signals μ-signals) →
+    let l = c .before .before in
+    let b = l .before .before .before .before .before in
+    let a = b .before .before .before .before .before .before .args in
+    (ltb (l .loop .j) (a .checks) && ltb (checkAt (now (a .list)) (l .loop .j)) (fieldEnd (signalOf (b .signal-at .result)))) ≡ true
+lies c = sym (c .before .check-before .ensures) ∙ c .if3 .taken
+
+below : (c : tie.Then3 Inv-loop μ-loop Inv-signals μ-signals) → let l = c .before .before in l .loop .j < l .before .before .before .before .before .before .before .before .before .before .before .args .checks
+below c = ltb-true _ _ (both _ _ (lies c) .0)
+
+check-at-requires : tie.Need-check-at-requires Inv-loop μ-loop Inv-signals μ-signals
+check-at-requires c κs = omega (arith, below c)
+
+small : (c : tie.Else1 Inv-loop μ-loop Inv-signals μ-signals) → entry signalSize (c .before .signals .k) < 2 ^ 64
+small c = omega arith
+
+add-j : tie.Need-add-j Inv-loop μ-loop Inv-signals μ-signals
+add-j c =
+    let t = c .before .before .before in
+    let b = t .before .before .before .before .before .before .before in
+    omega (arith, below t, b .before .before .before .before .before .before .fits)
+
+loop-less : tie.Need-loop-less Inv-loop μ-loop Inv-signals μ-signals
+loop-less c = omega (arith, below (c .before .before .before))
 
 loop-again : tie.Need-loop-again Inv-loop μ-loop Inv-signals μ-signals
 loop-again c =
     let t = c .before .before .before in
-    passed-more (t .before .loop .inv) (t .loop-test .taken) (clear (c .before)) (c .if3 .left)
+    behind-more (t .before .before .loop .inv) (below t) (rw (c .before .before .check-at .ensures .is) at (c .if4 .left))
 
 signals-again : tie.Need-signals-again Inv-loop μ-loop Inv-signals μ-signals
 signals-again c =
-    let l = c .before in
-    let e = l .before .before in
-    let t = e .before .before in
-    passed-more (t .before .signals .inv) (t .if1 .left)
-    (own-passes _ _ _ _ _ (e .before .signal-own .ensures) (e .if2 .left) _ (all-passed (l .loop .inv) (c .loop-test .left))) refl
+    let l = c .before .before in
+    let e = l .before .before .before in
+    let s = e .before .before in
+    let o = s .before .before in
+    let z : o .signals .k + 1 - 1 ≡ o .signals .k = omega arith in
+    record {
+      passed = passed-more (o .signals .inv .passed) (s .before .if1 .left)
+          (own-passes _ _ _ _ (o .signals .inv .before) (s .signal-at .ensures .is) (e .before .signal-own .ensures) (e .if2 .left)
+          (shares-none _ _ (signalOf (s .signal-at .result)) _ (o .before .before .before .before .pre .0 .1) (l .loop .inv) (sym (c .before .check-before .ensures) ∙ c .if3 .left))) refl;
+      small = record { start-small = search needs; width-small = search needs };
+      before = λ _. rw z (s .signal-at .ensures .is);
+      behind = l .loop .inv;
+    }
 
 returns : tie.Need-returns Inv-loop μ-loop Inv-signals μ-signals
-returns c = ap (entry signalSize) (fails-nowhere (c .before .signals .inv) (c .if1 .taken))
+returns c = ap (entry signalSize) (fails-nowhere (c .before .signals .inv .passed) (c .if1 .taken))
 
 returns-2 : tie.Need-returns-2 Inv-loop μ-loop Inv-signals μ-signals
 returns-2 c =
-    let t = c .before .before in
-    ap (entry signalSize) (fails-here (t .before .signals .inv) (t .if1 .left) (own-breaks _ _ _ _ _ (c .before .signal-own .ensures) (c .if2 .taken)) refl)
+    let o = c .before .before in
+    let i = o .before .before .signals .inv in
+    ap (entry signalSize)
+    (fails-here (i .passed) (o .before .if1 .left) (own-breaks _ _ _ _ (i .before) (o .signal-at .ensures .is) (c .before .signal-own .ensures) (c .if2 .taken)) refl)
 
 returns-3 : tie.Need-returns-3 Inv-loop μ-loop Inv-signals μ-signals
 returns-3 c =
-    let i = c .before .before .before in
-    let e = i .before .before .before in
-    let t = e .before .before in
+    let t = c .before .before .before in
+    let e = t .before .before .before .before .before in
+    let s = e .before .before in
+    let o = s .before .before in
     ap (entry signalSize)
-    (fails-here (t .before .signals .inv) (t .if1 .left)
-    (own-passes _ _ _ _ _ (e .before .signal-own .ensures) (e .if2 .left) _
-    (not-all-here (i .before .loop .inv) (i .loop-test .taken) (clear (c .before)) (c .if3 .taken))) refl)
+    (fails-here (o .signals .inv .passed) (s .before .if1 .left)
+    (own-passes _ _ _ _ (o .signals .inv .before) (s .signal-at .ensures .is) (e .before .signal-own .ensures) (e .if2 .left)
+    (shares-one _ _ (signalOf (s .signal-at .result)) _ (lies t) (rw (c .before .before .check-at .ensures .is) at (c .if4 .taken)))) refl)
 
 pub first-bad-signal-spec : {M : Type 1} → statement M
 first-bad-signal-spec =
@@ -69,20 +119,24 @@ first-bad-signal-spec =
     μ-loop
     Inv-signals
     μ-signals
-    (λ c. passed-none _ _)
-    (λ c. search needs)
-    (λ c. search needs)
     (λ c κs. search needs)
+    signals-holds
     (λ c. search needs)
     (λ c. search needs)
-    (λ c κs. search needs)
-    (λ c. passed-none _ _)
     (λ c κs. search needs)
     (λ c κs. search needs)
     (λ c. search needs)
     (λ c. search needs)
     (λ c. search needs)
+    (λ c κs. search needs)
+    loop-holds
+    (λ c κs. search needs)
+    check-at-requires
     (λ c. search needs)
+    (λ c. omega (arith, small (c .before .before .before .before .before .before .before .before .before .before .before)))
+    (λ c. omega (arith, small (c .before .before .before .before .before .before .before .before .before .before .before)))
+    add-j
+    loop-less
     loop-again
     (λ c. search needs)
     (λ c. search needs)

@@ -57,7 +57,7 @@ from-signals-spec =
     (λ c κs. search needs)
     (λ c. search needs)
     (λ c. search needs)
-    (λ c κs. (search needs, opened c .present))
+    (λ c κs. (c .before .before .before .before .before .before .pre, opened c .present))
     (λ c. omega (arith, opened (c .before)))
     (λ c. omega (arith, opened (c .before)))
     returns

@@ -7,7 +7,7 @@ use borrow.Author.Needs.{needs}
 use Rattle.paper.specs.Answer.{Answer}
 use Rattle.paper.specs.SignalList.{Counts, checkSize, mostChecks, checkAt, checkRule, fromSignals, judge}
 use Rattle.paper.proofs.ListLaws.{signals-within}
-use Rattle.lists.proofs.Laws.{Part, onward, Opens, opens, not-opened, entry-broken, entries-kept, moves, follows}
+use Rattle.lists.proofs.Laws.{Part, onward, Opens, opens, not-opened, entry-broken, entries-kept, all-kept, moves, follows}
 use Rattle.lists.proofs.judge.Statement.{statement}
 use Rattle.lists.proofs.judge.Tie as tie
 
@@ -31,6 +31,12 @@ opened c = opens (part (c .before .before .before .before .before)) (c .before .
 returns : tie.Need-returns
 unfolding judge
 returns c = entry-broken (opened (c .before .before)) (c .before .first-bad-check .ensures) (c .if1 .taken)
+
+from-signals-requires : tie.Need-from-signals-requires
+from-signals-requires c κs =
+    let e = c .before in
+    let t = e .before .before in
+    (opened t .present, all-kept (opened t) (e .before .first-bad-check .ensures) (omega arith) (e .if1 .left))
 
 moved-requires : tie.Need-moved-requires
 moved-requires c κs =
@@ -62,7 +68,7 @@ judge-spec =
     (λ c. omega (arith, opened (c .before)))
     returns
     (λ c κs. opened (c .before .before) .present)
-    (λ c κs. opened (c .before .before .before) .present)
+    from-signals-requires
     moved-requires
     returns-2
     returns-3)
