@@ -3,16 +3,18 @@
 use mathlib.Core.Path.{_≡_, refl, sym, ap, ap₂, _∙_}
 use mathlib.Core.Bool.{Bool, true, false, cond}
 use Prim.Native.Nat.{ℕ, zero, suc, _+_, _-_, _*_, _/_, _%_, _^_, _≤_, _<_}
-use native.Mathlib.Nat.{one-mul, zero-mul, zero-add, mul-assoc, add-comm, add-mul-div-right, pow-succ'}
+use native.Mathlib.Nat.{one-mul, zero-mul, mul-assoc, add-comm, add-zero, add-mul, mul-le-mul-left, lt-of-lt-of-le, lt-irrefl, add-mul-div-right, pow-succ'}
 use native.Mathlib.Decide.{decLe}
 use native.Mathlib.Omega.{arith}
 use native.Mathlib.Numerals.{add-one}
-use lib.Dec.{lit<}
-use lib.Pow.{pow-add, pow-pos, high, shl-exact}
-use lib.Bits.{block-odd, or-shifted-r, bitOr}
+use borrow.Author.Tests.{eq-eqb, ne-eqb}
+use lib.Dec.{eqb}
+use lib.Pow.{pow-add, pow-pos, pow-mono, high}
+use lib.Bits.{block-odd}
 use lib.Count.{ones, ones-cat}
 use Rattle.paper.specs.Train.{setTo}
 use Rattle.paper.specs.First.{count}
+use Rattle.train.specs.Marks.{above}
 
 -- the topmost number is one more digit, set or not
 digit : (p : ℕ → Bool) (n : ℕ) → setTo p (suc n) ≡ cond (p (suc n)) 1 0 * 2 ^ suc n + setTo p n
@@ -71,15 +73,60 @@ bits p (suc n) v h k = elim (decLe v n) [
     small true = refl
     small false = refl
 
--- one more number: its bit is put in by `| 1 << v`, or nothing is
-pub put : (p : ℕ → Bool) (n : ℕ) → n + 1 ≤ 63 → p (suc n) ≡ true → bitOr (setTo p n) (1 * 2 ^ (n + 1) % 2 ^ 64) ≡ setTo p (suc n)
-put p n h e =
-    let fits : 1 + (n + 1) ≤ 64 = omega arith in
-    ap (bitOr (setTo p n)) (shl-exact 1 (n + 1) 64 (lit< tt) fits ∙ ap (λ (x : ℕ). 1 * 2 ^ x) (add-one n))
-    ∙ or-shifted-r 1 (suc n) (setTo p n) (set-lt p n) ∙ sym (digit p n ∙ simp e)
+-- ---- a set from its last number down
 
-pub pass : (p : ℕ → Bool) (n : ℕ) → p (suc n) ≡ false → setTo p n ≡ setTo p (suc n)
-pass p n e = sym (digit p n ∙ simp (e, zero-mul, zero-add))
+pub above-none : (p : ℕ → Bool) (n : ℕ) → above p n n 0
+above-none p n = omega (arith, zero-mul (2 ^ suc n))
+
+pub above-one : (p : ℕ → Bool) (m i b : ℕ) → m ≡ suc i → b ≡ cond (p (suc i)) 1 0 → above p m i b
+above-one p m i b w e = rw e (rw w (add-comm (setTo p i) _ ∙ sym (digit p i)))
+
+-- d numbers more
+pub above-more : (p : ℕ → Bool) (n m i d s r : ℕ) → m ≡ i + d → above p n m s → above p m i r → above p n i (s * 2 ^ d + r)
+above-more p n m i d s r e h k =
+    let x : suc m ≡ d + suc i = omega arith in
+    let w : 2 ^ suc m ≡ 2 ^ d * 2 ^ suc i = ap (λ (x : ℕ). 2 ^ x) x ∙ pow-add 2 d (suc i) in
+    let y : s * 2 ^ suc m ≡ s * 2 ^ d * 2 ^ suc i = ap (λ (x : ℕ). s * x) w ∙ sym (mul-assoc s (2 ^ d) (2 ^ suc i)) in
+    omega (arith, h, k, y, add-mul (s * 2 ^ d) r (2 ^ suc i))
+
+pub above-all : (p : ℕ → Bool) (n s : ℕ) → above p n 0 s → s * 2 ≡ setTo p n
+unfolding setTo
+above-all p n s h = omega (arith, h)
+
+pub above-fits : (p : ℕ → Bool) (n i s : ℕ) → n ≤ 63 → above p n i s → s * 2 < 2 ^ 64
+above-fits p n i s few h =
+    let one : 2 ≤ 2 ^ suc i = omega (arith, pow-succ' 2 i, pow-pos i) in
+    let l : s * 2 ≤ s * 2 ^ suc i = mul-le-mul-left s one in
+    let t : setTo p n < 2 ^ 64 = lt-of-lt-of-le (set-lt p n) (pow-mono {i = suc n} {j = 64} (omega arith)) in
+    omega (arith, h)
+
+-- ---- sets without a look at each number
+
+pub set-same : (p q : ℕ → Bool) (n : ℕ) → ((i : ℕ) → p (suc i) ≡ q (suc i)) → setTo p n ≡ setTo q n
+unfolding setTo
+set-same p q zero e = refl
+set-same p q (suc n) e = ap₂ (λ (s : ℕ) (b : Bool). s + cond b (2 ^ suc n) 0) (set-same p q n e) (e n)
+
+pub set-none : (p : ℕ → Bool) (n : ℕ) → ((i : ℕ) → i < n → p (suc i) ≡ false) → 0 ≡ setTo p n
+unfolding setTo
+set-none p zero e = refl
+set-none p (suc n) e = set-none p n (λ i l. e i (omega arith)) ∙ sym (simp (e n (omega arith), add-zero))
+
+pub set-all : (n : ℕ) → setTo (λ _. true) n + 2 ≡ 2 ^ suc n
+unfolding setTo
+set-all zero = refl
+set-all (suc n) = omega (arith, set-all n, pow-succ' 2 (suc n))
+
+pub set-alone : (v n : ℕ) → 1 ≤ v → v ≤ n → 2 ^ v ≡ setTo (λ i. eqb i v) n
+unfolding setTo
+set-alone v zero h l = absurd (omega arith)
+set-alone v (suc n) h l = elim (decLe v n) [
+  | yes k ↦ simp (ne-eqb (suc n) v (λ e. lt-irrefl n (omega arith))) (set-alone v n h k ∙ sym (add-zero _))
+  | no g ↦
+      let e : suc n ≡ v = omega arith in
+      let z : 0 ≡ setTo (λ i. eqb i v) n = set-none (λ i. eqb i v) n (λ i k. ne-eqb (suc i) v (λ q. lt-irrefl n (omega arith))) in
+      ap (λ (x : ℕ). 2 ^ x) (sym e) ∙ simp (eq-eqb (suc n) v e) (omega (arith, z))
+]
 
 -- no number stands at bit 0
 pub even : (p : ℕ → Bool) (n : ℕ) → setTo p n % 2 ≡ 0

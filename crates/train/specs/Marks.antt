@@ -1,11 +1,11 @@
 -- A vehicle of the paper as a plain mark octet, and which case of the code's enum stands for which of the paper's answers.
+use mathlib.Core.Path.{_≡_}
 use mathlib.Core.Bool.{Bool}
 use mathlib.Core.List.{List, map}
-use Prim.Native.Nat.{ℕ, _/_, _%_}
+use Prim.Native.Nat.{ℕ, suc, _+_, _-_, _*_, _/_, _%_, _^_}
 use lib.Dec.{eqb}
 use lib.ListN.{length, getD}
 use Rattle.paper.specs.Answer.{Answer, gives}
-use Rattle.paper.specs.First.{all, count}
 use Rattle.paper.specs.Train as paper
 use Rattle.refusals.specs.Refusal.{refusalOf}
 use Rattle.train.specs.declared.Members.{Members}
@@ -30,14 +30,16 @@ meetsOf a v m = paper.meets a v (vehicleOf m)
 abbrev pub ledOk : ℕ → Bool
 ledOk m = paper.ledRule (vehicleOf m)
 
-abbrev pub leadingCount : List ℕ → ℕ
-leadingCount marks = count (λ i. getD (map vehicleOf marks) i paper.noVehicle .leading) (length (map vehicleOf marks))
-
-abbrev pub ledAll : List ℕ → Bool
-ledAll marks = all (λ i. paper.ledRule (getD (map vehicleOf marks) i paper.noVehicle)) (length (map vehicleOf marks))
-
 abbrev pub consistOk : List ℕ → Bool
 consistOk marks = paper.consistRule (map vehicleOf marks)
+
+-- vehicle v has mark k
+abbrev pub withMark : List ℕ → ℕ → ℕ → Bool
+withMark marks k v = eqb (getD marks (v - 1) 0 / 2 ^ k % 2) 1
+
+-- s holds those of the numbers 1 to n that are above i, and i + 1 is its bit 0
+abbrev pub above : (ℕ → Bool) → ℕ → ℕ → ℕ → Type 0
+above p n i s = paper.setTo p i + s * 2 ^ suc i ≡ paper.setTo p n
 
 abbrev pub setOf : List ℕ → ℕ → ℕ
 setOf marks a = paper.setTo (paper.member (map vehicleOf marks) a) (length (map vehicleOf marks))

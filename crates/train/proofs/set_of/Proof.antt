@@ -1,69 +1,85 @@
 -- `train::set_of` meets its contract. Assumes nothing.
 use mathlib.Core.Path.{_≡_, refl, sym, ap, _∙_}
-use mathlib.Core.List.{map}
-use mathlib.Core.Logic.{⊎-elim}
-use Prim.Native.Nat.{ℕ, suc, _+_, _-_, _≤_}
-use native.Mathlib.Omega.{arith}
-use native.Mathlib.Numerals.{add-one}
+use mathlib.Core.Bool.{true, false}
+use Prim.Native.Nat.{ℕ, _%_}
+use native.Mathlib.Nat.{div-one}
 use borrow.Author.Needs.{needs}
-use lib.ListN.{length, getD}
+use borrow.Author.Tests.{le-leb, lt-leb, ne-eqb}
+use lib.Dec.{eqb}
+use lib.ListN.{length}
 use denote.Ref.{now}
-use Rattle.paper.specs.Train.{setTo, member}
-use Rattle.train.specs.Marks.{vehicleOf, meetsOf}
-use Rattle.train.proofs.Sets.{put, pass}
-use Rattle.train.proofs.Over.{map-length, member-at}
+use Rattle.paper.specs.Train.{meets}
+use Rattle.train.proofs.Sets.{set-none}
+use Rattle.train.proofs.Over.{set-meets, set-marked}
 use Rattle.train.proofs.set_of.Statement.{statement}
 use Rattle.train.proofs.set_of.Tie as tie
 
-abbrev Inv-loop : tie.InvT-loop
-Inv-loop marks address set₀ i₀ i-end set i =
-    (i-end ≡ length marks) × (i ≤ length marks) × (set ≡ setTo (member (map vehicleOf marks) address) i)
-
-abbrev μ-loop : tie.MeasureT-loop
-μ-loop marks address set₀ i₀ i-end set i = length marks - i
-
-loop-holds : tie.Need-loop-holds Inv-loop μ-loop
-unfolding setTo
-loop-holds c = (refl, omega arith, refl)
-
-loop-again : tie.Need-loop-again Inv-loop μ-loop
-loop-again c =
-    let at = c .before .before .before .before in
-    let a = at .before .before .args .address in
-    let marks = now (at .before .before .args .marks) in
-    let p = member (map vehicleOf marks) a in
-    let i = at .loop .i in
-    let called : p (suc i) ≡ c .before .meets .result =
-    member-at marks a i ∙ sym (ap (λ (v : ℕ). meetsOf a v (getD marks i 0)) (add-one i)) ∙ sym (c .before .meets .ensures) in
-    let small : i + 1 ≤ 63 = omega arith in
-    let is : at .loop .set ≡ setTo p i = at .loop .inv .2 in (
-      refl,
-      omega arith,
-      rw add-one (⊎-elim
-          (λ w. w .1 ∙ rw is (put p i small (called ∙ w .0 .taken)))
-          (λ w. w .1 ∙ is ∙ pass p i (called ∙ w .0 .left))
-          (c .if1 .came)),
-    )
-
-returns : tie.Need-returns Inv-loop μ-loop
+returns : tie.Need-returns
+unfolding meets
 returns c =
-    let l = c .before in
-    let marks = now (l .before .before .args .marks) in
-    let end : l .loop .i ≡ length marks = omega arith in
-    l .loop .inv .2 ∙ ap (setTo (member (map vehicleOf marks) (l .before .before .args .address))) (end ∙ sym (map-length marks))
+    let a = c .before .before .before .args in
+    c .vehicle .ensures ∙ set-meets (now (a .marks)) (a .address) (λ v. eqb v (a .address)) (λ i. simp (le-leb _ _ (c .before .if1 .taken)))
+
+returns-2 : tie.Need-returns-2
+unfolding meets
+returns-2 c =
+    let a = c .before .before .before .before .args in
+    c .with-mark .ensures ∙ set-marked (now (a .marks)) (a .address) 0 (λ v m. rw (c .before .match .keys1) (ap (λ (x : ℕ). eqb (x % 2) 1) (sym (div-one m))))
+
+returns-3 : tie.Need-returns-3
+unfolding meets
+returns-3 c =
+    let a = c .before .before .before .before .args in
+    c .with-mark2 .ensures ∙ set-marked (now (a .marks)) (a .address) 3 (λ v m. rw (c .before .match .keys2))
+
+returns-4 : tie.Need-returns-4
+unfolding meets
+returns-4 c =
+    let a = c .before .before .before .before .args in
+    c .all .ensures ∙ set-meets (now (a .marks)) (a .address) (λ v. true) (λ i. rw (c .before .match .keys3))
+
+returns-5 : tie.Need-returns-5
+unfolding meets
+returns-5 c =
+    let a = c .before .before .before .before .args in
+    c .with-mark3 .ensures ∙ set-marked (now (a .marks)) (a .address) 1 (λ v m. rw (c .before .match .keys4))
+
+returns-6 : tie.Need-returns-6
+unfolding meets
+returns-6 c =
+    let a = c .before .before .before .before .args in
+    c .with-mark4 .ensures ∙ set-marked (now (a .marks)) (a .address) 2 (λ v m. rw (c .before .match .keys5))
+
+returns-7 : tie.Need-returns-7
+unfolding meets
+returns-7 c =
+    let a = c .before .before .before .before .args in
+    c .with-mark5 .ensures ∙ set-marked (now (a .marks)) (a .address) 4 (λ v m. rw (c .before .match .keys6))
+
+returns-8 : tie.Need-returns-8
+unfolding meets
+returns-8 c =
+    let a = c .before .before .before .args in
+    let r = c .match .rest in
+    set-none (λ v. false) (length (now (a .marks))) (λ i h. refl) ∙ set-meets (now (a .marks)) (a .address) (λ v. false) (λ i.
+    simp (lt-leb _ _ (c .before .if1 .left), ne-eqb _ _ (r .1), ne-eqb _ _ (r .0 .1), ne-eqb _ _ (r .0 .0 .1), ne-eqb _ _ (r .0 .0 .0 .1), ne-eqb _ _ (r .0 .0 .0 .0 .1), ne-eqb _ _ (r .0 .0 .0 .0 .0 .1)))
 
 pub set-of-spec : {M : Type 1} → statement M
 set-of-spec =
     tie.close
     (tie.spec
-    Inv-loop
-    μ-loop
-    loop-holds
-    (λ c. search needs)
-    (λ c. search needs)
     (λ c κs. search needs)
-    (λ c. search needs)
-    (λ c. search needs)
-    (λ c. search needs)
-    loop-again
-    returns)
+    returns
+    (λ c κs. search needs)
+    (λ c κs. search needs)
+    (λ c κs. search needs)
+    (λ c κs. search needs)
+    (λ c κs. search needs)
+    (λ c κs. search needs)
+    returns-2
+    returns-3
+    returns-4
+    returns-5
+    returns-6
+    returns-7
+    returns-8)
