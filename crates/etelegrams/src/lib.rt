@@ -19,14 +19,14 @@ pub enum ERead {
 }
 
 // The longest telegram of a code.
-fn e_limit(code: usize) -> usize
+fn e_limit(code: u16) -> usize
     ensures { λ r. ⌜ r ≡ eLimit code ⌝ }
 {
     1024
 }
 
-// The request codes of document 01: one chain of comparisons, of which a compiler makes a switch.
-fn is_request(code: usize) -> bool
+// The request codes of document 01: one chain of comparisons of 16 bits, of which a compiler makes several at a time.
+fn is_request(code: u16) -> bool
     ensures { λ r. ⌜ r ≡ isRequest code ⌝ }
 {
     (code == 0x1007)
@@ -57,7 +57,7 @@ fn is_request(code: usize) -> bool
 }
 
 // A report's code is its request's plus 0A00.
-fn is_report(code: usize) -> bool
+fn is_report(code: u16) -> bool
     ensures { λ r. ⌜ r ≡ isReport code ⌝ }
 {
     if code < 0x0A00 {
@@ -73,14 +73,14 @@ pub fn e_read(telegram: &[u8]) -> ERead
     if telegram.len() < 9 {
         return ERead::Refused(Refusal::ELength);
     }
-    let code = octets::read16(telegram, 6);
+    let code = octets::read16(telegram, 6) as u16;
     if e_limit(code) < telegram.len() {
         return ERead::Refused(Refusal::ELength);
     }
     let status = telegram[8];
     if is_request(code) {
         return ERead::Read(EReading {
-            code: code as u16,
+            code,
             report: false,
             status,
         });
@@ -89,7 +89,7 @@ pub fn e_read(telegram: &[u8]) -> ERead
         return ERead::Refused(Refusal::ECode);
     }
     ERead::Read(EReading {
-        code: code as u16,
+        code,
         report: true,
         status,
     })

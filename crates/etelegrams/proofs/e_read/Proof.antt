@@ -67,13 +67,12 @@ e-read-spec =
     (tie.spec
     returns
     (λ c κs. search needs)
+    (λ c. search needs)
     (λ c κs. search needs)
     returns-2
     (λ c. search needs)
     (λ c κs. search needs)
-    (λ c. search needs)
     returns-3
     (λ c κs. search needs)
     returns-4
-    (λ c. search needs)
     returns-5)
