@@ -79,11 +79,11 @@ fn mark(marks: u8, k: u8) -> u64
 // The vehicles i + 1 to i + 4 with mark k: four in a turn, since a turn waits for the one before.
 fn four(marks: &[u8], i: usize, k: u8) -> u64
     requires { ⌜ (length (now marks) ≤ 63) × (i + 4 ≤ length (now marks)) × (k < 8) ⌝ }
-    ensures { λ r. ⌜ (above (withMark (now (marks .entry)) k) (i + 4) i r) × (r < 16) ⌝ }
+    ensures { λ r. ⌜ above (withMark (now (marks .entry)) k) (i + 4) i r ⌝ }
 {
-    let third = mark(marks[i + 3], k) * 2 + mark(marks[i + 2], k);
-    let second = third * 2 + mark(marks[i + 1], k);
-    second * 2 + mark(marks[i], k)
+    let two = mark(marks[i + 3], k) * 2 + mark(marks[i + 2], k);
+    let three = two * 2 + mark(marks[i + 1], k);
+    three * 2 + mark(marks[i], k)
 }
 
 // The vehicles with mark k past the last whole four.

@@ -21,7 +21,7 @@ returns c =
     let w = above-mark marks (a .k) (i + 4) (i + 3) _ (omega arith) (first .mark .ensures .0) in
     let x = above-more p (i + 4) (i + 3) (i + 2) 1 _ _ (omega arith) w (above-mark marks (a .k) (i + 3) (i + 2) _ (omega arith) (second .mark2 .ensures .0)) in
     let y = above-more p (i + 4) (i + 2) (i + 1) 1 _ _ (omega arith) x (above-mark marks (a .k) (i + 2) (i + 1) _ (omega arith) (third .mark3 .ensures .0)) in
-    (above-more p (i + 4) (i + 1) i 1 _ _ (omega arith) y (above-mark marks (a .k) (i + 1) i _ (omega arith) (c .mark4 .ensures .0)), omega arith)
+    above-more p (i + 4) (i + 1) i 1 _ _ (omega arith) y (above-mark marks (a .k) (i + 1) i _ (omega arith) (c .mark4 .ensures .0))
 
 pub four-spec : {M : Type 1} → statement M
 four-spec =

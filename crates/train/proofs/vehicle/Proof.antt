@@ -1,5 +1,5 @@
 -- `train::vehicle` meets its contract. Assumes nothing.
-use mathlib.Core.Path.{_≡_, _∙_}
+use mathlib.Core.Path.{_∙_}
 use Prim.Native.Nat.{suc}
 use native.Mathlib.Nat.{one-mul, lt-irrefl}
 use native.Mathlib.Omega.{arith}

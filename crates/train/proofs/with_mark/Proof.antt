@@ -1,6 +1,6 @@
 -- `train::with_mark` meets its contract. Assumes nothing.
 use mathlib.Core.Path.{_≡_}
-use Prim.Native.Nat.{ℕ, _+_, _-_, _*_, _/_, _^_, _<_, _≤_}
+use Prim.Native.Nat.{_+_, _-_, _*_, _/_, _^_, _<_, _≤_}
 use native.Mathlib.Omega.{arith}
 use borrow.Author.Needs.{needs}
 use lib.ListN.{length}
@@ -31,7 +31,7 @@ more c =
     let f = l .loop .fours in
     let e : f * 4 ≡ (f - 1) * 4 + 4 = omega arith in
     let p = withMark (now (a .marks)) (a .k) in
-    above-more p (length (now (a .marks))) ((f - 1) * 4 + 4) ((f - 1) * 4) 4 _ _ (omega arith) (rw e at (l .loop .inv .1)) (c .four .ensures .0)
+    above-more p (length (now (a .marks))) ((f - 1) * 4 + 4) ((f - 1) * 4) 4 _ _ (omega arith) (rw e at (l .loop .inv .1)) (c .four .ensures)
 
 fits : (c : tie.After-four Inv-loop μ-loop) → (c .before .before .loop .set * 16 + c .four .result) * 2 < 2 ^ 64
 fits c =
