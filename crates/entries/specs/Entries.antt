@@ -3,8 +3,8 @@ use Prim.Native.Nat.{ℕ, _-_, _^_, _<_}
 use mathlib.Core.Path.{_≡_}
 use mathlib.Core.Bool.{Bool, _&&_, _||_}
 use mathlib.Core.List.{List}
-use lib.Dec.{eqb}
-use Rattle.paper.specs.SignalList.{Signal as PaperSignal, Code as PaperCode, Route as PaperRoute, checkAt, signalAt, codeAt, routeAt, widthRule, typeRule, placeRule, namedRule, valueRule, orderRule}
+use lib.Dec.{ltb, leb, eqb}
+use Rattle.paper.specs.SignalList.{Signal as PaperSignal, Code as PaperCode, Route as PaperRoute, checkAt, signalAt, codeAt, routeAt, widthRule, typeRule, placeRule, namedRule, valueRule, orderRule, codeOrder, routeEnd}
 use Rattle.entries.specs.declared.Signal.{Signal}
 use Rattle.entries.specs.declared.Code.{Code}
 use Rattle.entries.specs.declared.Route.{Route}
@@ -66,3 +66,14 @@ pub record OctetRead (x r : ℕ) : Type 0 where
 -- the rule of a signal's entry k, which is s behind p, but for the bits that it may share with a check
 unfoldable pub ownRule : ℕ → (ℕ → ℕ) → ℕ → PaperSignal → PaperSignal → Bool
 ownRule checks check k p s = widthRule s && typeRule s && placeRule s && namedRule checks check s && valueRule s && (eqb k 0 || orderRule p s)
+
+-- the rule of code entry k, which is c behind p
+unfoldable pub codeKeeps : ℕ → (ℕ → PaperSignal) → ℕ → PaperCode → PaperCode → Bool
+codeKeeps signals signal k p c =
+    ltb (c .signal) signals && leb (signal (c .signal) .width) 16 && leb (c .low) (c .high) && ltb (c .high) (2 ^ signal (c .signal) .width)
+    && (eqb k 0 || codeOrder p c)
+
+-- the rule of route k, which is r behind one that ends at `past`
+unfoldable pub routeKeeps : ℕ → (ℕ → PaperSignal) → ℕ → ℕ → PaperRoute → Bool
+routeKeeps signals signal k past r =
+    ltb (r .signal) signals && leb 1 (r .vehicle) && leb (r .vehicle) 63 && eqb (r .null) 0 && leb (routeEnd signal r) 2048 && (eqb k 0 || leb past (r .start))

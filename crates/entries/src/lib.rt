@@ -4,8 +4,8 @@ ghost use Prim.Native.Nat.{_+_, _-_, _^_, _<_, _≤_};
 ghost use mathlib.Core.Bool.{_&&_};
 ghost use lib.ListN.{length, getD};
 ghost use lib.Dec.{ltb};
-ghost use Rattle.paper.specs.SignalList.{entry, checkSize, signalSize, codeSize, routeSize, widest, checkAt, signalAt, codeAt, routeAt, checkRule, placeRule, namedRule, valueRule, orderRule, codeOrder, codeRule, routeRule};
-ghost use Rattle.entries.specs.Entries.{signalOf, codeOf, CheckRead, SignalRead, CodeRead, RouteRead, OctetRead, Placeable, ownRule};
+ghost use Rattle.paper.specs.SignalList.{entry, checkSize, signalSize, codeSize, routeSize, widest, checkAt, signalAt, codeAt, routeAt, checkRule, placeRule, namedRule, valueRule, orderRule, codeOrder, routeEnd};
+ghost use Rattle.entries.specs.Entries.{signalOf, codeOf, routeOf, CheckRead, SignalRead, CodeRead, RouteRead, OctetRead, Placeable, ownRule, codeKeeps, routeKeeps};
 
 pub struct Signal {
     pub start: usize,
@@ -113,12 +113,12 @@ pub fn width_at(tail: &[u8], k: usize) -> usize
     octet_at(tail, 2 + 16 * k + 2)
 }
 
-// Inner: its since-version.
+// Inner: the since-version of signal k.
 pub fn since_at(tail: &[u8], k: usize) -> usize
-    requires { ⌜ k < 65536 ⌝ }
+    requires { ⌜ entry signalSize (k + 1) ≤ length (now tail) ⌝ }
     ensures { λ r. ⌜ OctetRead (signalAt (now (tail .entry)) k .since) r ⌝ }
 {
-    octet_at(tail, 2 + 16 * k + 5)
+    octets::wide(tail[2 + 16 * k + 5])
 }
 
 // Inner: check k keeps its rule.
@@ -223,37 +223,61 @@ fn code_order(p: Code, c: Code) -> bool
     (p.signal < c.signal) | (p.signal == c.signal) & (p.high + 2 <= c.low)
 }
 
-// Inner: code entry k keeps its rule; sig starts at the signals' count.
-pub fn code_rule(sig: &[u8], signals: usize, tail: &[u8], k: usize) -> bool
-    requires { ⌜ entry codeSize (k + 1) ≤ length (now tail) ⌝ }
-    ensures { λ r. ⌜ r ≡ codeRule signals (signalAt (now (sig .entry))) (codeAt (now (tail .entry))) k ⌝ }
+// The width of signal k, which exists.
+fn width_of(tail: &[u8], k: usize) -> usize
+    requires { ⌜ entry signalSize (k + 1) ≤ length (now tail) ⌝ }
+    ensures { λ r. ⌜ OctetRead (signalAt (now (tail .entry)) k .width) r ⌝ }
 {
-    let c = code_at(tail, k);
-    let p = code_at(tail, before(k));
-    let w = width_at(sig, c.signal);
+    octets::wide(tail[2 + 16 * k + 2])
+}
+
+// Inner: stands before the first code entry; nothing is asked of it.
+pub fn no_code() -> Code
+    ensures { λ r. ⌜ r .high < 65536 ⌝ }
+{
+    Code {
+        signal: 0,
+        low: 0,
+        high: 0,
+    }
+}
+
+// Inner: code entry k, which is c behind p, keeps its rule; sig starts at the signals' count.
+pub fn code_rule(sig: &[u8], signals: usize, k: usize, p: Code, c: Code) -> bool
+    requires { ⌜ entry signalSize signals ≤ length (now sig) ⌝ }
+    requires { ⌜ p .high < 65536 ⌝ }
+    ensures { λ r. ⌜ r ≡ codeKeeps signals (signalAt (now (sig .entry))) k (codeOf p) (codeOf c) ⌝ }
+{
+    if signals <= c.signal {
+        return false;
+    }
+    let w = width_of(sig, c.signal);
     if 16 < w {
         return false;
     }
-    (c.signal < signals)
-        & (w <= 16)
-        & (c.low <= c.high)
-        & ((c.high as u64) < pow2(w))
-        & ((k == 0) | code_order(p, c))
+    (w <= 16) & (c.low <= c.high) & ((c.high as u64) < pow2(w)) & ((k == 0) | code_order(p, c))
 }
 
-// Inner: route k keeps its rule; sig starts at the signals' count.
-pub fn route_rule(sig: &[u8], signals: usize, tail: &[u8], k: usize) -> bool
-    requires { ⌜ entry routeSize (k + 1) ≤ length (now tail) ⌝ }
-    ensures { λ r. ⌜ r ≡ routeRule signals (signalAt (now (sig .entry))) (routeAt (now (tail .entry))) k ⌝ }
+// Inner: route k, which is r behind one that ends at `past`, keeps its rule.
+pub fn route_rule(sig: &[u8], signals: usize, k: usize, past: usize, r: Route) -> bool
+    requires { ⌜ entry signalSize signals ≤ length (now sig) ⌝ }
+    requires { ⌜ r .start < 65536 ⌝ }
+    ensures { λ b. ⌜ b ≡ routeKeeps signals (signalAt (now (sig .entry))) k past (routeOf r) ⌝ }
 {
-    let r = route_at(tail, k);
-    let p = route_at(tail, before(k));
-    let end = r.start + width_at(sig, r.signal);
-    let past = p.start + width_at(sig, p.signal);
-    (r.signal < signals)
-        & (1 <= r.vehicle)
+    if signals <= r.signal {
+        return false;
+    }
+    (1 <= r.vehicle)
         & (r.vehicle <= 63)
         & (r.null == 0)
-        & (end <= 2048)
+        & (route_end(sig, r) <= 2048)
         & ((k == 0) | (past <= r.start))
+}
+
+// Inner: the first bit past a route whose signal exists.
+pub fn route_end(sig: &[u8], r: Route) -> usize
+    requires { ⌜ (entry signalSize (r .signal + 1) ≤ length (now sig)) × (r .start < 65536) ⌝ }
+    ensures { λ e. ⌜ e ≡ routeEnd (signalAt (now (sig .entry))) (routeOf r) ⌝ }
+{
+    r.start + width_of(sig, r.signal)
 }

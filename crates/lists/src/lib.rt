@@ -7,7 +7,7 @@ ghost use lib.ListN.{length};
 ghost use lib.Dec.{leb};
 ghost use Rattle.paper.specs.Answer.{shift};
 ghost use Rattle.paper.specs.First.{firstBad, all};
-ghost use Rattle.paper.specs.SignalList.{entry, checkSize, signalSize, codeSize, routeSize, mostSignals, checkAt, signalAt, codeAt, routeAt, checkRule, signalRule, codeRule, routeRule, opening, greatestSince, fromRoutes, fromCodes, fromSignals, judge as judgedList, rest as restOf, listOf, signalsPart, codesPart, routesPart};
+ghost use Rattle.paper.specs.SignalList.{entry, checkSize, signalSize, codeSize, routeSize, checkAt, signalAt, codeAt, routeAt, checkRule, signalRule, codeRule, routeRule, opening, greatestSince, fromRoutes, fromCodes, fromSignals, judge as judgedList, rest as restOf, listOf, signalsPart, codesPart, routesPart};
 ghost use Rattle.paper.specs.Extends.{placeOf};
 ghost use Rattle.paper.proofs.ListLaws.{RefusedWithin, Laid};
 ghost use Rattle.entries.specs.Entries.{signalOf, SignalRead, CodeRead, RouteRead, OctetRead};
@@ -129,14 +129,18 @@ fn first_bad_signal(list: &[u8], checks: usize, tail: &[u8], n: usize) -> usize
 
 // The same of n codes; sig starts at the signals' count.
 fn first_bad_code(sig: &[u8], signals: usize, tail: &[u8], n: usize) -> usize
+    requires { ⌜ entry signalSize signals ≤ length (now sig) ⌝ }
     requires { ⌜ entry codeSize n ≤ length (now tail) ⌝ }
     ensures { λ r. ⌜ r ≡ entry codeSize (firstBad (codeRule signals (signalAt (now (sig .entry))) (codeAt (now (tail .entry)))) n) ⌝ }
 {
+    let mut p = entries::no_code();
     let mut k = 0;
     while k < n {
-        if !entries::code_rule(sig, signals, tail, k) {
+        let c = entries::code_at(tail, k);
+        if !entries::code_rule(sig, signals, k, p, c) {
             return 2 + 6 * k;
         }
+        p = c;
         k += 1;
     }
     2 + 6 * n
@@ -144,14 +148,18 @@ fn first_bad_code(sig: &[u8], signals: usize, tail: &[u8], n: usize) -> usize
 
 // The same of n routes.
 fn first_bad_route(sig: &[u8], signals: usize, tail: &[u8], n: usize) -> usize
+    requires { ⌜ entry signalSize signals ≤ length (now sig) ⌝ }
     requires { ⌜ entry routeSize n ≤ length (now tail) ⌝ }
     ensures { λ r. ⌜ r ≡ entry routeSize (firstBad (routeRule signals (signalAt (now (sig .entry))) (routeAt (now (tail .entry)))) n) ⌝ }
 {
+    let mut past = 0;
     let mut k = 0;
     while k < n {
-        if !entries::route_rule(sig, signals, tail, k) {
+        let r = entries::route_at(tail, k);
+        if !entries::route_rule(sig, signals, k, past, r) {
             return 2 + 6 * k;
         }
+        past = entries::route_end(sig, r);
         k += 1;
     }
     2 + 6 * n
@@ -159,7 +167,7 @@ fn first_bad_route(sig: &[u8], signals: usize, tail: &[u8], n: usize) -> usize
 
 // Inner: the greatest since-version of the signals, 1 if there is none.
 pub fn version_of(tail: &[u8], signals: usize) -> usize
-    requires { ⌜ signals ≤ mostSignals ⌝ }
+    requires { ⌜ entry signalSize signals ≤ length (now tail) ⌝ }
     ensures { λ r. ⌜ r ≡ greatestSince signals (signalAt (now (tail .entry))) ⌝ }
 {
     let mut version = 1;
@@ -190,7 +198,7 @@ fn moved(rest: Judged, by: usize) -> Judged
 
 // The list from its routes on; sig starts at the signals' count.
 fn from_routes(sig: &[u8], signals: usize, checks: usize, codes: usize, tail: &[u8]) -> Judged
-    requires { ⌜ signals ≤ mostSignals ⌝ }
+    requires { ⌜ entry signalSize signals ≤ length (now sig) ⌝ }
     ensures { λ r. ⌜ judgedAnswer r ≡ fromRoutes signals (signalAt (now (sig .entry))) checks codes (now (tail .entry)) ⌝ }
 {
     let opened = open(tail, MOST_ROUTES, 6);
@@ -219,7 +227,7 @@ fn from_routes(sig: &[u8], signals: usize, checks: usize, codes: usize, tail: &[
 
 // From its codes on.
 fn from_codes(sig: &[u8], signals: usize, checks: usize, tail: &[u8]) -> Judged
-    requires { ⌜ signals ≤ mostSignals ⌝ }
+    requires { ⌜ entry signalSize signals ≤ length (now sig) ⌝ }
     ensures { λ r. ⌜ judgedAnswer r ≡ fromCodes signals (signalAt (now (sig .entry))) checks (now (tail .entry)) ⌝ }
 {
     let opened = open(tail, MOST_CODES, 6);

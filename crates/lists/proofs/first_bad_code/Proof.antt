@@ -1,30 +1,41 @@
 -- `lists::first_bad_code` meets its contract: every entry passed keeps its rule. Assumes nothing.
-use Prim.Native.Nat.{_-_}
-use mathlib.Core.Path.{ap}
+use Prim.Native.Nat.{_-_, _<_}
+use mathlib.Core.Path.{_≡_, ap, _∙_}
+use denote.Ref.{now}
 use borrow.Author.Needs.{needs}
 use Rattle.paper.specs.SignalList.{entry, codeSize, signalAt, codeAt, codeRule}
 use Rattle.paper.proofs.LoopLaws.{Passed, passed-none, passed-more, fails-here, fails-nowhere}
+use Rattle.entries.specs.Entries.{codeOf}
+use Rattle.entries.proofs.Laws.{Before, before-first, before-next, code-keeps}
 use Rattle.lists.proofs.first_bad_code.Statement.{statement}
 use Rattle.lists.proofs.first_bad_code.Tie as tie
 
 abbrev Inv-loop : tie.InvT-loop
-Inv-loop sig signals tail n k₀ k = Passed (codeRule signals (signalAt sig) (codeAt tail)) n k
+Inv-loop sig signals tail n p₀ k₀ p k = (Passed (codeRule signals (signalAt sig) (codeAt tail)) n k) × ((Before (codeAt tail) k (codeOf p)) × (p .high < 65536))
 
 abbrev μ-loop : tie.MeasureT-loop
-μ-loop sig signals tail n k₀ k = n - k
+μ-loop sig signals tail n p₀ k₀ p k = n - k
+
+-- the test is that of the entry as the paper reads it
+tested : (c : tie.After-code-rule Inv-loop μ-loop) →
+    let l = c .before .before .before in
+    let a = l .before .before .before .before .args in
+    c .code-rule .result ≡ codeRule (a .signals) (signalAt (now (a .sig))) (codeAt (now (a .tail))) (l .loop .k)
+tested c = c .code-rule .ensures ∙ code-keeps _ _ _ _ (c .before .before .before .loop .inv .1 .0) (c .before .code-at .ensures .is)
 
 returns : tie.Need-returns Inv-loop μ-loop
 returns c =
-    let t = c .before .before in
-    ap (entry codeSize) (fails-here (t .before .loop .inv) (t .loop-test .taken) (c .before .code-rule .ensures) (c .if1 .taken))
+    let t = c .before .before .before in
+    ap (entry codeSize) (fails-here (t .before .loop .inv .0) (t .loop-test .taken) (tested (c .before)) (c .if1 .taken))
 
 loop-again : tie.Need-loop-again Inv-loop μ-loop
 loop-again c =
-    let t = c .before .before in
-    passed-more (t .before .loop .inv) (t .loop-test .taken) (c .before .code-rule .ensures) (c .if1 .left)
+    let e = c .before .before in
+    let t = e .before in
+    (passed-more (t .before .loop .inv .0) (t .loop-test .taken) (tested (c .before)) (c .if1 .left), (before-next _ (e .code-at .ensures .is), e .code-at .ensures .high-small))
 
 returns-2 : tie.Need-returns-2 Inv-loop μ-loop
-returns-2 c = ap (entry codeSize) (fails-nowhere (c .before .loop .inv) (c .loop-test .left))
+returns-2 c = ap (entry codeSize) (fails-nowhere (c .before .loop .inv .0) (c .loop-test .left))
 
 pub first-bad-code-spec : {M : Type 1} → statement M
 first-bad-code-spec =
@@ -32,7 +43,9 @@ first-bad-code-spec =
     (tie.spec
     Inv-loop
     μ-loop
-    (λ c. passed-none _ _)
+    (λ c κs. search needs)
+    (λ c. (passed-none _ _, (before-first, c .no-code .ensures)))
+    (λ c κs. search needs)
     (λ c κs. search needs)
     (λ c. search needs)
     (λ c. search needs)

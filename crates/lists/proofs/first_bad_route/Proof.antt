@@ -1,30 +1,52 @@
 -- `lists::first_bad_route` meets its contract: every entry passed keeps its rule. Assumes nothing.
-use Prim.Native.Nat.{_-_}
-use mathlib.Core.Path.{ap}
+use Prim.Native.Nat.{_-_, _<_}
+use mathlib.Core.Path.{_≡_, sym, ap, _∙_}
+use native.Mathlib.Omega.{arith}
+use denote.Ref.{now}
 use borrow.Author.Needs.{needs}
-use Rattle.paper.specs.SignalList.{entry, routeSize, signalAt, routeAt, routeRule}
+use borrow.Author.Tests.{not-false}
+use Rattle.paper.specs.SignalList.{Route, entry, routeSize, signalAt, routeEnd, routeAt, routeRule}
+use Rattle.paper.proofs.ListLaws.{route-kept}
 use Rattle.paper.proofs.LoopLaws.{Passed, passed-none, passed-more, fails-here, fails-nowhere}
+use Rattle.entries.proofs.Laws.{Before, before-first, before-next, route-keeps}
 use Rattle.lists.proofs.first_bad_route.Statement.{statement}
 use Rattle.lists.proofs.first_bad_route.Tie as tie
 
 abbrev Inv-loop : tie.InvT-loop
-Inv-loop sig signals tail n k₀ k = Passed (routeRule signals (signalAt sig) (routeAt tail)) n k
+Inv-loop sig signals tail n past₀ k₀ past k =
+    (Passed (routeRule signals (signalAt sig) (routeAt tail)) n k) × (Before (λ j. routeEnd (signalAt sig) (routeAt tail j)) k past)
 
 abbrev μ-loop : tie.MeasureT-loop
-μ-loop sig signals tail n k₀ k = n - k
+μ-loop sig signals tail n past₀ k₀ past k = n - k
+
+-- the test is that of the entry as the paper reads it
+tested : (c : tie.After-route-rule Inv-loop μ-loop) →
+    let l = c .before .before .before in
+    let a = l .before .before .before .args in
+    c .route-rule .result ≡ routeRule (a .signals) (signalAt (now (a .sig))) (routeAt (now (a .tail))) (l .loop .k)
+tested c = c .route-rule .ensures ∙ route-keeps _ _ _ _ (c .before .before .before .loop .inv .1) (c .before .route-at .ensures .is)
 
 returns : tie.Need-returns Inv-loop μ-loop
 returns c =
-    let t = c .before .before in
-    ap (entry routeSize) (fails-here (t .before .loop .inv) (t .loop-test .taken) (c .before .route-rule .ensures) (c .if1 .taken))
+    let t = c .before .before .before in
+    ap (entry routeSize) (fails-here (t .before .loop .inv .0) (t .loop-test .taken) (tested (c .before)) (c .if1 .taken))
+
+exists : (c : tie.Else1 Inv-loop μ-loop) → c .before .before .route-at .result .signal < c .before .before .before .before .before .before .before .args .signals
+exists c =
+    let e = c .before .before in
+    rw (ap (λ (r : Route). r .signal) (e .route-at .ensures .is)) (route-kept _ _ _ _ (sym (tested (c .before)) ∙ not-false _ (c .if1 .left)) .exists)
 
 loop-again : tie.Need-loop-again Inv-loop μ-loop
 loop-again c =
-    let t = c .before .before in
-    passed-more (t .before .loop .inv) (t .loop-test .taken) (c .before .route-rule .ensures) (c .if1 .left)
+    let e = c .before .before .before in
+    let t = e .before in
+    let s = now (t .before .before .before .before .args .sig) in (
+      passed-more (t .before .loop .inv .0) (t .loop-test .taken) (tested (c .before .before)) (c .before .if1 .left),
+      before-next _ (c .route-end .ensures ∙ ap (routeEnd (signalAt s)) (e .route-at .ensures .is)),
+    )
 
 returns-2 : tie.Need-returns-2 Inv-loop μ-loop
-returns-2 c = ap (entry routeSize) (fails-nowhere (c .before .loop .inv) (c .loop-test .left))
+returns-2 c = ap (entry routeSize) (fails-nowhere (c .before .loop .inv .0) (c .loop-test .left))
 
 pub first-bad-route-spec : {M : Type 1} → statement M
 first-bad-route-spec =
@@ -32,11 +54,13 @@ first-bad-route-spec =
     (tie.spec
     Inv-loop
     μ-loop
-    (λ c. passed-none _ _)
+    (λ c. (passed-none _ _, before-first))
+    (λ c κs. search needs)
     (λ c κs. search needs)
     (λ c. search needs)
     (λ c. search needs)
     returns
+    (λ c κs. (omega (arith, exists c), search needs))
     (λ c. search needs)
     (λ c. search needs)
     loop-again

@@ -14,7 +14,7 @@ use Rattle.paper.proofs.ListLaws.{both}
 use Rattle.paper.proofs.LoopLaws.{Passed, passed-none, passed-more, fails-here, fails-nowhere}
 use Rattle.entries.specs.declared.Signal.{Signal}
 use Rattle.entries.specs.Entries.{signalOf, Placeable}
-use Rattle.entries.proofs.Laws.{own-breaks, own-passes}
+use Rattle.entries.proofs.Laws.{Before, before-first, before-next, own-breaks, own-passes}
 use Rattle.lists.proofs.Laws.{Behind, behind-none, behind-more, behind-resumed, shares-none, shares-one}
 use Rattle.lists.proofs.first_bad_signal.Statement.{statement}
 use Rattle.lists.proofs.first_bad_signal.Tie as tie
@@ -22,7 +22,7 @@ use Rattle.lists.proofs.first_bad_signal.Tie as tie
 record Stands (list : List ℕ) (checks : ℕ) (tail : List ℕ) (n : ℕ) (p : Signal) (from k : ℕ) : Type 0 where
   passed : Passed (signalRule checks (checkAt list) (signalAt tail)) n k
   small : Placeable p
-  before : 0 < k → signalOf p ≡ signalAt tail (k - 1)
+  before : Before (signalAt tail) k (signalOf p)
   behind : Behind checks (checkAt list) (p .start) from
 
 abbrev Inv-loop : tie.InvT-loop
@@ -38,7 +38,7 @@ abbrev μ-signals : tie.MeasureT-signals
 μ-signals list checks tail n p₀ from₀ k₀ p from k = n - k
 
 signals-holds : tie.Need-signals-holds Inv-loop μ-loop Inv-signals μ-signals
-signals-holds c = record { passed = passed-none _ _; small = c .no-signal .ensures; before = λ h. absurd (omega arith); behind = behind-none _ }
+signals-holds c = record { passed = passed-none _ _; small = c .no-signal .ensures; before = before-first; behind = behind-none _ }
 
 loop-holds : tie.Need-loop-holds Inv-loop μ-loop Inv-signals μ-signals
 loop-holds c = rw (c .resumed .ensures) (behind-resumed (c .before .before .before .before .before .before .signals .inv .behind) _)
@@ -80,13 +80,12 @@ signals-again c =
     let e = l .before .before .before in
     let s = e .before .before in
     let o = s .before .before in
-    let z : o .signals .k + 1 - 1 ≡ o .signals .k = omega arith in
     record {
       passed = passed-more (o .signals .inv .passed) (s .before .if1 .left)
           (own-passes _ _ _ _ (o .signals .inv .before) (s .signal-at .ensures .is) (e .before .signal-own .ensures) (e .if2 .left)
           (shares-none _ _ (signalOf (s .signal-at .result)) _ (o .before .before .before .before .pre .0 .1) (l .loop .inv) (sym (c .before .check-before .ensures) ∙ c .if3 .left))) refl;
       small = record { start-small = search needs; width-small = search needs };
-      before = λ _. rw z (s .signal-at .ensures .is);
+      before = before-next _ (s .signal-at .ensures .is);
       behind = l .loop .inv;
     }
 

@@ -57,7 +57,7 @@ from-codes-spec =
     (λ c κs. search needs)
     (λ c. search needs)
     (λ c. search needs)
-    (λ c κs. opened c .present)
+    (λ c κs. (search needs, opened c .present))
     (λ c. omega (arith, opened (c .before)))
     (λ c. omega (arith, opened (c .before)))
     returns

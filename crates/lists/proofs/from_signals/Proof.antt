@@ -62,7 +62,7 @@ from-signals-spec =
     (λ c. omega (arith, opened (c .before)))
     returns
     (λ c κs. opened (c .before .before) .present)
-    (λ c κs. opened (c .before .before .before) .within)
+    (λ c κs. opened (c .before .before .before) .present)
     moved-requires
     returns-2
     returns-3)
