@@ -14,7 +14,7 @@ use Rattle.paper.specs.Answer.{Answer, gives, refused, refuseIf, andThen, shift
 use Rattle.paper.specs.First.{firstBad, all}
 use Rattle.paper.specs.SignalList.{Signal, Counts as PaperCounts, fieldEnd, entry, rest, checkRule, apart, clearRule, opening, judgeEntries, judgeSection, judge}
 use Rattle.paper.proofs.AnswerLaws.{one-answer}
-use Rattle.paper.proofs.FirstLaws.{first-passed, all-true, all-false, all-at}
+use Rattle.paper.proofs.FirstLaws.{first-most, first-passed, all-true, all-false, all-at}
 use Rattle.paper.proofs.ListLaws.{both, check-kept, opened-of, Laid, laid, RefusedWithin, within-rest}
 use Rattle.refusals.specs.declared.Refusal.{Refusal}
 use Rattle.refusals.specs.Refusal.{refusalOf}
@@ -62,6 +62,10 @@ module _ (p : Part) {s : Section} (said : sectionAnswer s ≡ opening (p .limit)
   not-opened f e = let told : refusalOf f ≡ opening (p .limit) (p .size) (p .octets) = sym (ap sectionAnswer e) ∙ said in rw (← told)
 
 module _ {p : Part} {n : ℕ} (o : Opens p n) where
+  -- the first that a loop over its entries found
+  pub found-small : {k : ℕ} → k ≡ firstBad (p .rule) n → k ≤ p .limit
+  found-small e = omega (arith, e, first-most (p .rule) n, o .within)
+
   -- `at` is what the loop over its entries answered
   module _ {at : ℕ} (is : at ≡ entry (p .size) (firstBad (p .rule) n)) where
     pub entry-broken : at < entry (p .size) n → refused 3 at ≡ judgedPart p

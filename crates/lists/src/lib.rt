@@ -73,19 +73,19 @@ pub fn rest(tail: &[u8], size: usize, n: usize) -> &[u8]
     &tail[end..]
 }
 
-// The offset of the first of n checks that breaks its rule, or the end of the section.
+// The first of n checks that breaks its rule, n where none does.
 fn first_bad_check(list: &[u8], n: usize) -> usize
     requires { ⌜ entry checkSize n ≤ length (now list) ⌝ }
-    ensures { λ r. ⌜ r ≡ entry checkSize (firstBad (checkRule (checkAt (now (list .entry)))) n) ⌝ }
+    ensures { λ r. ⌜ r ≡ firstBad (checkRule (checkAt (now (list .entry)))) n ⌝ }
 {
     let mut k = 0;
     while k < n {
         if !entries::check_rule(list, k) {
-            return 2 + 2 * k;
+            return k;
         }
         k += 1;
     }
-    2 + 2 * n
+    n
 }
 
 // The first check that a field from s on may share a bit with: those before `from` end at or before the start of p.
@@ -95,7 +95,7 @@ fn resumed(p: Signal, s: Signal, from: usize) -> usize
     if p.start <= s.start { from } else { 0 }
 }
 
-// The same of n signals, each tested by its own rule and then against the checks from the first that may matter to the first at or past its end:
+// The offset of the first of n signals that breaks its rule, or the end of the section: each is tested by its own rule and then against the checks from the first that may matter to the first at or past its end:
 // checks rise, and starts do within a type.
 fn first_bad_signal(list: &[u8], checks: usize, tail: &[u8], n: usize) -> usize
     requires { ⌜ (entry checkSize checks ≤ length (now list)) × (all (checkRule (checkAt (now list))) checks ≡ true) ⌝ }
@@ -127,42 +127,42 @@ fn first_bad_signal(list: &[u8], checks: usize, tail: &[u8], n: usize) -> usize
     }
 }
 
-// The same of n codes; sig starts at the signals' count.
+// The first of n codes that breaks its rule, n where none does; sig starts at the signals' count.
 fn first_bad_code(sig: &[u8], signals: usize, tail: &[u8], n: usize) -> usize
     requires { ⌜ entry signalSize signals ≤ length (now sig) ⌝ }
     requires { ⌜ entry codeSize n ≤ length (now tail) ⌝ }
-    ensures { λ r. ⌜ r ≡ entry codeSize (firstBad (codeRule signals (signalAt (now (sig .entry))) (codeAt (now (tail .entry)))) n) ⌝ }
+    ensures { λ r. ⌜ r ≡ firstBad (codeRule signals (signalAt (now (sig .entry))) (codeAt (now (tail .entry)))) n ⌝ }
 {
     let mut p = entries::no_code();
     let mut k = 0;
     while k < n {
         let c = entries::code_at(tail, k);
         if !entries::code_rule(sig, signals, k, p, c) {
-            return 2 + 6 * k;
+            return k;
         }
         p = c;
         k += 1;
     }
-    2 + 6 * n
+    n
 }
 
 // The same of n routes.
 fn first_bad_route(sig: &[u8], signals: usize, tail: &[u8], n: usize) -> usize
     requires { ⌜ entry signalSize signals ≤ length (now sig) ⌝ }
     requires { ⌜ entry routeSize n ≤ length (now tail) ⌝ }
-    ensures { λ r. ⌜ r ≡ entry routeSize (firstBad (routeRule signals (signalAt (now (sig .entry))) (routeAt (now (tail .entry)))) n) ⌝ }
+    ensures { λ r. ⌜ r ≡ firstBad (routeRule signals (signalAt (now (sig .entry))) (routeAt (now (tail .entry)))) n ⌝ }
 {
     let mut past = 0;
     let mut k = 0;
     while k < n {
         let r = entries::route_at(tail, k);
         if !entries::route_rule(sig, signals, k, past, r) {
-            return 2 + 6 * k;
+            return k;
         }
         past = entries::route_end(sig, r);
         k += 1;
     }
-    2 + 6 * n
+    n
 }
 
 // Inner: the greatest since-version of the signals, 1 if there is none.
@@ -205,7 +205,7 @@ fn from_routes(sig: &[u8], signals: usize, checks: usize, codes: usize, tail: &[
     match opened {
         Section::Refused(f) => Judged::Refused(f),
         Section::Entries(routes) => {
-            let at = first_bad_route(sig, signals, tail, routes);
+            let at = 2 + 6 * first_bad_route(sig, signals, tail, routes);
             let end = 2 + 6 * routes;
             if at < end {
                 return Judged::Refused(Refusal::EntryBroken(at));
@@ -234,7 +234,7 @@ fn from_codes(sig: &[u8], signals: usize, checks: usize, tail: &[u8]) -> Judged
     match opened {
         Section::Refused(f) => Judged::Refused(f),
         Section::Entries(codes) => {
-            let at = first_bad_code(sig, signals, tail, codes);
+            let at = 2 + 6 * first_bad_code(sig, signals, tail, codes);
             let end = 2 + 6 * codes;
             if at < end {
                 return Judged::Refused(Refusal::EntryBroken(at));
@@ -277,7 +277,7 @@ pub fn judge(list: &[u8]) -> Judged
     match opened {
         Section::Refused(f) => Judged::Refused(f),
         Section::Entries(checks) => {
-            let at = first_bad_check(list, checks);
+            let at = 2 + 2 * first_bad_check(list, checks);
             let end = 2 + 2 * checks;
             if at < end {
                 return Judged::Refused(Refusal::EntryBroken(at));

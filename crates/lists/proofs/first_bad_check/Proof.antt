@@ -1,8 +1,7 @@
 -- `lists::first_bad_check` meets its contract: every entry passed keeps its rule. Assumes nothing.
 use Prim.Native.Nat.{_-_}
-use mathlib.Core.Path.{ap}
 use borrow.Author.Needs.{needs}
-use Rattle.paper.specs.SignalList.{entry, checkSize, checkAt, checkRule}
+use Rattle.paper.specs.SignalList.{checkAt, checkRule}
 use Rattle.paper.proofs.LoopLaws.{Passed, passed-none, passed-more, fails-here, fails-nowhere}
 use Rattle.lists.proofs.first_bad_check.Statement.{statement}
 use Rattle.lists.proofs.first_bad_check.Tie as tie
@@ -16,7 +15,7 @@ abbrev μ-loop : tie.MeasureT-loop
 returns : tie.Need-returns Inv-loop μ-loop
 returns c =
     let t = c .before .before in
-    ap (entry checkSize) (fails-here (t .before .loop .inv) (t .loop-test .taken) (c .before .check-rule .ensures) (c .if1 .taken))
+    fails-here (t .before .loop .inv) (t .loop-test .taken) (c .before .check-rule .ensures) (c .if1 .taken)
 
 loop-again : tie.Need-loop-again Inv-loop μ-loop
 loop-again c =
@@ -24,7 +23,7 @@ loop-again c =
     passed-more (t .before .loop .inv) (t .loop-test .taken) (c .before .check-rule .ensures) (c .if1 .left)
 
 returns-2 : tie.Need-returns-2 Inv-loop μ-loop
-returns-2 c = ap (entry checkSize) (fails-nowhere (c .before .loop .inv) (c .loop-test .left))
+returns-2 c = fails-nowhere (c .before .loop .inv) (c .loop-test .left)
 
 pub first-bad-check-spec : {M : Type 1} → statement M
 first-bad-check-spec =
@@ -34,12 +33,8 @@ first-bad-check-spec =
     μ-loop
     (λ c. passed-none _ _)
     (λ c κs. search needs)
-    (λ c. search needs)
-    (λ c. search needs)
     returns
     (λ c. search needs)
     (λ c. search needs)
     loop-again
-    (λ c. search needs)
-    (λ c. search needs)
     returns-2)

@@ -1,9 +1,9 @@
 -- `lists::first_bad_code` meets its contract: every entry passed keeps its rule. Assumes nothing.
 use Prim.Native.Nat.{_-_, _<_}
-use mathlib.Core.Path.{_≡_, ap, _∙_}
+use mathlib.Core.Path.{_≡_, _∙_}
 use denote.Ref.{now}
 use borrow.Author.Needs.{needs}
-use Rattle.paper.specs.SignalList.{entry, codeSize, signalAt, codeAt, codeRule}
+use Rattle.paper.specs.SignalList.{signalAt, codeAt, codeRule}
 use Rattle.paper.proofs.LoopLaws.{Passed, passed-none, passed-more, fails-here, fails-nowhere}
 use Rattle.entries.specs.Entries.{codeOf}
 use Rattle.entries.proofs.Laws.{Before, before-first, before-next, code-keeps}
@@ -26,7 +26,7 @@ tested c = c .code-rule .ensures ∙ code-keeps _ _ _ _ (c .before .before .befo
 returns : tie.Need-returns Inv-loop μ-loop
 returns c =
     let t = c .before .before .before in
-    ap (entry codeSize) (fails-here (t .before .loop .inv .0) (t .loop-test .taken) (tested (c .before)) (c .if1 .taken))
+    fails-here (t .before .loop .inv .0) (t .loop-test .taken) (tested (c .before)) (c .if1 .taken)
 
 loop-again : tie.Need-loop-again Inv-loop μ-loop
 loop-again c =
@@ -35,7 +35,7 @@ loop-again c =
     (passed-more (t .before .loop .inv .0) (t .loop-test .taken) (tested (c .before)) (c .if1 .left), (before-next _ (e .code-at .ensures .is), e .code-at .ensures .high-small))
 
 returns-2 : tie.Need-returns-2 Inv-loop μ-loop
-returns-2 c = ap (entry codeSize) (fails-nowhere (c .before .loop .inv .0) (c .loop-test .left))
+returns-2 c = fails-nowhere (c .before .loop .inv .0) (c .loop-test .left)
 
 pub first-bad-code-spec : {M : Type 1} → statement M
 first-bad-code-spec =
@@ -47,12 +47,8 @@ first-bad-code-spec =
     (λ c. (passed-none _ _, (before-first, c .no-code .ensures)))
     (λ c κs. search needs)
     (λ c κs. search needs)
-    (λ c. search needs)
-    (λ c. search needs)
     returns
     (λ c. search needs)
     (λ c. search needs)
     loop-again
-    (λ c. search needs)
-    (λ c. search needs)
     returns-2)

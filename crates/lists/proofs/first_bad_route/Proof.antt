@@ -5,7 +5,7 @@ use native.Mathlib.Omega.{arith}
 use denote.Ref.{now}
 use borrow.Author.Needs.{needs}
 use borrow.Author.Tests.{not-false}
-use Rattle.paper.specs.SignalList.{Route, entry, routeSize, signalAt, routeEnd, routeAt, routeRule}
+use Rattle.paper.specs.SignalList.{Route, signalAt, routeEnd, routeAt, routeRule}
 use Rattle.paper.proofs.ListLaws.{route-kept}
 use Rattle.paper.proofs.LoopLaws.{Passed, passed-none, passed-more, fails-here, fails-nowhere}
 use Rattle.entries.proofs.Laws.{Before, before-first, before-next, route-keeps}
@@ -29,7 +29,7 @@ tested c = c .route-rule .ensures ∙ route-keeps _ _ _ _ (c .before .before .be
 returns : tie.Need-returns Inv-loop μ-loop
 returns c =
     let t = c .before .before .before in
-    ap (entry routeSize) (fails-here (t .before .loop .inv .0) (t .loop-test .taken) (tested (c .before)) (c .if1 .taken))
+    fails-here (t .before .loop .inv .0) (t .loop-test .taken) (tested (c .before)) (c .if1 .taken)
 
 exists : (c : tie.Else1 Inv-loop μ-loop) → c .before .before .route-at .result .signal < c .before .before .before .before .before .before .before .args .signals
 exists c =
@@ -46,7 +46,7 @@ loop-again c =
     )
 
 returns-2 : tie.Need-returns-2 Inv-loop μ-loop
-returns-2 c = ap (entry routeSize) (fails-nowhere (c .before .loop .inv .0) (c .loop-test .left))
+returns-2 c = fails-nowhere (c .before .loop .inv .0) (c .loop-test .left)
 
 pub first-bad-route-spec : {M : Type 1} → statement M
 first-bad-route-spec =
@@ -57,13 +57,9 @@ first-bad-route-spec =
     (λ c. (passed-none _ _, before-first))
     (λ c κs. search needs)
     (λ c κs. search needs)
-    (λ c. search needs)
-    (λ c. search needs)
     returns
     (λ c κs. (omega (arith, exists c), search needs))
     (λ c. search needs)
     (λ c. search needs)
     loop-again
-    (λ c. search needs)
-    (λ c. search needs)
     returns-2)

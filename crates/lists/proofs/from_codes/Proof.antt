@@ -1,13 +1,14 @@
 -- `lists::from_codes` meets its contract. Assumes nothing.
 use Prim.Native.Nat.{ℕ}
+use mathlib.Core.Path.{ap}
 use mathlib.Core.List.{List}
 use native.Mathlib.Omega.{arith}
 use denote.Ref.{now}
 use borrow.Author.Needs.{needs}
 use Rattle.paper.specs.Answer.{Answer}
-use Rattle.paper.specs.SignalList.{Counts, codeSize, mostCodes, signalAt, codeAt, codeRule, fromRoutes, fromCodes}
+use Rattle.paper.specs.SignalList.{Counts, entry, codeSize, mostCodes, signalAt, codeAt, codeRule, fromRoutes, fromCodes}
 use Rattle.paper.proofs.ListLaws.{routes-within}
-use Rattle.lists.proofs.Laws.{Part, onward, Opens, opens, not-opened, entry-broken, entries-kept, moves, follows}
+use Rattle.lists.proofs.Laws.{Part, onward, Opens, opens, not-opened, found-small, entry-broken, entries-kept, moves, follows}
 use Rattle.lists.proofs.from_codes.Statement.{statement}
 use Rattle.lists.proofs.from_codes.Tie as tie
 
@@ -30,7 +31,7 @@ opened c = opens (part (c .before .before .before .before .before .before)) (c .
 
 returns : tie.Need-returns
 unfolding fromCodes
-returns c = entry-broken (opened (c .before .before)) (c .before .first-bad-code .ensures) (c .if1 .taken)
+returns c = entry-broken (opened (c .before .before)) (ap (entry codeSize) (c .before .first-bad-code .ensures)) (c .if1 .taken)
 
 moved-requires : tie.Need-moved-requires
 moved-requires c κs =
@@ -47,7 +48,7 @@ returns-3 c =
     let r = c .before in
     let e = r .before .before in
     let t = e .before .before in
-    entries-kept (opened t) (e .before .first-bad-code .ensures) (omega arith) (e .if1 .left) _
+    entries-kept (opened t) (ap (entry codeSize) (e .before .first-bad-code .ensures)) (omega arith) (e .if1 .left) _
     (follows (opened t) (from (t .before .before .before .before .before .before)) (r .from-routes .ensures) (r .before .rest .ensures) (c .moved .ensures))
 
 pub from-codes-spec : {M : Type 1} → statement M
@@ -58,6 +59,8 @@ from-codes-spec =
     (λ c. search needs)
     (λ c. search needs)
     (λ c κs. (search needs, opened c .present))
+    (λ c. omega (arith, found-small (opened (c .before)) (c .first-bad-code .ensures)))
+    (λ c. omega (arith, found-small (opened (c .before)) (c .first-bad-code .ensures)))
     (λ c. omega (arith, opened (c .before)))
     (λ c. omega (arith, opened (c .before)))
     returns

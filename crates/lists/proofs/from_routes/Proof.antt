@@ -1,11 +1,12 @@
 -- `lists::from_routes` meets its contract. Assumes nothing.
+use mathlib.Core.Path.{ap}
 use native.Mathlib.Omega.{arith}
 use denote.Ref.{now}
 use borrow.Author.Needs.{needs}
 use borrow.Author.Tests.{lt-ltb, le-ltb}
 use Rattle.paper.specs.Answer.{refuseIf}
-use Rattle.paper.specs.SignalList.{routeSize, mostRoutes, signalAt, routeAt, routeRule, ending, fromRoutes}
-use Rattle.lists.proofs.Laws.{Part, Opens, opens, not-opened, entry-broken, entries-kept}
+use Rattle.paper.specs.SignalList.{entry, routeSize, mostRoutes, signalAt, routeAt, routeRule, ending, fromRoutes}
+use Rattle.lists.proofs.Laws.{Part, Opens, opens, not-opened, found-small, entry-broken, entries-kept}
 use Rattle.lists.proofs.from_routes.Statement.{statement}
 use Rattle.lists.proofs.from_routes.Tie as tie
 
@@ -27,13 +28,13 @@ opened c = opens (part (c .before .before .before .before .before .before)) (c .
 
 returns : tie.Need-returns
 unfolding fromRoutes
-returns c = entry-broken (opened (c .before .before)) (c .before .first-bad-route .ensures) (c .if1 .taken)
+returns c = entry-broken (opened (c .before .before)) (ap (entry routeSize) (c .before .first-bad-route .ensures)) (c .if1 .taken)
 
 returns-2 : tie.Need-returns-2
 unfolding fromRoutes ending refuseIf
 returns-2 c =
     let e = c .before in
-    entries-kept (opened (e .before .before)) (e .before .first-bad-route .ensures) (omega arith) (e .if1 .left) _ (simp (lt-ltb _ _ (c .if2 .taken)))
+    entries-kept (opened (e .before .before)) (ap (entry routeSize) (e .before .first-bad-route .ensures)) (omega arith) (e .if1 .left) _ (simp (lt-ltb _ _ (c .if2 .taken)))
 
 returns-3 : tie.Need-returns-3
 unfolding fromRoutes
@@ -43,7 +44,7 @@ returns-4 : tie.Need-returns-4
 unfolding fromRoutes ending refuseIf
 returns-4 c =
     let e = c .before .before in
-    entries-kept (opened (e .before .before)) (e .before .first-bad-route .ensures) (omega arith) (e .if1 .left) _
+    entries-kept (opened (e .before .before)) (ap (entry routeSize) (e .before .first-bad-route .ensures)) (omega arith) (e .if1 .left) _
     (simp (le-ltb _ _ (c .before .if2 .left), c .version-of .ensures))
 
 pub from-routes-spec : {M : Type 1} → statement M
@@ -54,6 +55,8 @@ from-routes-spec =
     (λ c. search needs)
     (λ c. search needs)
     (λ c κs. (search needs, opened c .present))
+    (λ c. omega (arith, found-small (opened (c .before)) (c .first-bad-route .ensures)))
+    (λ c. omega (arith, found-small (opened (c .before)) (c .first-bad-route .ensures)))
     (λ c. omega (arith, opened (c .before)))
     (λ c. omega (arith, opened (c .before)))
     returns

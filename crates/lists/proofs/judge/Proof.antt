@@ -1,13 +1,14 @@
 -- `lists::judge` meets its contract. Assumes nothing.
 use Prim.Native.Nat.{ℕ}
+use mathlib.Core.Path.{ap}
 use mathlib.Core.List.{List}
 use native.Mathlib.Omega.{arith}
 use denote.Ref.{now}
 use borrow.Author.Needs.{needs}
 use Rattle.paper.specs.Answer.{Answer}
-use Rattle.paper.specs.SignalList.{Counts, checkSize, mostChecks, checkAt, checkRule, fromSignals, judge}
+use Rattle.paper.specs.SignalList.{Counts, entry, checkSize, mostChecks, checkAt, checkRule, fromSignals, judge}
 use Rattle.paper.proofs.ListLaws.{signals-within}
-use Rattle.lists.proofs.Laws.{Part, onward, Opens, opens, not-opened, entry-broken, entries-kept, all-kept, moves, follows}
+use Rattle.lists.proofs.Laws.{Part, onward, Opens, opens, not-opened, found-small, entry-broken, entries-kept, all-kept, moves, follows}
 use Rattle.lists.proofs.judge.Statement.{statement}
 use Rattle.lists.proofs.judge.Tie as tie
 
@@ -30,13 +31,13 @@ opened c = opens (part (c .before .before .before .before .before)) (c .before .
 
 returns : tie.Need-returns
 unfolding judge
-returns c = entry-broken (opened (c .before .before)) (c .before .first-bad-check .ensures) (c .if1 .taken)
+returns c = entry-broken (opened (c .before .before)) (ap (entry checkSize) (c .before .first-bad-check .ensures)) (c .if1 .taken)
 
 from-signals-requires : tie.Need-from-signals-requires
 from-signals-requires c κs =
     let e = c .before in
     let t = e .before .before in
-    (opened t .present, all-kept (opened t) (e .before .first-bad-check .ensures) (omega arith) (e .if1 .left))
+    (opened t .present, all-kept (opened t) (ap (entry checkSize) (e .before .first-bad-check .ensures)) (omega arith) (e .if1 .left))
 
 moved-requires : tie.Need-moved-requires
 moved-requires c κs =
@@ -53,7 +54,7 @@ returns-3 c =
     let r = c .before in
     let e = r .before .before in
     let t = e .before .before in
-    entries-kept (opened t) (e .before .first-bad-check .ensures) (omega arith) (e .if1 .left) _
+    entries-kept (opened t) (ap (entry checkSize) (e .before .first-bad-check .ensures)) (omega arith) (e .if1 .left) _
     (follows (opened t) (from (t .before .before .before .before .before)) (r .from-signals .ensures) (r .before .rest .ensures) (c .moved .ensures))
 
 pub judge-spec : {M : Type 1} → statement M
@@ -64,6 +65,8 @@ judge-spec =
     (λ c. search needs)
     (λ c. search needs)
     (λ c κs. opened c .present)
+    (λ c. omega (arith, found-small (opened (c .before)) (c .first-bad-check .ensures)))
+    (λ c. omega (arith, found-small (opened (c .before)) (c .first-bad-check .ensures)))
     (λ c. omega (arith, opened (c .before)))
     (λ c. omega (arith, opened (c .before)))
     returns
