@@ -88,15 +88,15 @@ fn first_bad_check(list: &[u8], n: usize) -> usize
     n
 }
 
-// The first check that a field from s on may share a bit with: those before `from` end at or before the start of p.
+// The first check that s may share a bit with: those before `from` end at or before the start of p.
 fn resumed(p: Signal, s: Signal, from: usize) -> usize
     ensures { λ r. ⌜ r ≡ cond (leb (p .start) (s .start)) from 0 ⌝ }
 {
     if p.start <= s.start { from } else { 0 }
 }
 
-// The offset of the first of n signals that breaks its rule, or the end of the section: each is tested by its own rule and then against the checks from the first that may matter to the first at or past its end:
-// checks rise, and starts do within a type.
+// The offset of the first of n signals that breaks its rule, or the end of the section. Each is tested by its own rule and then against the checks from
+// the first that may share a bit with it to the first at or past its end: checks rise, and starts do within a type.
 fn first_bad_signal(list: &[u8], checks: usize, tail: &[u8], n: usize) -> usize
     requires { ⌜ (entry checkSize checks ≤ length (now list)) × (all (checkRule (checkAt (now list))) checks ≡ true) ⌝ }
     requires { ⌜ entry signalSize n ≤ length (now tail) ⌝ }
