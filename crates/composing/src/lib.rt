@@ -22,7 +22,7 @@ use refusals::Refusal;
 
 // Whether signal k knows a code under the list.
 fn is_known(list: &[u8], n: Counts, k: usize, code: u64) -> bool
-    requires { ⌜ Laid (now list) (countsOf n) ⌝ }
+    requires { ⌜ (Laid (now list) (countsOf n)) × (k < n .signals) ⌝ }
     ensures { λ r. ⌜ r ≡ knows (listOf (now (list .entry)) (countsOf n)) k code ⌝ }
 {
     known::known(lists::codes_part(list, n), n.codes, k, code)

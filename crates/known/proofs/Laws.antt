@@ -1,17 +1,225 @@
--- One code entry more. Assumes nothing.
-use Prim.Native.Nat.{ℕ, _+_}
-use mathlib.Core.Path.{_≡_}
-use mathlib.Core.Bool.{_&&_, _||_}
+-- What the order of an accepted list's code entries tells: which are a signal's, and which of them holds a code. Assumes nothing.
+use Prim.Native.Nat.{ℕ, zero, suc, _+_, _-_, _*_, _^_, _≤_, _<_, zero-le}
+use mathlib.Core.Path.{_≡_, refl, sym, ap, _∙_}
+use mathlib.Core.Logic.{_⊎_, inl, inr, ⊎-elim}
+use mathlib.Core.Bool.{Bool, true, false, not, _&&_, _||_, and-false}
+use mathlib.Core.List.{List}
+use native.Mathlib.Nat.{le-refl}
+use native.Mathlib.Decide.{decLt, ℕ-discrete}
+use native.Mathlib.Omega.{arith}
 use lib.Dec.{leb, eqb}
-use Rattle.paper.specs.SignalList.{Code}
-use Rattle.paper.specs.Extends.{hasCodes, inRange}
-use Rattle.paper.proofs.FirstLaws.{some-more}
+use lib.Pow.{pow-mono}
+use borrow.Author.Count.{below-none}
+use borrow.Author.Tests.{le-leb, lt-leb, eq-eqb, ne-eqb}
+use Rattle.paper.specs.First.{some}
+use Rattle.paper.specs.SignalList.{Code, SignalList, Counts, listOf, codeAt, codesPart}
+use Rattle.paper.specs.Extends.{hasCodes, inRange, knownIn}
+use Rattle.paper.proofs.FirstLaws.{some-true, some-false}
+use Rattle.paper.proofs.ListLaws.{Laid, Kept, kept-of, CodeFollows}
+use Rattle.known.specs.Known.{Ordered, Coded, codeKeys, Between, Cut, Own}
 
-module _ (code : ℕ → Code) (e k c : ℕ) where
-  pub has-more : hasCodes (e + 1) code k ≡ (hasCodes e code k || eqb (code e .signal) k)
-  unfolding hasCodes
-  has-more = some-more (λ e. eqb (code e .signal) k) e
+-- ---- the first of rising numbers that is not below a key
 
-  pub range-more : inRange (e + 1) code k c ≡ (inRange e code k c || eqb (code e .signal) k && leb (code e .low) c && leb c (code e .high))
-  unfolding inRange
-  range-more = some-more (λ e. eqb (code e .signal) k && leb (code e .low) c && leb c (code e .high)) e
+abbrev pub Rising : (ℕ → ℕ) → ℕ → Type 0
+Rising f n = (i j : ℕ) → i < j → j < n → f i < f j
+
+module _ (f : ℕ → ℕ) (n key : ℕ) where
+  pub all-between : Between f n key 0 n
+  all-between = record { ordered = zero-le; most = le-refl n; below = below-none _; above = λ k le lt. absurd (omega arith) }
+
+  pub none-between : (low high : ℕ) → Between f n key low high → high ≤ low → Cut f n key low
+  none-between low high h le =
+      record { ordered = le-refl low; most = omega (arith, h .ordered, h .most); below = h .below; above = λ k ge lt. h .above k (omega arith) lt }
+
+  module _ (rise : Rising f n) where
+    -- one test settles every number on its side
+    pub low-raised : (low mid high : ℕ) → Between f n key low high → mid < high → f mid < key → Between f n key (mid + 1) high
+    low-raised low mid high h lt t =
+        record {
+          ordered = omega arith;
+          most = h .most;
+          below = λ k l.
+              elim (decLt k mid) [
+                | yes less ↦ omega (arith, rise k mid less (omega (arith, h .most)))
+                | no ge ↦ let e : k ≡ mid = omega arith in omega (arith, ap f e)
+              ];
+          above = h .above;
+        }
+
+    pub high-lowered : (low mid high : ℕ) → Between f n key low high → low ≤ mid → mid < high → key ≤ f mid → Between f n key low mid
+    high-lowered low mid high h le lt t =
+        record {
+          ordered = le;
+          most = omega (arith, h .most);
+          below = h .below;
+          above = λ k l hk.
+              elim (decLt mid k) [
+                | yes less ↦ omega (arith, rise mid k less hk)
+                | no ge ↦ let e : k ≡ mid = omega arith in omega (arith, ap f e)
+              ];
+        }
+
+-- ---- the order of code entries
+
+module _ (l : SignalList) (h : Kept l) where
+  codes-follow : (d e : ℕ) → e + suc d < l .codes → CodeFollows (l .code e) (l .code (e + suc d))
+  codes-follow zero e lt =
+      let z : e + 1 ≡ suc e = omega arith in
+      let y : suc e - 1 ≡ e = omega arith in
+      rw z (rw y at (h .code (suc e) (omega arith) .follows (omega arith)))
+  codes-follow (suc d) e lt =
+      let z : e + suc (suc d) ≡ suc (e + suc d) = omega arith in
+      let y : suc (e + suc d) - 1 ≡ e + suc d = omega arith in
+      rw z (by (l .code e) (l .code (e + suc d)) (l .code (suc (e + suc d))) (codes-follow d e (omega arith)) (h .code (e + suc d) (omega arith) .range) (rw y at (h .code (suc (e + suc d)) (omega arith) .follows (omega arith))))
+    where
+      by : (p c q : Code) → CodeFollows p c → c .low ≤ c .high → CodeFollows c q → CodeFollows p q
+      by p c q (inl a) r (inl b) = inl (omega arith)
+      by p c q (inl a) r (inr b) = inl (omega (arith, b .0))
+      by p c q (inr a) r (inl b) = inl (omega (arith, a .0))
+      by p c q (inr a) r (inr b) = inr (a .0 ∙ b .0, omega (arith, a .1, b .1))
+
+  pub ordered-of : Ordered (l .codes) (l .code)
+  ordered-of = record {
+    range = λ e lt. h .code e lt .range;
+    small = λ e lt.
+        let w = h .code e lt in
+        let p : 2 ^ l .signal (l .code e .signal) .width ≤ 2 ^ 16 = pow-mono (w .narrow) in
+        omega (arith, w .fits);
+    follows = λ e g lt hg. let z : e + suc (g - suc e) ≡ g = omega arith in rw z at (codes-follow (g - suc e) e (rw z hg));
+  }
+
+pub coded-of : (xs : List ℕ) (n : Counts) → Laid xs n → Coded (codesPart xs n) (n .codes)
+coded-of xs n h = record { few = h .codes .opens .within; present = h .codes .opens .present; ordered = ordered-of (listOf xs n) (kept-of xs n h) }
+
+module _ (codes : ℕ) (code : ℕ → Code) (h : Ordered codes code) where
+  pub codes-rise : Rising (codeKeys code) codes
+  codes-rise e g lt hg =
+      ⊎-elim (λ a. omega (arith, h .small e (omega arith))) (λ a. omega (arith, a .0, a .1, h .range g hg)) (h .follows e g lt hg)
+
+  -- ---- which entries are a signal's
+
+  module _ (k : ℕ) where
+    -- past those that are below the signal, none is below the next
+    pub next-between : (from : ℕ) → Cut (codeKeys code) codes (k * 65536) from → Between (codeKeys code) codes ((k + 1) * 65536) from codes
+    next-between from c = record {
+      ordered = c .most;
+      most = le-refl codes;
+      below = λ e lt. omega (arith, c .below e lt);
+      above = λ e le lt. absurd (omega arith);
+    }
+
+    pub own-of : (from to : ℕ) → Cut (codeKeys code) codes (k * 65536) from → Cut (codeKeys code) codes ((k + 1) * 65536) to → Own codes code k from to
+    own-of from to c d = record {
+      ordered = elim (decLt to from) [
+        | yes less ↦ absurd (omega (arith, c .below to less, d .above to (le-refl to) (omega (arith, c .most))))
+        | no ge ↦ omega arith
+      ];
+      most = d .most;
+      before = λ e lt. omega (arith, c .below e lt);
+      within = λ e le lt. omega (arith, c .above e le (omega (arith, d .most)), d .below e lt, h .small e (omega (arith, d .most)));
+      after = λ e le lt. omega (arith, d .above e le lt, h .small e lt);
+    }
+
+    -- ---- what a signal with these entries knows
+
+    module _ (from to : ℕ) (own : Own codes code k from to) where
+      -- an entry of the signal is one of them
+      is-within : (e : ℕ) → e < codes → code e .signal ≡ k → (from ≤ e) × (e < to)
+      is-within e lt q =
+          elim (decLt e from) [
+            | yes less ↦ absurd (omega (arith, own .before e less))
+            | no ge ↦ elim (decLt e to) [
+              | yes less ↦ (omega arith, less)
+              | no past ↦ absurd (omega (arith, own .after e (omega arith) lt))
+            ]
+          ]
+
+      pub has-none : from ≡ to → hasCodes codes code k ≡ false
+      unfolding hasCodes
+      has-none z = some-false (λ e. eqb (code e .signal) k) codes (λ e lt. ne-eqb _ _ (λ q. let w = is-within e lt q in omega (arith, w .0, w .1)))
+
+      pub has-some : (from ≡ to → ⊥) → hasCodes codes code k ≡ true
+      unfolding hasCodes
+      has-some ne =
+          let lt : from < to = omega (arith, own .ordered) in
+          some-true (λ e. eqb (code e .signal) k) codes from (omega (arith, own .most)) (eq-eqb _ _ (own .within from (le-refl from) lt))
+
+      module _ (c : ℕ) where
+        abbrev holds : ℕ → Bool
+        holds e = eqb (code e .signal) k && leb (code e .low) c && leb c (code e .high)
+
+        -- none of them holds the code
+        in-none : ((e : ℕ) → from ≤ e → e < to → (c < code e .low) ⊎ (code e .high < c)) → inRange codes code k c ≡ false
+        unfolding inRange
+        in-none out = some-false holds codes (λ e lt. by e lt (ℕ-discrete (code e .signal) k))
+          where
+            by : (e : ℕ) → e < codes → Dec (code e .signal ≡ k) → holds e ≡ false
+            by e lt (no ne) = simp (ne-eqb _ _ ne)
+            by e lt (yes q) =
+                let w = is-within e lt q in
+                ⊎-elim (λ a. simp (eq-eqb _ _ q, lt-leb (code e .low) c a)) (λ a. simp (lt-leb c (code e .high) a) (and-false (eqb (code e .signal) k && leb (code e .low) c)))
+                (out e (w .0) (w .1))
+
+        in-at : (e : ℕ) → e < codes → code e .signal ≡ k → code e .low ≤ c → c ≤ code e .high → inRange codes code k c ≡ true
+        unfolding inRange
+        in-at e lt q lo hi = some-true holds codes e lt (simp (eq-eqb _ _ q, le-leb _ _ lo, le-leb _ _ hi))
+
+        pub knows-all : from ≡ to → true ≡ knownIn codes code k c
+        unfolding knownIn
+        knows-all z = simp (has-none z)
+
+        module _ (ne : from ≡ to → ⊥) where
+          -- every range ends below it
+          pub knows-below : ((e : ℕ) → from ≤ e → e < to → code e .high < c) → false ≡ knownIn codes code k c
+          unfolding knownIn
+          knows-below out = simp (has-some ne, in-none (λ e ge lt. inr (out e ge lt)))
+
+          -- halving starts with them
+          module _ (fits : c < 65536) where
+            pub own-between : Between (codeKeys code) codes (k * 65536 + c) from to
+            own-between = record {
+              ordered = own .ordered;
+              most = own .most;
+              below = λ e lt. omega (arith, own .before e lt, h .small e (omega (arith, own .ordered, own .most)));
+              above = λ e le lt. omega (arith, own .after e le lt);
+            }
+
+          module _ (e : ℕ) (cut : Cut (codeKeys code) codes (k * 65536 + c) e) where
+            pub knows-past : to ≤ e → false ≡ knownIn codes code k c
+            knows-past le = knows-below (λ g ge lt. omega (arith, cut .below g (omega arith), own .within g ge lt))
+
+            pub knows-here : e < to → leb (code e .low) c ≡ knownIn codes code k c
+            unfolding knownIn
+            knows-here lt = elim (decLt c (code e .low)) [
+              | yes less ↦ simp (lt-leb _ _ less, has-some ne, in-none (outside less))
+              | no le ↦
+                  let lo : code e .low ≤ c = omega arith in
+                  simp (le-leb _ _ lo, has-some ne, in-this lo)
+            ]
+              where
+                there : e < codes
+                there = omega (arith, own .most)
+
+                ge : from ≤ e
+                ge = elim (decLt e from) [
+                  | yes less ↦ absurd (omega (arith, own .before e less, h .small e there, cut .above e (le-refl e) there))
+                  | no past ↦ omega arith
+                ]
+
+                reaches : c ≤ code e .high
+                reaches = omega (arith, cut .above e (le-refl e) there, own .within e ge lt)
+
+                outside : c < code e .low → (g : ℕ) → from ≤ g → g < to → (c < code g .low) ⊎ (code g .high < c)
+                outside less g hg lg =
+                    elim (decLt g e) [
+                      | yes l ↦ inr (omega (arith, cut .below g l, own .within g hg lg))
+                      | no m ↦ elim (ℕ-discrete g e) [
+                        | yes z ↦ inl (rw z less)
+                        | no more ↦
+                            ⊎-elim (λ a. absurd (omega (arith, own .within e ge lt, own .within g hg lg))) (λ a. inl (omega (arith, a .1, reaches)))
+                            (h .follows e g (omega arith) (omega (arith, own .most)))
+                      ]
+                    ]
+
+                in-this : code e .low ≤ c → inRange codes code k c ≡ true
+                in-this lo = in-at e there (own .within e ge lt) lo reaches

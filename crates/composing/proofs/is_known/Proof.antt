@@ -2,14 +2,20 @@
 use Prim.Native.Nat.{ℕ}
 use mathlib.Core.Path.{ap, _∙_}
 use mathlib.Core.List.{List}
+use native.Mathlib.Omega.{arith}
+use denote.Ref.{now}
 use borrow.Author.Needs.{needs}
 use Rattle.paper.specs.SignalList.{codeAt}
 use Rattle.paper.specs.Extends.{knows, knownIn}
+use Rattle.lists.specs.Judged.{countsOf}
+use Rattle.known.proofs.Laws.{coded-of}
 use Rattle.composing.proofs.is_known.Statement.{statement}
 use Rattle.composing.proofs.is_known.Tie as tie
 
 known-requires : tie.Need-known-requires
-known-requires c κs = rw (c .codes-part .ensures) (c .before .before .pre .codes .opens .present)
+known-requires c κs =
+    let s = c .before .before in
+    (rw (c .codes-part .ensures) (coded-of (now (s .args .list)) (countsOf (s .args .n)) (s .pre .0)), omega (arith, s .pre .1, s .pre .0 .signals .opens .within))
 
 returns : tie.Need-returns
 unfolding knows

@@ -11,6 +11,7 @@ use Rattle.paper.specs.Extends.{knownIn, knows}
 use Rattle.paper.specs.Reading.{markOf, codeOf}
 use Rattle.octets.specs.Fields.{Within}
 use Rattle.lists.specs.Judged.{countsOf}
+use Rattle.known.proofs.Laws.{coded-of}
 use Rattle.reading.specs.Reading.{telegramReason}
 use Rattle.reading.proofs.Laws.{field-there, check-there, telegram-given}
 use Rattle.reading.proofs.read_telegram.Statement.{statement}
@@ -24,7 +25,10 @@ read-field-requires c κs =
     (field-there (now (a .list)) (countsOf (a .n)) (a .k) (now (a .telegram)) (b .pre .0 .0) (b .pre .0 .1) (b .pre .1 .1))
 
 known-requires : tie.Need-known-requires
-known-requires c κs = rw (c .codes-part .ensures) (c .before .before .before .before .pre .0 .0 .codes .opens .present)
+known-requires c κs =
+    let b = c .before .before .before .before in
+    let laid = b .pre .0 .0 in
+    (rw (c .codes-part .ensures) (coded-of (now (b .args .list)) (countsOf (b .args .n)) laid), omega (arith, b .pre .0 .1, laid .signals .opens .within))
 
 mark-in-requires : tie.Need-mark-in-requires
 mark-in-requires c κs =

@@ -1,0 +1,45 @@
+-- The code entries of an accepted list in their order, what halving keeps, and which entries are a signal's.
+use Prim.Native.Nat.{ℕ, _+_, _*_, _≤_, _<_}
+use mathlib.Core.Path.{_≡_}
+use mathlib.Core.List.{List}
+use lib.ListN.{length}
+use Rattle.paper.specs.SignalList.{Code, entry, codeSize, mostCodes, codeAt}
+use Rattle.paper.proofs.ListLaws.{CodeFollows}
+
+-- of two entries the later is of a later signal, or past a gap
+pub record Ordered (codes : ℕ) (code : ℕ → Code) : Type 0 where
+  pub range : (e : ℕ) → e < codes → code e .low ≤ code e .high
+  pub small : (e : ℕ) → e < codes → code e .high < 65536
+  pub follows : (e g : ℕ) → e < g → g < codes → CodeFollows (code e) (code g)
+
+-- the code entries of an accepted list, from their count on
+pub record Coded (xs : List ℕ) (codes : ℕ) : Type 0 where
+  pub few : codes ≤ mostCodes
+  pub present : entry codeSize codes ≤ length xs
+  pub ordered : Ordered codes (codeAt xs)
+
+-- what the entries rise by
+abbrev pub codeKey : Code → ℕ
+codeKey c = c .signal * 65536 + c .high
+
+abbrev pub codeKeys : (ℕ → Code) → ℕ → ℕ
+codeKeys code e = codeKey (code e)
+
+-- what halving keeps: the numbers before `low` are below the key, those from `high` on are not
+pub record Between (f : ℕ → ℕ) (n key low high : ℕ) : Type 0 where
+  pub ordered : low ≤ high
+  pub most : high ≤ n
+  pub below : (k : ℕ) → k < low → f k < key
+  pub above : (k : ℕ) → high ≤ k → k < n → key ≤ f k
+
+-- nothing is left between: r parts the numbers
+abbrev pub Cut : (ℕ → ℕ) → ℕ → ℕ → ℕ → Type 0
+Cut f n key r = Between f n key r r
+
+-- the entries of signal k are those from `from` to before `to`
+pub record Own (codes : ℕ) (code : ℕ → Code) (k from to : ℕ) : Type 0 where
+  pub ordered : from ≤ to
+  pub most : to ≤ codes
+  pub before : (e : ℕ) → e < from → code e .signal < k
+  pub within : (e : ℕ) → from ≤ e → e < to → code e .signal ≡ k
+  pub after : (e : ℕ) → to ≤ e → e < codes → k < code e .signal
