@@ -9,14 +9,14 @@ use native.Mathlib.Decide.{decLt, ℕ-discrete}
 use native.Mathlib.Omega.{arith}
 use lib.Dec.{leb, eqb}
 use lib.Pow.{pow-mono}
-use borrow.Author.Count.{below-none}
+use borrow.Author.Count.{below-none, below-more}
 use borrow.Author.Tests.{le-leb, lt-leb, eq-eqb, ne-eqb}
 use Rattle.paper.specs.First.{some}
 use Rattle.paper.specs.SignalList.{Code, SignalList, Counts, listOf, codeAt, codesPart}
 use Rattle.paper.specs.Extends.{hasCodes, inRange, knownIn}
 use Rattle.paper.proofs.FirstLaws.{some-true, some-false}
 use Rattle.paper.proofs.ListLaws.{Laid, Kept, kept-of, CodeFollows}
-use Rattle.known.specs.Known.{Ordered, Coded, codeKeys, Between, Cut, Own}
+use Rattle.known.specs.Known.{Ordered, Coded, codeKeys, codeSignals, Between, Cut, Own}
 
 -- ---- the first of rising numbers that is not below a key
 
@@ -96,9 +96,67 @@ module _ (codes : ℕ) (code : ℕ → Code) (h : Ordered codes code) where
   codes-rise e g lt hg =
       ⊎-elim (λ a. omega (arith, h .small e (omega arith))) (λ a. omega (arith, a .0, a .1, h .range g hg)) (h .follows e g lt hg)
 
+  -- signals never fall
+  signals-rise : (e g : ℕ) → e ≤ g → g < codes → code e .signal ≤ code g .signal
+  signals-rise e g le hg =
+      elim (decLt e g) [
+        | yes lt ↦ ⊎-elim (λ a. omega arith) (λ a. omega (arith, a .0)) (h .follows e g lt hg)
+        | no ge ↦ let z : e ≡ g = omega arith in omega (arith, ap (λ (x : ℕ). code x .signal) z)
+      ]
+
   -- ---- which entries are a signal's
 
   module _ (k : ℕ) where
+    -- going on from an entry: it is below the signal, or none after it is
+    pub reach-more : (e : ℕ) → Between (codeSignals code) codes k e codes → e < codes → code e .signal < k → Between (codeSignals code) codes k (e + 1) codes
+    reach-more e b lt t = record {
+      ordered = omega arith;
+      most = le-refl codes;
+      below = below-more _ _ (b .below) t;
+      above = λ g le hg. absurd (omega arith);
+    }
+
+    pub reach-here : (e : ℕ) → Between (codeSignals code) codes k e codes → e < codes → k ≤ code e .signal → Cut (codeSignals code) codes k e
+    reach-here e b lt t = record {
+      ordered = le-refl e;
+      most = b .ordered;
+      below = b .below;
+      above = λ g le hg. omega (arith, signals-rise e g le hg);
+    }
+
+    pub reach-next : (e : ℕ) → Cut (codeSignals code) codes k e → Between (codeSignals code) codes (k + 1) e codes
+    reach-next e c = record {
+      ordered = c .most;
+      most = le-refl codes;
+      below = λ g lt. omega (arith, c .below g lt);
+      above = λ g le hg. absurd (omega arith);
+    }
+
+    pub own-from : (from to : ℕ) → Cut (codeSignals code) codes k from → Cut (codeSignals code) codes (k + 1) to → Own codes code k from to
+    own-from from to c d = record {
+      ordered = elim (decLt to from) [
+        | yes less ↦ absurd (omega (arith, c .below to less, d .above to (le-refl to) (omega (arith, c .most))))
+        | no ge ↦ omega arith
+      ];
+      most = d .most;
+      before = λ e lt. omega (arith, c .below e lt);
+      within = λ e le lt. omega (arith, c .above e le (omega (arith, d .most)), d .below e lt);
+      after = λ e le lt. omega (arith, d .above e le lt);
+    }
+
+    -- past the entries of a signal, none is below a later one's
+    pub past-own : (j from to : ℕ) → Own codes code j from to → j < k → Between (codeSignals code) codes k to codes
+    past-own j from to own lt = record {
+      ordered = own .most;
+      most = le-refl codes;
+      below = λ e l.
+          elim (decLt e from) [
+            | yes less ↦ omega (arith, own .before e less)
+            | no ge ↦ omega (arith, own .within e (omega arith) l)
+          ];
+      above = λ g le hg. absurd (omega arith);
+    }
+
     -- past those that are below the signal, none is below the next
     pub next-between : (from : ℕ) → Cut (codeKeys code) codes (k * 65536) from → Between (codeKeys code) codes ((k + 1) * 65536) from codes
     next-between from c = record {

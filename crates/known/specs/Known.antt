@@ -25,7 +25,10 @@ codeKey c = c .signal * 65536 + c .high
 abbrev pub codeKeys : (ℕ → Code) → ℕ → ℕ
 codeKeys code e = codeKey (code e)
 
--- what halving keeps: the numbers before `low` are below the key, those from `high` on are not
+abbrev pub codeSignals : (ℕ → Code) → ℕ → ℕ
+codeSignals code e = code e .signal
+
+-- what a search keeps: the numbers before `low` are below the key, those from `high` on are not
 pub record Between (f : ℕ → ℕ) (n key low high : ℕ) : Type 0 where
   pub ordered : low ≤ high
   pub most : high ≤ n

@@ -1,10 +1,11 @@
-// Known codes: whether a signal knows a code under the list's code entries. The entries are in order, so they are found by halving.
+// Known codes: whether a signal knows a code under the list's code entries. The entries are in order, so they are found by halving, or by
+// going on from those of a signal before.
 ghost use mathlib.Core.Path.{_≡_};
 ghost use Prim.Native.Nat.{_<_};
 ghost use Rattle.paper.specs.SignalList.{codeAt};
 ghost use Rattle.paper.specs.Extends.{knownIn};
 ghost use Rattle.entries.specs.Entries.{codeOf};
-ghost use Rattle.known.specs.Known.{Coded, codeKey, codeKeys, Between, Cut, Own};
+ghost use Rattle.known.specs.Known.{Coded, codeKey, codeKeys, codeSignals, Between, Cut, Own};
 use entries::Code;
 
 // The entries of a signal: from `from` to before `to`.
@@ -21,8 +22,8 @@ fn code_key(c: Code) -> usize
     c.signal * 65536 + c.high
 }
 
-// The first entry whose key is not below this one, which is known to be none before `from` and none past `to`.
-fn first_code(tail: &[u8], codes: usize, from: usize, to: usize, key: usize) -> usize
+// Inner: the first entry whose key is not below this one. It is none before `from`, and all from `to` on are not below.
+pub fn first_code(tail: &[u8], codes: usize, from: usize, to: usize, key: usize) -> usize
     requires { ⌜ (Coded (now tail) codes) × (Between (codeKeys (codeAt (now tail))) codes key from to) ⌝ }
     ensures { λ r. ⌜ Cut (codeKeys (codeAt (now (tail .entry)))) codes key r ⌝ }
 {
@@ -47,6 +48,31 @@ pub fn span_of(tail: &[u8], codes: usize, signal: usize) -> Span
     let from = first_code(tail, codes, 0, codes, signal * 65536);
     let to = first_code(tail, codes, from, codes, (signal + 1) * 65536);
     Span { from, to }
+}
+
+// Inner: the first entry of this signal or a later one. None before `from` is.
+pub fn reach(tail: &[u8], codes: usize, from: usize, signal: usize) -> usize
+    requires { ⌜ (Coded (now tail) codes) × (Between (codeSignals (codeAt (now tail))) codes signal from codes) ⌝ }
+    ensures { λ r. ⌜ Cut (codeSignals (codeAt (now (tail .entry)))) codes signal r ⌝ }
+{
+    let mut e = from;
+    while e < codes {
+        if signal <= entries::code_at(tail, e).signal {
+            return e;
+        }
+        e += 1;
+    }
+    e
+}
+
+// Inner: the entries of a signal, from those of a signal before on.
+pub fn span_from(tail: &[u8], codes: usize, from: usize, signal: usize) -> Span
+    requires { ⌜ (Coded (now tail) codes) × (signal < 65536) × (Between (codeSignals (codeAt (now tail))) codes signal from codes) ⌝ }
+    ensures { λ r. ⌜ Own codes (codeAt (now (tail .entry))) signal (r .from) (r .to) ⌝ }
+{
+    let first = reach(tail, codes, from, signal);
+    let to = reach(tail, codes, first, signal + 1);
+    Span { from: first, to }
 }
 
 // Inner: whether a signal with these entries knows a code. Its ranges never touch, so the first that does not end below it decides.
