@@ -91,6 +91,34 @@ module _ (l : SignalList) (h : Kept l) where
 pub coded-of : (xs : List ℕ) (n : Counts) → Laid xs n → Coded (codesPart xs n) (n .codes)
 coded-of xs n h = record { few = h .codes .opens .within; present = h .codes .opens .present; ordered = ordered-of (listOf xs n) (kept-of xs n h) }
 
+-- ---- whether a signal has an entry, and one that holds a code
+
+module _ (codes : ℕ) (code : ℕ → Code) (k : ℕ) where
+  has-code : (e : ℕ) → e < codes → code e .signal ≡ k → hasCodes codes code k ≡ true
+  unfolding hasCodes
+  has-code e lt q = some-true (λ e. eqb (code e .signal) k) codes e lt (eq-eqb _ _ q)
+
+  has-no-code : ((e : ℕ) → e < codes → code e .signal ≡ k → ⊥) → hasCodes codes code k ≡ false
+  unfolding hasCodes
+  has-no-code none = some-false (λ e. eqb (code e .signal) k) codes (λ e lt. ne-eqb _ _ (none e lt))
+
+  module _ (c : ℕ) where
+    abbrev holds : ℕ → Bool
+    holds e = eqb (code e .signal) k && leb (code e .low) c && leb c (code e .high)
+
+    pub in-range : (e : ℕ) → e < codes → code e .signal ≡ k → code e .low ≤ c → c ≤ code e .high → inRange codes code k c ≡ true
+    unfolding inRange
+    in-range e lt q lo hi = some-true holds codes e lt (simp (eq-eqb _ _ q, le-leb _ _ lo, le-leb _ _ hi))
+
+    pub in-none : ((e : ℕ) → e < codes → code e .signal ≡ k → (c < code e .low) ⊎ (code e .high < c)) → inRange codes code k c ≡ false
+    unfolding inRange
+    in-none out = some-false holds codes (λ e lt. by e lt (ℕ-discrete (code e .signal) k))
+      where
+        by : (e : ℕ) → e < codes → Dec (code e .signal ≡ k) → holds e ≡ false
+        by e lt (no ne) = simp (ne-eqb _ _ ne)
+        by e lt (yes q) =
+            ⊎-elim (λ a. simp (eq-eqb _ _ q, lt-leb (code e .low) c a)) (λ a. simp (lt-leb c (code e .high) a) (and-false (eqb (code e .signal) k && leb (code e .low) c))) (out e lt q)
+
 module _ (codes : ℕ) (code : ℕ → Code) (h : Ordered codes code) where
   pub codes-rise : Rising (codeKeys code) codes
   codes-rise e g lt hg =
@@ -182,7 +210,7 @@ module _ (codes : ℕ) (code : ℕ → Code) (h : Ordered codes code) where
 
     module _ (from to : ℕ) (own : Own codes code k from to) where
       -- an entry of the signal is one of them
-      is-within : (e : ℕ) → e < codes → code e .signal ≡ k → (from ≤ e) × (e < to)
+      pub is-within : (e : ℕ) → e < codes → code e .signal ≡ k → (from ≤ e) × (e < to)
       is-within e lt q =
           elim (decLt e from) [
             | yes less ↦ absurd (omega (arith, own .before e less))
@@ -193,91 +221,71 @@ module _ (codes : ℕ) (code : ℕ → Code) (h : Ordered codes code) where
           ]
 
       pub has-none : from ≡ to → hasCodes codes code k ≡ false
-      unfolding hasCodes
-      has-none z = some-false (λ e. eqb (code e .signal) k) codes (λ e lt. ne-eqb _ _ (λ q. let w = is-within e lt q in omega (arith, w .0, w .1)))
+      has-none z = has-no-code codes code k (λ e lt q. let w = is-within e lt q in omega (arith, w .0, w .1))
 
-      pub has-some : (from ≡ to → ⊥) → hasCodes codes code k ≡ true
-      unfolding hasCodes
-      has-some ne =
-          let lt : from < to = omega (arith, own .ordered) in
-          some-true (λ e. eqb (code e .signal) k) codes from (omega (arith, own .most)) (eq-eqb _ _ (own .within from (le-refl from) lt))
+      pub has-some : from < to → hasCodes codes code k ≡ true
+      has-some lt = has-code codes code k from (omega (arith, own .most)) (own .within from (le-refl from) lt)
 
+      -- what halving for a code of the signal starts with, and what it ends with
       module _ (c : ℕ) where
-        abbrev holds : ℕ → Bool
-        holds e = eqb (code e .signal) k && leb (code e .low) c && leb c (code e .high)
+        pub own-between : c < 65536 → Between (codeKeys code) codes (k * 65536 + c) from to
+        own-between fits = record {
+          ordered = own .ordered;
+          most = own .most;
+          below = λ e lt. omega (arith, own .before e lt, h .small e (omega (arith, own .ordered, own .most)));
+          above = λ e le lt. omega (arith, own .after e le lt);
+        }
 
-        -- none of them holds the code
-        in-none : ((e : ℕ) → from ≤ e → e < to → (c < code e .low) ⊎ (code e .high < c)) → inRange codes code k c ≡ false
-        unfolding inRange
-        in-none out = some-false holds codes (λ e lt. by e lt (ℕ-discrete (code e .signal) k))
-          where
-            by : (e : ℕ) → e < codes → Dec (code e .signal ≡ k) → holds e ≡ false
-            by e lt (no ne) = simp (ne-eqb _ _ ne)
-            by e lt (yes q) =
-                let w = is-within e lt q in
-                ⊎-elim (λ a. simp (eq-eqb _ _ q, lt-leb (code e .low) c a)) (λ a. simp (lt-leb c (code e .high) a) (and-false (eqb (code e .signal) k && leb (code e .low) c)))
-                (out e (w .0) (w .1))
+        module _ (e : ℕ) (cut : Cut (codeKeys code) codes (k * 65536 + c) e) where
+          module _ (lt : e < to) where
+            there : e < codes
+            there = omega (arith, own .most)
 
-        in-at : (e : ℕ) → e < codes → code e .signal ≡ k → code e .low ≤ c → c ≤ code e .high → inRange codes code k c ≡ true
-        unfolding inRange
-        in-at e lt q lo hi = some-true holds codes e lt (simp (eq-eqb _ _ q, le-leb _ _ lo, le-leb _ _ hi))
+            cut-within : from ≤ e
+            cut-within = elim (decLt e from) [
+              | yes less ↦ absurd (omega (arith, own .before e less, h .small e there, cut .above e (le-refl e) there))
+              | no past ↦ omega arith
+            ]
+
+            pub cut-signal : code e .signal ≡ k
+            cut-signal = own .within e cut-within lt
+
+            pub reaches : c ≤ code e .high
+            reaches = omega (arith, cut .above e (le-refl e) there, cut-signal)
+
+            -- a code past the gap after this range is in none; one that is not in it nor past the gap neither
+            pub outside : (d : ℕ) → c ≤ d → (d < code e .low) ⊎ (code e .high < d) → d < code e .high + 2 → inRange codes code k d ≡ false
+            outside d le here near = in-none codes code k d out
+              where
+                out : (g : ℕ) → g < codes → code g .signal ≡ k → (d < code g .low) ⊎ (code g .high < d)
+                out g hg q =
+                    elim (decLt g e) [
+                      | yes l ↦ inr (omega (arith, cut .below g l))
+                      | no m ↦ elim (ℕ-discrete g e) [
+                        | yes z ↦ rw z here
+                        | no more ↦ ⊎-elim (λ a. absurd (omega (arith, cut-signal))) (λ a. inl (omega (arith, a .1, near))) (h .follows e g (omega arith) hg)
+                      ]
+                    ]
 
         pub knows-all : from ≡ to → true ≡ knownIn codes code k c
         unfolding knownIn
         knows-all z = simp (has-none z)
 
-        module _ (ne : from ≡ to → ⊥) where
+        module _ (some : from < to) where
           -- every range ends below it
-          pub knows-below : ((e : ℕ) → from ≤ e → e < to → code e .high < c) → false ≡ knownIn codes code k c
+          pub knows-below : ((e : ℕ) → e < codes → code e .signal ≡ k → code e .high < c) → false ≡ knownIn codes code k c
           unfolding knownIn
-          knows-below out = simp (has-some ne, in-none (λ e ge lt. inr (out e ge lt)))
-
-          -- halving starts with them
-          module _ (fits : c < 65536) where
-            pub own-between : Between (codeKeys code) codes (k * 65536 + c) from to
-            own-between = record {
-              ordered = own .ordered;
-              most = own .most;
-              below = λ e lt. omega (arith, own .before e lt, h .small e (omega (arith, own .ordered, own .most)));
-              above = λ e le lt. omega (arith, own .after e le lt);
-            }
+          knows-below out = simp (has-some some, in-none codes code k c (λ e lt q. inr (out e lt q)))
 
           module _ (e : ℕ) (cut : Cut (codeKeys code) codes (k * 65536 + c) e) where
             pub knows-past : to ≤ e → false ≡ knownIn codes code k c
-            knows-past le = knows-below (λ g ge lt. omega (arith, cut .below g (omega arith), own .within g ge lt))
+            knows-past le = knows-below (λ g lt q. let w = is-within g lt q in omega (arith, cut .below g (omega (arith, w .1))))
 
             pub knows-here : e < to → leb (code e .low) c ≡ knownIn codes code k c
             unfolding knownIn
             knows-here lt = elim (decLt c (code e .low)) [
-              | yes less ↦ simp (lt-leb _ _ less, has-some ne, in-none (outside less))
+              | yes less ↦ simp (lt-leb _ _ less, has-some some, outside e cut lt c (le-refl c) (inl less) (omega (arith, reaches e cut lt)))
               | no le ↦
                   let lo : code e .low ≤ c = omega arith in
-                  simp (le-leb _ _ lo, has-some ne, in-this lo)
+                  simp (le-leb _ _ lo, has-some some, in-range codes code k c e (omega (arith, own .most)) (cut-signal e cut lt) lo (reaches e cut lt))
             ]
-              where
-                there : e < codes
-                there = omega (arith, own .most)
-
-                ge : from ≤ e
-                ge = elim (decLt e from) [
-                  | yes less ↦ absurd (omega (arith, own .before e less, h .small e there, cut .above e (le-refl e) there))
-                  | no past ↦ omega arith
-                ]
-
-                reaches : c ≤ code e .high
-                reaches = omega (arith, cut .above e (le-refl e) there, own .within e ge lt)
-
-                outside : c < code e .low → (g : ℕ) → from ≤ g → g < to → (c < code g .low) ⊎ (code g .high < c)
-                outside less g hg lg =
-                    elim (decLt g e) [
-                      | yes l ↦ inr (omega (arith, cut .below g l, own .within g hg lg))
-                      | no m ↦ elim (ℕ-discrete g e) [
-                        | yes z ↦ inl (rw z less)
-                        | no more ↦
-                            ⊎-elim (λ a. absurd (omega (arith, own .within e ge lt, own .within g hg lg))) (λ a. inl (omega (arith, a .1, reaches)))
-                            (h .follows e g (omega arith) (omega (arith, own .most)))
-                      ]
-                    ]
-
-                in-this : code e .low ≤ c → inRange codes code k c ≡ true
-                in-this lo = in-at e there (own .within e ge lt) lo reaches
