@@ -1,14 +1,17 @@
 -- The paper's answer for each case of the code's, and what the parts of the comparison answer.
-use Prim.Native.Nat.{ℕ, _+_, _*_}
+use Prim.Native.Nat.{ℕ, _+_, _*_, _≤_, _<_}
+use mathlib.Core.Path.{_≡_}
 use mathlib.Core.Bool.{Bool, true, false, not, _&&_, _||_}
 use mathlib.Core.List.{List}
 use lib.Dec.{ltb, eqb}
-use Rattle.paper.specs.First.{firstBad, all}
-use Rattle.paper.specs.SignalList.{Signal, Code, SignalList, judge, listOf}
+use Rattle.paper.specs.First.{all}
+use Rattle.paper.specs.SignalList.{Signal, SignalList, judge, listOf}
 use Rattle.paper.specs.Extends.{Extending, extending, firstRefused, secondRefused, extendingBy, same, inRange, extends}
 use Rattle.refusals.specs.Refusal.{numberOf, carriedOf}
 use Rattle.lists.specs.declared.Counts.{Counts}
 use Rattle.lists.specs.Judged.{countsOf}
+use Rattle.known.specs.declared.Span.{Span}
+use Rattle.known.specs.Known.{codeSignals, Between, Own}
 use Rattle.extending.specs.declared.ExtendsOutcome.{ExtendsOutcome}
 use Rattle.extending.specs.declared.ExtendsOutcome.the-variants.{Yes, No, FirstRefused, SecondRefused}
 
@@ -26,26 +29,30 @@ extendsUnder a ys = extendingBy (judge ys) secondRefused (λ n. extending (exten
 abbrev pub listed : List ℕ → Counts → SignalList
 listed xs n = listOf xs (countsOf n)
 
--- what the signals of an accepted list rise by, and the code entries
+-- what the signals of an accepted list rise by
 abbrev pub signalKey : Signal → ℕ
 signalKey s = s .type * 65536 + s .start
-
-abbrev pub codeKey : Code → ℕ
-codeKey c = c .signal * 65536 + c .high
 
 abbrev pub signalKeys : SignalList → ℕ → ℕ
 signalKeys l k = signalKey (l .signal k)
 
-abbrev pub codeKeys : SignalList → ℕ → ℕ
-codeKeys l e = codeKey (l .code e)
+-- past every signal
+abbrev pub lastKey : ℕ
+lastKey = 16777216
 
--- the first of n numbers that is not below the key; n if all are
-unfoldable pub notBelow : (ℕ → ℕ) → ℕ → ℕ → ℕ
-notBelow f n key = firstBad (λ k. ltb (f k) key) n
+-- r is the first signal from j on that is not below the key, or not newer than the version
+pub record Newer (l : SignalList) (j key version r : ℕ) : Type 0 where
+  pub from : j ≤ r
+  pub most : r ≤ l .signals
+  pub each : (k : ℕ) → j ≤ k → k < r → (signalKeys l k < key) × (version < l .signal k .since)
+  pub stops : r < l .signals → (ltb (signalKeys l r) key && ltb version (l .signal r .since)) ≡ false
 
--- where a signal stands in a list, by type and start; the number of the list's signals if it doesn't
-unfoldable pub indexOf : SignalList → Signal → ℕ
-indexOf l s = firstBad (λ k. not (same s (l .signal k))) (l .signals)
+-- the code entries of a signal of an accepted list, and what a search for them goes on from
+abbrev pub Entries : SignalList → ℕ → Span → Type 0
+Entries l k s = Own (l .codes) (l .code) k (s .from) (s .to)
+
+abbrev pub From : SignalList → ℕ → ℕ → Type 0
+From l k e = Between (codeSignals (l .code)) (l .codes) k e (l .codes)
 
 -- every code from low to high is in a range of signal k
 unfoldable pub rangeKept : SignalList → ℕ → ℕ → ℕ → Bool

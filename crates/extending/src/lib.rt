@@ -1,17 +1,19 @@
-// Whether a list B extends a list A. Both are in order, so each signal and each range is found by halving.
+// Whether a list B extends a list A. Both are in order, so one pass goes along both.
 ghost use mathlib.Core.Path.{_≡_};
 ghost use Prim.Native.Nat.{_<_, _≤_};
-ghost use Rattle.paper.specs.First.{all};
-ghost use Rattle.paper.specs.Extends.{hasCodes, same, codesKept, keeps, stands, newer, extends as extendsList, extendsLists};
+ghost use Rattle.paper.specs.Extends.{same, codesKept, keeps, extends as extendsList, extendsLists};
 ghost use Rattle.paper.proofs.ListLaws.{Laid};
-ghost use Rattle.entries.specs.Entries.{signalOf, codeOf};
+ghost use Rattle.entries.specs.Entries.{signalOf};
 ghost use Rattle.lists.specs.Judged.{countsOf};
-ghost use Rattle.extending.specs.Extending.{extendsAnswer, extendsUnder, listed, signalKey, codeKey, signalKeys, codeKeys, notBelow, indexOf, rangeKept, rangesKept, agreed};
-use entries::Code;
+ghost use Rattle.extending.specs.Extending.{extendsAnswer, extendsUnder, listed, signalKey, Newer, Entries, From, rangeKept, rangesKept, agreed};
 use entries::Signal;
+use known::Span;
 use lists::Counts;
 use lists::Judged;
 use refusals::Refusal;
+
+// Past the key of every signal.
+const LAST_KEY: usize = 16777216;
 
 // Whether B extends A, or the refusal of the first of the two that is refused.
 pub enum ExtendsOutcome {
@@ -21,7 +23,7 @@ pub enum ExtendsOutcome {
     SecondRefused(Refusal),
 }
 
-// What the signals of a list rise by, and the code entries.
+// What the signals of a list rise by.
 fn signal_key(s: Signal) -> usize
     requires { ⌜ (s .kind < 256) × (s .start < 65536) ⌝ }
     ensures { λ r. ⌜ r ≡ signalKey (signalOf s) ⌝ }
@@ -29,107 +31,69 @@ fn signal_key(s: Signal) -> usize
     s.kind * 65536 + s.start
 }
 
-fn code_key(c: Code) -> usize
-    requires { ⌜ (c .signal < 65536) × (c .high < 65536) ⌝ }
-    ensures { λ r. ⌜ r ≡ codeKey (codeOf c) ⌝ }
+// The first signal from j on that is not below the key, or not newer than the version: those passed are only in B, and may be.
+fn past_newer(list: &[u8], n: Counts, j: usize, key: usize, version: usize) -> usize
+    requires { ⌜ (Laid (now list) (countsOf n)) × (j ≤ n .signals) ⌝ }
+    ensures { λ r. ⌜ Newer (listed (now (list .entry)) n) j key version r ⌝ }
 {
-    c.signal * 65536 + c.high
-}
-
-// The first signal whose key is not below this one.
-fn first_signal(list: &[u8], n: Counts, key: usize) -> usize
-    requires { ⌜ Laid (now list) (countsOf n) ⌝ }
-    ensures { λ r. ⌜ r ≡ notBelow (signalKeys (listed (now (list .entry)) n)) (n .signals) key ⌝ }
-{
-    let mut low = 0;
-    let mut high = n.signals;
-    while low < high {
-        let mid = low + (high - low) / 2;
-        if signal_key(lists::signal_in(list, n, mid)) < key {
-            low = mid + 1;
-        } else {
-            high = mid;
+    let mut k = j;
+    while k < n.signals {
+        let t = lists::signal_in(list, n, k);
+        if !((signal_key(t) < key) & (version < t.since)) {
+            return k;
         }
+        k += 1;
     }
-    low
+    k
 }
 
-// The first code entry whose key is not below this one.
-fn first_code(list: &[u8], n: Counts, key: usize) -> usize
-    requires { ⌜ Laid (now list) (countsOf n) ⌝ }
-    ensures { λ r. ⌜ r ≡ notBelow (codeKeys (listed (now (list .entry)) n)) (n .codes) key ⌝ }
+// The code entries of signal k, from those of a signal before on.
+fn entries_of(list: &[u8], n: Counts, from: usize, k: usize) -> Span
+    requires { ⌜ (Laid (now list) (countsOf n)) × (k < n .signals) × (From (listed (now list) n) k from) ⌝ }
+    ensures { λ r. ⌜ Entries (listed (now (list .entry)) n) k r ⌝ }
 {
-    let mut low = 0;
-    let mut high = n.codes;
-    while low < high {
-        let mid = low + (high - low) / 2;
-        if code_key(lists::code_in(list, n, mid)) < key {
-            low = mid + 1;
-        } else {
-            high = mid;
-        }
-    }
-    low
-}
-
-// The same signal goes by type and start, never by its number.
-fn is_same(s: Signal, t: Signal) -> bool
-    ensures { λ r. ⌜ r ≡ same (signalOf s) (signalOf t) ⌝ }
-{
-    (s.kind == t.kind) & (s.start == t.start)
-}
-
-// Where a signal stands in a list, by type and start; the number of signals if it does not.
-fn index_of(list: &[u8], n: Counts, s: Signal) -> usize
-    requires { ⌜ (Laid (now list) (countsOf n)) × (s .kind < 256) × (s .start < 65536) ⌝ }
-    ensures { λ r. ⌜ r ≡ indexOf (listed (now (list .entry)) n) (signalOf s) ⌝ }
-{
-    let k = first_signal(list, n, signal_key(s));
-    if n.signals <= k {
-        return n.signals;
-    }
-    if is_same(s, lists::signal_in(list, n, k)) {
-        return k;
-    }
-    n.signals
-}
-
-// Whether signal k has a code entry.
-fn has_codes(list: &[u8], n: Counts, k: usize) -> bool
-    requires { ⌜ (Laid (now list) (countsOf n)) × (k < n .signals) ⌝ }
-    ensures { λ r. ⌜ r ≡ hasCodes (n .codes) (listed (now (list .entry)) n .code) k ⌝ }
-{
-    let e = first_code(list, n, k * 65536);
-    if n.codes <= e {
-        return false;
-    }
-    lists::code_in(list, n, e).signal == k
+    known::span_from(lists::codes_part(list, n), n.codes, from, k)
 }
 
 // Whether signal k knows every code from low to high by its entries. Its ranges never touch, so one of them has to hold all.
-fn range_kept(list: &[u8], n: Counts, k: usize, low: usize, high: usize) -> bool
-    requires { ⌜ (Laid (now list) (countsOf n)) × (k < n .signals) × (low < 65536) × (low ≤ high) ⌝ }
+fn range_kept(list: &[u8], n: Counts, k: usize, own: Span, low: usize, high: usize) -> bool
+    requires { ⌜ (Laid (now list) (countsOf n)) × (k < n .signals) × (Entries (listed (now list) n) k own) ⌝ }
+    requires { ⌜ (low < 65536) × (low ≤ high) ⌝ }
     ensures { λ r. ⌜ r ≡ rangeKept (listed (now (list .entry)) n) k low high ⌝ }
 {
-    let e = first_code(list, n, k * 65536 + low);
-    if n.codes <= e {
+    let e = known::first_code(
+        lists::codes_part(list, n),
+        n.codes,
+        own.from,
+        own.to,
+        k * 65536 + low,
+    );
+    if own.to <= e {
         return false;
     }
     let c = lists::code_in(list, n, e);
-    (c.signal == k) & (c.low <= low) & (high <= c.high)
+    (c.low <= low) & (high <= c.high)
 }
 
 // Whether B's signal j knows by its entries what A's signal i does by its own.
-fn ranges_kept(a: &[u8], m: Counts, b: &[u8], n: Counts, i: usize, j: usize) -> bool
-    requires { ⌜ (Laid (now a) (countsOf m)) × (i < m .signals) ⌝ }
-    requires { ⌜ (Laid (now b) (countsOf n)) × (j < n .signals) ⌝ }
+fn ranges_kept(
+    a: &[u8],
+    m: Counts,
+    b: &[u8],
+    n: Counts,
+    i: usize,
+    own: Span,
+    j: usize,
+    its: Span,
+) -> bool
+    requires { ⌜ (Laid (now a) (countsOf m)) × (Entries (listed (now a) m) i own) ⌝ }
+    requires { ⌜ (Laid (now b) (countsOf n)) × (j < n .signals) × (Entries (listed (now b) n) j its) ⌝ }
     ensures { λ r. ⌜ r ≡ rangesKept (listed (now (a .entry)) m) (listed (now (b .entry)) n) i j ⌝ }
 {
-    let mut e = first_code(a, m, i * 65536);
-    let end = first_code(a, m, (i + 1) * 65536);
-    while e < end {
+    let mut e = own.from;
+    while e < own.to {
         let c = lists::code_in(a, m, e);
-        if !range_kept(b, n, j, c.low, c.high) {
+        if !range_kept(b, n, j, its, c.low, c.high) {
             return false;
         }
         e += 1;
@@ -138,32 +102,54 @@ fn ranges_kept(a: &[u8], m: Counts, b: &[u8], n: Counts, i: usize, j: usize) -> 
 }
 
 // Whether each code of A's signal i known under A is known under B as one of its signal j. A signal with no entry knows every code.
-fn codes_kept(a: &[u8], m: Counts, b: &[u8], n: Counts, i: usize, j: usize) -> bool
-    requires { ⌜ (Laid (now a) (countsOf m)) × (i < m .signals) ⌝ }
-    requires { ⌜ (Laid (now b) (countsOf n)) × (j < n .signals) ⌝ }
+fn codes_kept(
+    a: &[u8],
+    m: Counts,
+    b: &[u8],
+    n: Counts,
+    i: usize,
+    own: Span,
+    j: usize,
+    its: Span,
+) -> bool
+    requires { ⌜ (Laid (now a) (countsOf m)) × (i < m .signals) × (Entries (listed (now a) m) i own) ⌝ }
+    requires { ⌜ (Laid (now b) (countsOf n)) × (j < n .signals) × (Entries (listed (now b) n) j its) ⌝ }
     ensures { λ r. ⌜ r ≡ codesKept (listed (now (a .entry)) m) (listed (now (b .entry)) n) i j ⌝ }
 {
-    if !has_codes(b, n, j) {
+    if its.from == its.to {
         return true;
     }
-    if has_codes(a, m, i) {
-        return ranges_kept(a, m, b, n, i, j);
+    if own.from < own.to {
+        return ranges_kept(a, m, b, n, i, own, j, its);
     }
     let s = lists::signal_in(a, m, i);
-    range_kept(b, n, j, 0, entries::pow2(s.width) as usize - 1)
+    range_kept(b, n, j, its, 0, entries::pow2(s.width) as usize - 1)
 }
 
-// Equal type, start, width, check place and since-version; p and q are the places.
+// Equal type, start, width, check place and since-version; p and q are the places. The same signal goes by type and start, never by its number.
 fn agrees(s: Signal, p: usize, t: Signal, q: usize) -> bool
     ensures { λ r. ⌜ r ≡ agreed (signalOf s) p (signalOf t) q ⌝ }
 {
-    is_same(s, t) & (s.width == t.width) & (p == q) & (s.since == t.since)
+    (s.kind == t.kind)
+        & (s.start == t.start)
+        & (s.width == t.width)
+        & (p == q)
+        & (s.since == t.since)
 }
 
 // Whether A's signal i is B's signal j in all that must not change.
-fn keeps_at(a: &[u8], m: Counts, b: &[u8], n: Counts, i: usize, j: usize) -> bool
-    requires { ⌜ (Laid (now a) (countsOf m)) × (i < m .signals) ⌝ }
-    requires { ⌜ (Laid (now b) (countsOf n)) × (j < n .signals) ⌝ }
+fn keeps_at(
+    a: &[u8],
+    m: Counts,
+    b: &[u8],
+    n: Counts,
+    i: usize,
+    own: Span,
+    j: usize,
+    its: Span,
+) -> bool
+    requires { ⌜ (Laid (now a) (countsOf m)) × (i < m .signals) × (Entries (listed (now a) m) i own) ⌝ }
+    requires { ⌜ (Laid (now b) (countsOf n)) × (j < n .signals) × (Entries (listed (now b) n) j its) ⌝ }
     ensures { λ r. ⌜ r ≡ keeps (listed (now (a .entry)) m) (listed (now (b .entry)) n) i j ⌝ }
 {
     let s = lists::signal_in(a, m, i);
@@ -173,73 +159,35 @@ fn keeps_at(a: &[u8], m: Counts, b: &[u8], n: Counts, i: usize, j: usize) -> boo
     if !agrees(s, p, t, q) {
         return false;
     }
-    codes_kept(a, m, b, n, i, j)
+    codes_kept(a, m, b, n, i, own, j, its)
 }
 
-// Whether A's signal i stands in B.
-fn stands_at(a: &[u8], m: Counts, b: &[u8], n: Counts, i: usize) -> bool
-    requires { ⌜ (Laid (now a) (countsOf m)) × (i < m .signals) ⌝ }
-    requires { ⌜ Laid (now b) (countsOf n) ⌝ }
-    ensures { λ r. ⌜ r ≡ stands (listed (now (a .entry)) m) (listed (now (b .entry)) n) i ⌝ }
-{
-    let s = lists::signal_in(a, m, i);
-    let j = index_of(b, n, s);
-    if n.signals <= j {
-        return false;
-    }
-    keeps_at(a, m, b, n, i, j)
-}
-
-// Whether B's signal j is one of A or newer than A.
-fn newer_at(a: &[u8], m: Counts, b: &[u8], n: Counts, j: usize) -> bool
-    requires { ⌜ Laid (now a) (countsOf m) ⌝ }
-    requires { ⌜ (Laid (now b) (countsOf n)) × (j < n .signals) ⌝ }
-    ensures { λ r. ⌜ r ≡ newer (listed (now (a .entry)) m) (listed (now (b .entry)) n) j ⌝ }
-{
-    let t = lists::signal_in(b, n, j);
-    let i = index_of(a, m, t);
-    (i < m.signals) | (m.version < t.since)
-}
-
-// "each signal of A stands in B"
-fn all_stand(a: &[u8], m: Counts, b: &[u8], n: Counts) -> bool
-    requires { ⌜ (Laid (now a) (countsOf m)) × (Laid (now b) (countsOf n)) ⌝ }
-    ensures { λ r. ⌜ r ≡ all (stands (listed (now (a .entry)) m) (listed (now (b .entry)) n)) (m .signals) ⌝ }
-{
-    let mut i = 0;
-    while i < m.signals {
-        if !stands_at(a, m, b, n, i) {
-            return false;
-        }
-        i += 1;
-    }
-    true
-}
-
-// "each signal only in B has a since-version above A's version"
-fn all_newer(a: &[u8], m: Counts, b: &[u8], n: Counts) -> bool
-    requires { ⌜ (Laid (now a) (countsOf m)) × (Laid (now b) (countsOf n)) ⌝ }
-    ensures { λ r. ⌜ r ≡ all (newer (listed (now (a .entry)) m) (listed (now (b .entry)) n)) (n .signals) ⌝ }
-{
-    let mut j = 0;
-    while j < n.signals {
-        if !newer_at(a, m, b, n, j) {
-            return false;
-        }
-        j += 1;
-    }
-    true
-}
-
-// Two accepted lists.
+// Two accepted lists: each signal of A is met in B past those that are only in B; e and g are where the code entries of the next signals start.
 fn compared(a: &[u8], m: Counts, b: &[u8], n: Counts) -> bool
     requires { ⌜ (Laid (now a) (countsOf m)) × (Laid (now b) (countsOf n)) ⌝ }
     ensures { λ r. ⌜ r ≡ extendsList (listed (now (a .entry)) m) (listed (now (b .entry)) n) ⌝ }
 {
-    if !all_stand(a, m, b, n) {
-        return false;
+    let mut i = 0;
+    let mut j = 0;
+    let mut e = 0;
+    let mut g = 0;
+    while i < m.signals {
+        let s = lists::signal_in(a, m, i);
+        j = past_newer(b, n, j, signal_key(s), m.version);
+        if n.signals <= j {
+            return false;
+        }
+        let own = entries_of(a, m, e, i);
+        let its = entries_of(b, n, g, j);
+        if !keeps_at(a, m, b, n, i, own, j, its) {
+            return false;
+        }
+        e = own.to;
+        g = its.to;
+        i += 1;
+        j += 1;
     }
-    all_newer(a, m, b, n)
+    past_newer(b, n, j, LAST_KEY, m.version) == n.signals
 }
 
 // An accepted list A, and B yet to be judged.

@@ -86,7 +86,13 @@ pub fn knows(tail: &[u8], codes: usize, own: Span, signal: usize, code: u64) -> 
     if 65535 < code {
         return false;
     }
-    let e = first_code(tail, codes, own.from, own.to, signal * 65536 + code as usize);
+    let e = first_code(
+        tail,
+        codes,
+        own.from,
+        own.to,
+        signal * 65536 + code as usize,
+    );
     if own.to <= e {
         return false;
     }

@@ -1,15 +1,15 @@
 -- `extending::codes_kept` meets its contract. Assumes nothing.
 use Prim.Native.Nat.{ℕ, _-_, _^_}
-use mathlib.Core.Path.{_≡_, sym, ap, _∙_}
+use mathlib.Core.Path.{_≡_, ap, _∙_}
 use mathlib.Core.Bool.{true}
 use native.Mathlib.Omega.{arith}
 use lib.Pow.{pow-pos}
 use denote.Ref.{now}
 use borrow.Author.Needs.{needs}
-use borrow.Author.Tests.{not-true, not-false}
 use Rattle.paper.specs.SignalList.{Signal}
 use Rattle.paper.specs.Extends.{hasCodes}
 use Rattle.paper.proofs.ListLaws.{Kept, kept-of}
+use Rattle.known.proofs.Laws.{ordered-of, has-none, has-some}
 use Rattle.extending.specs.Extending.{listed, rangeKept}
 use Rattle.extending.proofs.Laws.{kept-all, kept-ranges, kept-whole}
 use Rattle.extending.proofs.codes_kept.Statement.{statement}
@@ -21,7 +21,9 @@ kept c = kept-of _ _ (c .pre .0 .0)
 some-b : (c : tie.Else1) →
     let s = c .before .before .before .before .args in
     hasCodes (s .n .codes) (listed (now (s .b)) (s .n) .code) (s .j) ≡ true
-some-b c = sym (c .before .has-codes .ensures) ∙ not-false _ (c .if1 .left)
+some-b c =
+    let s = c .before .before .before .before in
+    has-some _ _ (ordered-of _ (kept-of _ _ (s .pre .1 .0))) _ _ _ (s .pre .1 .2) (omega (arith, c .if1 .left, s .pre .1 .2 .ordered))
 
 width : (c : tie.After-signal-in) →
     let s = c .before .before .before .before .before .before .before .args in
@@ -29,13 +31,17 @@ width : (c : tie.After-signal-in) →
 width c = ap (λ (x : Signal). x .width) (c .signal-in .ensures .is)
 
 returns : tie.Need-returns
-returns c = kept-all _ _ _ _ (sym (c .before .has-codes .ensures) ∙ not-true _ (c .if1 .taken))
+returns c =
+    let s = c .before .before .before .before in
+    kept-all _ _ _ _ (has-none _ _ (ordered-of _ (kept-of _ _ (s .pre .1 .0))) _ _ _ (s .pre .1 .2) (c .if1 .taken))
 
 returns-2 : tie.Need-returns-2
 returns-2 c =
-    let h = c .before .before in
-    let s = h .before .before .before .before .before in
-    c .ranges-kept .ensures ∙ kept-ranges _ _ _ _ (some-b (h .before)) (kept s) (sym (h .has-codes2 .ensures) ∙ c .before .if2 .taken)
+    let t = c .before in
+    let e = t .before .before in
+    let s = e .before .before .before .before in
+    c .ranges-kept .ensures
+    ∙ kept-ranges _ _ _ _ (some-b e) (kept s) (has-some _ _ (ordered-of _ (kept s)) _ _ _ (s .pre .0 .2) (t .if2 .taken))
 
 pow2-requires : tie.Need-pow2-requires
 pow2-requires c κs =
@@ -48,20 +54,18 @@ sub-range-kept c = rw (c .pow2 .ensures) (pow-pos (c .before .signal-in .result 
 returns-3 : tie.Need-returns-3
 returns-3 c =
     let p = c .before in
-    let e = p .before .before in
-    let h = e .before in
-    let s = h .before .before .before .before .before .args in
+    let t = p .before .before in
+    let e = t .before .before in
+    let s = e .before .before .before .before in
     c .range-kept .ensures
-    ∙ ap (λ (x : ℕ). rangeKept (listed (now (s .b)) (s .n)) (s .j) 0 (x - 1)) (p .pow2 .ensures ∙ ap (λ (x : ℕ). 2 ^ x) (width (p .before)))
-    ∙ kept-whole _ _ _ _ (some-b (h .before)) (sym (h .has-codes2 .ensures) ∙ e .if2 .left)
+    ∙ ap (λ (x : ℕ). rangeKept (listed (now (s .args .b)) (s .args .n)) (s .args .j) 0 (x - 1)) (p .pow2 .ensures ∙ ap (λ (x : ℕ). 2 ^ x) (width (p .before)))
+    ∙ kept-whole _ _ _ _ (some-b e) (has-none _ _ (ordered-of _ (kept s)) _ _ _ (s .pre .0 .2) (omega (arith, t .if2 .left, s .pre .0 .2 .ordered)))
 
 pub codes-kept-spec : {M : Type 1} → statement M
 codes-kept-spec =
     tie.close
     (tie.spec
-    (λ c κs. search needs)
     returns
-    (λ c κs. search needs)
     (λ c κs. search needs)
     returns-2
     (λ c κs. search needs)
