@@ -16,7 +16,7 @@ use Rattle.paper.specs.SignalList.{Code, SignalList, Counts, listOf, codeAt, co
 use Rattle.paper.specs.Extends.{hasCodes, inRange, knownIn}
 use Rattle.paper.proofs.FirstLaws.{some-true, some-false}
 use Rattle.paper.proofs.ListLaws.{Laid, Kept, kept-of, CodeFollows}
-use Rattle.known.specs.Known.{Ordered, Coded, codeKeys, codeSignals, Between, Cut, Own}
+use Rattle.known.specs.Known.{Ordered, codeKeys, codeSignals, Between, Cut, Own}
 
 -- ---- the first of rising numbers that is not below a key
 
@@ -88,8 +88,9 @@ module _ (l : SignalList) (h : Kept l) where
     follows = λ e g lt hg. let z : e + suc (g - suc e) ≡ g = omega arith in rw z at (codes-follow (g - suc e) e (rw z hg));
   }
 
-pub coded-of : (xs : List ℕ) (n : Counts) → Laid xs n → Coded (codesPart xs n) (n .codes)
-coded-of xs n h = record { few = h .codes .opens .within; present = h .codes .opens .present; ordered = ordered-of (listOf xs n) (kept-of xs n h) }
+-- of a list that was accepted with these counts
+pub laid-ordered : (xs : List ℕ) (n : Counts) → Laid xs n → Ordered (n .codes) (codeAt (codesPart xs n))
+laid-ordered xs n h = ordered-of (listOf xs n) (kept-of xs n h)
 
 -- ---- whether a signal has an entry, and one that holds a code
 

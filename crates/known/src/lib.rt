@@ -1,14 +1,17 @@
-// Known codes: whether a signal knows a code under the list's code entries. The entries are in order, so they are found by halving, or by
-// going on from those of a signal before.
+// Known codes: whether a signal knows a code under the list's code entries. The entries are in order, so those of a signal are found by
+// halving, or by going on from those of a signal before. What has a `requires` is inner: its caller in the library shows it.
 ghost use mathlib.Core.Path.{_≡_};
 ghost use Prim.Native.Nat.{_<_};
-ghost use Rattle.paper.specs.SignalList.{codeAt};
-ghost use Rattle.paper.specs.Extends.{knownIn};
+ghost use Rattle.paper.specs.SignalList.{listOf};
+ghost use Rattle.paper.specs.Extends.{knows as listKnows};
+ghost use Rattle.paper.proofs.ListLaws.{Laid};
 ghost use Rattle.entries.specs.Entries.{codeOf};
-ghost use Rattle.known.specs.Known.{Coded, codeKey, codeKeys, codeSignals, Between, Cut, Own};
+ghost use Rattle.lists.specs.Judged.{countsOf};
+ghost use Rattle.known.specs.Known.{codeKey, codeKeys, Between, Cut, Entries, From, Starts};
 use entries::Code;
+use lists::Counts;
 
-// The entries of a signal: from `from` to before `to`.
+// The code entries of a signal: from `from` to before `to`.
 pub struct Span {
     pub from: usize,
     pub to: usize,
@@ -22,16 +25,16 @@ fn code_key(c: Code) -> usize
     c.signal * 65536 + c.high
 }
 
-// Inner: the first entry whose key is not below this one. It is none before `from`, and all from `to` on are not below.
-pub fn first_code(tail: &[u8], codes: usize, from: usize, to: usize, key: usize) -> usize
-    requires { ⌜ (Coded (now tail) codes) × (Between (codeKeys (codeAt (now tail))) codes key from to) ⌝ }
-    ensures { λ r. ⌜ Cut (codeKeys (codeAt (now (tail .entry)))) codes key r ⌝ }
+// Inner: the first entry whose key is not below this one. It is none before `from`, and from `to` on none is below.
+pub fn first_code(list: &[u8], n: Counts, from: usize, to: usize, key: usize) -> usize
+    requires { ⌜ (Laid (now list) (countsOf n)) × (Between (codeKeys (listOf (now list) (countsOf n) .code)) (n .codes) key from to) ⌝ }
+    ensures { λ r. ⌜ Cut (codeKeys (listOf (now (list .entry)) (countsOf n) .code)) (n .codes) key r ⌝ }
 {
     let mut low = from;
     let mut high = to;
     while low < high {
         let mid = low + (high - low) / 2;
-        if code_key(entries::code_at(tail, mid)) < key {
+        if code_key(lists::code_in(list, n, mid)) < key {
             low = mid + 1;
         } else {
             high = mid;
@@ -40,24 +43,24 @@ pub fn first_code(tail: &[u8], codes: usize, from: usize, to: usize, key: usize)
     low
 }
 
-// Inner: the entries of a signal. The tail starts at the codes' count.
-pub fn span_of(tail: &[u8], codes: usize, signal: usize) -> Span
-    requires { ⌜ (Coded (now tail) codes) × (signal < 65536) ⌝ }
-    ensures { λ r. ⌜ Own codes (codeAt (now (tail .entry))) signal (r .from) (r .to) ⌝ }
+// Inner: the entries of signal k.
+pub fn entries_of(list: &[u8], n: Counts, k: usize) -> Span
+    requires { ⌜ (Laid (now list) (countsOf n)) × (k < n .signals) ⌝ }
+    ensures { λ r. ⌜ Entries (listOf (now (list .entry)) (countsOf n)) k r ⌝ }
 {
-    let from = first_code(tail, codes, 0, codes, signal * 65536);
-    let to = first_code(tail, codes, from, codes, (signal + 1) * 65536);
+    let from = first_code(list, n, 0, n.codes, k * 65536);
+    let to = first_code(list, n, from, n.codes, (k + 1) * 65536);
     Span { from, to }
 }
 
-// Inner: the first entry of this signal or a later one. None before `from` is.
-pub fn reach(tail: &[u8], codes: usize, from: usize, signal: usize) -> usize
-    requires { ⌜ (Coded (now tail) codes) × (Between (codeSignals (codeAt (now tail))) codes signal from codes) ⌝ }
-    ensures { λ r. ⌜ Cut (codeSignals (codeAt (now (tail .entry)))) codes signal r ⌝ }
+// Inner: the first entry of signal k or a later one. None before `from` is.
+pub fn reach(list: &[u8], n: Counts, from: usize, k: usize) -> usize
+    requires { ⌜ (Laid (now list) (countsOf n)) × (From (listOf (now list) (countsOf n)) k from) ⌝ }
+    ensures { λ r. ⌜ Starts (listOf (now (list .entry)) (countsOf n)) k r ⌝ }
 {
     let mut e = from;
-    while e < codes {
-        if signal <= entries::code_at(tail, e).signal {
+    while e < n.codes {
+        if k <= lists::code_in(list, n, e).signal {
             return e;
         }
         e += 1;
@@ -65,20 +68,20 @@ pub fn reach(tail: &[u8], codes: usize, from: usize, signal: usize) -> usize
     e
 }
 
-// Inner: the entries of a signal, from those of a signal before on.
-pub fn span_from(tail: &[u8], codes: usize, from: usize, signal: usize) -> Span
-    requires { ⌜ (Coded (now tail) codes) × (signal < 65536) × (Between (codeSignals (codeAt (now tail))) codes signal from codes) ⌝ }
-    ensures { λ r. ⌜ Own codes (codeAt (now (tail .entry))) signal (r .from) (r .to) ⌝ }
+// Inner: the entries of signal k, from those of a signal before on.
+pub fn entries_from(list: &[u8], n: Counts, from: usize, k: usize) -> Span
+    requires { ⌜ (Laid (now list) (countsOf n)) × (k < n .signals) × (From (listOf (now list) (countsOf n)) k from) ⌝ }
+    ensures { λ r. ⌜ Entries (listOf (now (list .entry)) (countsOf n)) k r ⌝ }
 {
-    let first = reach(tail, codes, from, signal);
-    let to = reach(tail, codes, first, signal + 1);
+    let first = reach(list, n, from, k);
+    let to = reach(list, n, first, k + 1);
     Span { from: first, to }
 }
 
-// Inner: whether a signal with these entries knows a code. Its ranges never touch, so the first that does not end below it decides.
-pub fn knows(tail: &[u8], codes: usize, own: Span, signal: usize, code: u64) -> bool
-    requires { ⌜ (Coded (now tail) codes) × (signal < 65536) × (Own codes (codeAt (now tail)) signal (own .from) (own .to)) ⌝ }
-    ensures { λ r. ⌜ r ≡ knownIn codes (codeAt (now (tail .entry))) signal code ⌝ }
+// Inner: whether signal k, with these entries, knows a code. Its ranges never touch, so the first that does not end below the code decides.
+pub fn knows(list: &[u8], n: Counts, k: usize, own: Span, code: u64) -> bool
+    requires { ⌜ (Laid (now list) (countsOf n)) × (k < n .signals) × (Entries (listOf (now list) (countsOf n)) k own) ⌝ }
+    ensures { λ r. ⌜ r ≡ listKnows (listOf (now (list .entry)) (countsOf n)) k code ⌝ }
 {
     if own.from == own.to {
         return true;
@@ -86,23 +89,9 @@ pub fn knows(tail: &[u8], codes: usize, own: Span, signal: usize, code: u64) -> 
     if 65535 < code {
         return false;
     }
-    let e = first_code(
-        tail,
-        codes,
-        own.from,
-        own.to,
-        signal * 65536 + code as usize,
-    );
+    let e = first_code(list, n, own.from, own.to, k * 65536 + code as usize);
     if own.to <= e {
         return false;
     }
-    entries::code_at(tail, e).low as u64 <= code
-}
-
-// Inner: whether signal knows a code.
-pub fn known(tail: &[u8], codes: usize, signal: usize, code: u64) -> bool
-    requires { ⌜ (Coded (now tail) codes) × (signal < 65536) ⌝ }
-    ensures { λ r. ⌜ r ≡ knownIn codes (codeAt (now (tail .entry))) signal code ⌝ }
-{
-    knows(tail, codes, span_of(tail, codes, signal), signal, code)
+    lists::code_in(list, n, e).low as u64 <= code
 }

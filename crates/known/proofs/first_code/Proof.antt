@@ -4,29 +4,27 @@ use mathlib.Core.Path.{_≡_, ap, _∙_}
 use native.Mathlib.Omega.{arith}
 use denote.Ref.{now}
 use borrow.Author.Needs.{needs}
-use Rattle.paper.specs.SignalList.{codeAt}
+use Rattle.paper.specs.SignalList.{listOf}
+use Rattle.lists.specs.Judged.{countsOf}
 use Rattle.known.specs.Known.{codeKey, codeKeys, Between}
-use Rattle.known.proofs.Laws.{Rising, none-between, low-raised, high-lowered, codes-rise}
+use Rattle.known.proofs.Laws.{Rising, none-between, low-raised, high-lowered, codes-rise, laid-ordered}
 use Rattle.known.proofs.first_code.Statement.{statement}
 use Rattle.known.proofs.first_code.Tie as tie
 
 abbrev Inv-loop : tie.InvT-loop
-Inv-loop tail codes from to key low₀ high₀ low high = Between (codeKeys (codeAt tail)) codes key low high
+Inv-loop list n from to key low₀ high₀ low high = Between (codeKeys (listOf list (countsOf n) .code)) (n .codes) key low high
 
 abbrev μ-loop : tie.MeasureT-loop
-μ-loop tail codes from to key low₀ high₀ low high = high - low
+μ-loop list n from to key low₀ high₀ low high = high - low
 
-rise : (c : tie.Start Inv-loop μ-loop) → Rising (codeKeys (codeAt (now (c .args .tail)))) (c .args .codes)
-rise c = codes-rise _ _ (c .pre .0 .ordered)
+rise : (c : tie.Start Inv-loop μ-loop) → Rising (codeKeys (listOf (now (c .args .list)) (countsOf (c .args .n)) .code)) (c .args .n .codes)
+rise c = codes-rise _ _ (laid-ordered (now (c .args .list)) (countsOf (c .args .n)) (c .pre .0))
 
 middle : (c : tie.After-code-key Inv-loop μ-loop) →
     let l = c .before .before .before in
     let a = l .before .before .args in
-    c .code-key .result ≡ codeKeys (codeAt (now (a .tail))) (l .loop .low + (l .loop .high - l .loop .low) / 2)
-middle c = c .code-key .ensures ∙ ap codeKey (c .before .code-at .ensures .is)
-
-code-at-requires : tie.Need-code-at-requires Inv-loop μ-loop
-code-at-requires c κs = let l = c .before in omega (arith, l .loop .inv .most, l .before .before .pre .0 .present)
+    c .code-key .result ≡ codeKeys (listOf (now (a .list)) (countsOf (a .n)) .code) (l .loop .low + (l .loop .high - l .loop .low) / 2)
+middle c = c .code-key .ensures ∙ ap codeKey (c .before .code-in .ensures .is)
 
 loop-again : tie.Need-loop-again Inv-loop μ-loop
 loop-again c =
@@ -47,7 +45,7 @@ first-code-spec =
     (λ c. search needs)
     (λ c. search needs)
     (λ c. search needs)
-    code-at-requires
+    (λ c κs. search needs)
     (λ c κs. search needs)
     (λ c. search needs)
     (λ c. search needs)

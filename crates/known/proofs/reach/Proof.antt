@@ -2,37 +2,38 @@
 use Prim.Native.Nat.{_-_}
 use mathlib.Core.Path.{ap}
 use native.Mathlib.Omega.{arith}
+use denote.Ref.{now}
 use borrow.Author.Needs.{needs}
-use Rattle.paper.specs.SignalList.{Code, codeAt}
-use Rattle.known.specs.Known.{codeSignals, Between}
-use Rattle.known.proofs.Laws.{none-between, reach-more, reach-here}
+use Rattle.paper.specs.SignalList.{Code, listOf}
+use Rattle.lists.specs.Judged.{countsOf}
+use Rattle.known.specs.Known.{From}
+use Rattle.known.proofs.Laws.{none-between, laid-ordered, reach-more, reach-here}
 use Rattle.known.proofs.reach.Statement.{statement}
 use Rattle.known.proofs.reach.Tie as tie
 
 abbrev Inv-loop : tie.InvT-loop
-Inv-loop tail codes from signal e₀ e = Between (codeSignals (codeAt tail)) codes signal e codes
+Inv-loop list n from k e₀ e = From (listOf list (countsOf n)) k e
 
 abbrev μ-loop : tie.MeasureT-loop
-μ-loop tail codes from signal e₀ e = codes - e
-
-code-at-requires : tie.Need-code-at-requires Inv-loop μ-loop
-code-at-requires c κs = omega (arith, c .before .before .before .pre .0 .present)
+μ-loop list n from k e₀ e = n .codes - e
 
 returns : tie.Need-returns Inv-loop μ-loop
 returns c =
     let r = c .before .before in
     let t = r .before in
-    let l = t .before in
-    reach-here _ _ (l .before .before .pre .0 .ordered) _ _ (l .loop .inv) (t .loop-test .taken)
-    (omega (arith, ap (λ (x : Code). x .signal) (r .code-at .ensures .is)))
+    let l = t .before .before in
+    let s = l .before .before in
+    reach-here _ _ (laid-ordered (now (s .args .list)) (countsOf (s .args .n)) (s .pre .0)) _ _ (l .loop .inv) (t .if1 .taken)
+    (omega (arith, ap (λ (x : Code). x .signal) (r .code-in .ensures .is)))
 
 loop-again : tie.Need-loop-again Inv-loop μ-loop
 loop-again c =
     let r = c .before .before in
     let t = r .before in
-    let l = t .before in
-    reach-more _ _ (l .before .before .pre .0 .ordered) _ _ (l .loop .inv) (t .loop-test .taken)
-    (omega (arith, ap (λ (x : Code). x .signal) (r .code-at .ensures .is)))
+    let l = t .before .before in
+    let s = l .before .before in
+    reach-more _ _ (laid-ordered (now (s .args .list)) (countsOf (s .args .n)) (s .pre .0)) _ _ (l .loop .inv) (t .if1 .taken)
+    (omega (arith, ap (λ (x : Code). x .signal) (r .code-in .ensures .is)))
 
 pub reach-spec : {M : Type 1} → statement M
 reach-spec =
@@ -41,9 +42,9 @@ reach-spec =
     Inv-loop
     μ-loop
     (λ c. search needs)
-    code-at-requires
+    (λ c κs. search needs)
     returns
     (λ c. search needs)
     (λ c. search needs)
     loop-again
-    (λ c. none-between _ _ _ _ _ (c .before .loop .inv) (c .loop-test .left)))
+    (λ c. none-between _ _ _ _ _ (c .before .before .loop .inv) (c .if1 .left)))
