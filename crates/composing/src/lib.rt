@@ -8,25 +8,18 @@ ghost use Rattle.paper.specs.Octets.{put, puts};
 ghost use Rattle.paper.specs.First.{firstBad};
 ghost use Rattle.paper.specs.Telegrams.{typeLength, markWidth};
 ghost use Rattle.paper.specs.SignalList.{listOf};
-ghost use Rattle.paper.specs.Extends.{knows};
 ghost use Rattle.paper.specs.Composing.{signalPut, checkPut, markFits, valueFits, composed, composing};
 ghost use Rattle.paper.proofs.ListLaws.{Laid};
 ghost use Rattle.octets.specs.Fields.{Within};
 ghost use Rattle.refusals.specs.Outcome.{outcomeOf, Written};
 ghost use Rattle.lists.specs.Judged.{countsOf};
+ghost use Rattle.known.specs.Known.{Entries};
 ghost use Rattle.composing.specs.Composing.{headOf, Values, Marks, Room, composingTests, composingUnder};
+use known::Span;
 use lists::Counts;
 use lists::Judged;
 use refusals::Outcome;
 use refusals::Refusal;
-
-// Whether signal k knows a code under the list.
-fn is_known(list: &[u8], n: Counts, k: usize, code: u64) -> bool
-    requires { ⌜ (Laid (now list) (countsOf n)) × (k < n .signals) ⌝ }
-    ensures { λ r. ⌜ r ≡ knows (listOf (now (list .entry)) (countsOf n)) k code ⌝ }
-{
-    known::known(lists::codes_part(list, n), n.codes, k, code)
-}
 
 // A check is written where both its bits lie within the telegram's length.
 fn is_within(place: usize, kind: usize) -> bool
@@ -45,13 +38,13 @@ fn mark_fits(list: &[u8], n: Counts, kind: usize, marks: &[u8], j: usize) -> boo
 }
 
 // Nor is a value.
-fn value_fits(list: &[u8], n: Counts, kind: usize, values: &[u64], k: usize) -> bool
-    requires { ⌜ (Values (now list) (countsOf n) (now values)) × (k < n .signals) ⌝ }
+fn value_fits(list: &[u8], n: Counts, kind: usize, values: &[u64], k: usize, own: Span) -> bool
+    requires { ⌜ (Values (now list) (countsOf n) (now values)) × (k < n .signals) × (Entries (listOf (now list) (countsOf n)) k own) ⌝ }
     ensures { λ r. ⌜ r ≡ valueFits (listOf (now (list .entry)) (countsOf n)) kind (now (values .entry)) k ⌝ }
 {
     let s = lists::signal_in(list, n, k);
     let v = values[k];
-    !store::is_carried(kind, s.kind) | (v < entries::pow2(s.width)) & is_known(list, n, k, v)
+    !store::is_carried(kind, s.kind) | (v < entries::pow2(s.width)) & known::knows(list, n, k, own, v)
 }
 
 // The first check with a written mark above 3, or the number of checks.
@@ -69,16 +62,19 @@ fn first_bad_mark(list: &[u8], n: Counts, kind: usize, marks: &[u8]) -> usize
     i
 }
 
-// The first signal with a written value that is too wide or not known, or the number of signals.
+// The first signal with a written value that is too wide or not known, or the number of signals; e is where its code entries are looked for.
 fn first_bad_value(list: &[u8], n: Counts, kind: usize, values: &[u64]) -> usize
     requires { ⌜ Values (now list) (countsOf n) (now values) ⌝ }
     ensures { λ r. ⌜ r ≡ firstBad (valueFits (listOf (now (list .entry)) (countsOf n)) kind (now (values .entry))) (n .signals) ⌝ }
 {
     let mut k = 0;
+    let mut e = 0;
     while k < n.signals {
-        if !value_fits(list, n, kind, values, k) {
+        let own = known::entries_from(list, n, e, k);
+        if !value_fits(list, n, kind, values, k, own) {
             return k;
         }
+        e = own.to;
         k += 1;
     }
     k

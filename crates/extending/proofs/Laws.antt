@@ -19,11 +19,11 @@ use Rattle.paper.proofs.FirstLaws.{first-fails, all-true, all-false, not-all, a
 use Rattle.paper.proofs.ListLaws.{both, neither, other, Kept, types-rise, fields-rise}
 use Rattle.paper.proofs.ExtendsLaws.{same-of, same-true, keeps-of}
 use Rattle.refusals.proofs.Laws.{numbered, numbered-of}
-use Rattle.known.specs.Known.{Ordered, codeKeys, codeSignals, Cut, Own}
-use Rattle.known.proofs.Laws.{Rising, all-between, ordered-of, in-range, in-none, is-within, cut-signal, reaches, outside}
+use Rattle.known.specs.Known.{Ordered, codeKeys, Cut, Own}
+use Rattle.known.proofs.Laws.{Rising, ordered-of, in-range, in-none, is-within, cut-signal, reaches, outside}
 use Rattle.extending.specs.declared.ExtendsOutcome.{ExtendsOutcome}
 use Rattle.extending.specs.declared.ExtendsOutcome.the-variants.{Yes, No, FirstRefused, SecondRefused}
-use Rattle.extending.specs.Extending.{extendsAnswer, signalKey, signalKeys, lastKey, Newer, From, rangeKept, entryKept, rangesKept}
+use Rattle.extending.specs.Extending.{extendsAnswer, signalKey, signalKeys, lastKey, Newer, rangeKept, entryKept, rangesKept}
 
 -- ---- the order of signals
 
@@ -117,13 +117,6 @@ module _ (l : SignalList) (h : Kept l) (k from to low high e : ℕ) (own : Own (
       lost c lo hi here near = range-lost l k low high c lo hi (outside (l .codes) (l .code) ordered k from to own low e cut lt c lo here near)
 
 -- ---- both lists at once
-
--- where a search for a signal's entries goes on from, a later signal's does
-pub from-later : (l : SignalList) (k j e : ℕ) → From l k e → k ≤ j → From l j e
-from-later l k j e f le = record { ordered = f .ordered; most = f .most; below = λ g lt. omega (arith, f .below g lt); above = λ g ge lt. absurd (omega arith) }
-
-pub from-none : (l : SignalList) → From l 0 0
-from-none l = all-between (codeSignals (l .code)) (l .codes) 0
 
 same-key : (s t : Signal) → same s t ≡ true → signalKey s ≡ signalKey t
 same-key s t e = let q = same-of s t e in omega (arith, q .0, q .1)

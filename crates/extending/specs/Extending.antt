@@ -10,8 +10,6 @@ use Rattle.paper.specs.Extends.{Extending, extending, firstRefused, secondRefus
 use Rattle.refusals.specs.Refusal.{numberOf, carriedOf}
 use Rattle.lists.specs.declared.Counts.{Counts}
 use Rattle.lists.specs.Judged.{countsOf}
-use Rattle.known.specs.declared.Span.{Span}
-use Rattle.known.specs.Known.{codeSignals, Between, Own}
 use Rattle.extending.specs.declared.ExtendsOutcome.{ExtendsOutcome}
 use Rattle.extending.specs.declared.ExtendsOutcome.the-variants.{Yes, No, FirstRefused, SecondRefused}
 
@@ -46,13 +44,6 @@ pub record Newer (l : SignalList) (j key version r : ℕ) : Type 0 where
   pub most : r ≤ l .signals
   pub each : (k : ℕ) → j ≤ k → k < r → (signalKeys l k < key) × (version < l .signal k .since)
   pub stops : r < l .signals → (ltb (signalKeys l r) key && ltb version (l .signal r .since)) ≡ false
-
--- the code entries of a signal of an accepted list, and what a search for them goes on from
-abbrev pub Entries : SignalList → ℕ → Span → Type 0
-Entries l k s = Own (l .codes) (l .code) k (s .from) (s .to)
-
-abbrev pub From : SignalList → ℕ → ℕ → Type 0
-From l k e = Between (codeSignals (l .code)) (l .codes) k e (l .codes)
 
 -- every code from low to high is in a range of signal k
 unfoldable pub rangeKept : SignalList → ℕ → ℕ → ℕ → Bool

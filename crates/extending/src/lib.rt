@@ -5,7 +5,8 @@ ghost use Rattle.paper.specs.Extends.{same, codesKept, keeps, extends as extend
 ghost use Rattle.paper.proofs.ListLaws.{Laid};
 ghost use Rattle.entries.specs.Entries.{signalOf};
 ghost use Rattle.lists.specs.Judged.{countsOf};
-ghost use Rattle.extending.specs.Extending.{extendsAnswer, extendsUnder, listed, signalKey, Newer, Entries, From, rangeKept, rangesKept, agreed};
+ghost use Rattle.known.specs.Known.{Entries};
+ghost use Rattle.extending.specs.Extending.{extendsAnswer, extendsUnder, listed, signalKey, Newer, rangeKept, rangesKept, agreed};
 use entries::Signal;
 use known::Span;
 use lists::Counts;
@@ -47,27 +48,13 @@ fn past_newer(list: &[u8], n: Counts, j: usize, key: usize, version: usize) -> u
     k
 }
 
-// The code entries of signal k, from those of a signal before on.
-fn entries_of(list: &[u8], n: Counts, from: usize, k: usize) -> Span
-    requires { ⌜ (Laid (now list) (countsOf n)) × (k < n .signals) × (From (listed (now list) n) k from) ⌝ }
-    ensures { λ r. ⌜ Entries (listed (now (list .entry)) n) k r ⌝ }
-{
-    known::span_from(lists::codes_part(list, n), n.codes, from, k)
-}
-
 // Whether signal k knows every code from low to high by its entries. Its ranges never touch, so one of them has to hold all.
 fn range_kept(list: &[u8], n: Counts, k: usize, own: Span, low: usize, high: usize) -> bool
     requires { ⌜ (Laid (now list) (countsOf n)) × (k < n .signals) × (Entries (listed (now list) n) k own) ⌝ }
     requires { ⌜ (low < 65536) × (low ≤ high) ⌝ }
     ensures { λ r. ⌜ r ≡ rangeKept (listed (now (list .entry)) n) k low high ⌝ }
 {
-    let e = known::first_code(
-        lists::codes_part(list, n),
-        n.codes,
-        own.from,
-        own.to,
-        k * 65536 + low,
-    );
+    let e = known::first_code(list, n, own.from, own.to, k * 65536 + low);
     if own.to <= e {
         return false;
     }
@@ -177,8 +164,8 @@ fn compared(a: &[u8], m: Counts, b: &[u8], n: Counts) -> bool
         if n.signals <= j {
             return false;
         }
-        let own = entries_of(a, m, e, i);
-        let its = entries_of(b, n, g, j);
+        let own = known::entries_from(a, m, e, i);
+        let its = known::entries_from(b, n, g, j);
         if !keeps_at(a, m, b, n, i, own, j, its) {
             return false;
         }

@@ -16,7 +16,7 @@ use Rattle.paper.specs.SignalList.{Code, SignalList, Counts, listOf, codeAt, co
 use Rattle.paper.specs.Extends.{hasCodes, inRange, knownIn}
 use Rattle.paper.proofs.FirstLaws.{some-true, some-false}
 use Rattle.paper.proofs.ListLaws.{Laid, Kept, kept-of, CodeFollows}
-use Rattle.known.specs.Known.{Ordered, codeKeys, codeSignals, Between, Cut, Own}
+use Rattle.known.specs.Known.{Ordered, codeKeys, codeSignals, Between, Cut, Own, From}
 
 -- ---- the first of rising numbers that is not below a key
 
@@ -91,6 +91,15 @@ module _ (l : SignalList) (h : Kept l) where
 -- of a list that was accepted with these counts
 pub laid-ordered : (xs : List ℕ) (n : Counts) → Laid xs n → Ordered (n .codes) (codeAt (codesPart xs n))
 laid-ordered xs n h = ordered-of (listOf xs n) (kept-of xs n h)
+
+-- ---- where a search for a signal's entries goes on from
+
+pub from-none : (l : SignalList) → From l 0 0
+from-none l = all-between (codeSignals (l .code)) (l .codes) 0
+
+-- a later signal's does too
+pub from-later : (l : SignalList) (k j e : ℕ) → From l k e → k ≤ j → From l j e
+from-later l k j e f le = record { ordered = f .ordered; most = f .most; below = λ g lt. omega (arith, f .below g lt); above = λ g ge lt. absurd (omega arith) }
 
 -- ---- whether a signal has an entry, and one that holds a code
 

@@ -9,8 +9,10 @@ ghost use Rattle.paper.specs.Reading.{markOf, readingAt, reading};
 ghost use Rattle.paper.proofs.ListLaws.{Laid};
 ghost use Rattle.entries.specs.Entries.{signalOf};
 ghost use Rattle.lists.specs.Judged.{countsOf};
+ghost use Rattle.known.specs.Known.{Entries};
 ghost use Rattle.reading.specs.Reading.{asReading, readAnswer, slotTests, telegramReason, telegramReading, readingUnder};
 use entries::Signal;
+use known::Span;
 use lists::Counts;
 use lists::Judged;
 use refusals::Refusal;
@@ -78,13 +80,20 @@ fn telegram_reason(mark: usize, known: bool) -> u8
 }
 
 // Signal k, which is s, out of a telegram that can be read.
-fn read_telegram(list: &[u8], n: Counts, s: Signal, telegram: &[u8], k: usize) -> Reading
-    requires { ⌜ (Laid (now list) (countsOf n)) × (k < n .signals) ⌝ }
+fn read_telegram(
+    list: &[u8],
+    n: Counts,
+    s: Signal,
+    telegram: &[u8],
+    k: usize,
+    own: Span,
+) -> Reading
+    requires { ⌜ (Laid (now list) (countsOf n)) × (k < n .signals) × (Entries (listOf (now list) (countsOf n)) k own) ⌝ }
     requires { ⌜ (signalOf s ≡ signalAt (signalsPart (now list) (countsOf n)) k) × (length (now telegram) ≡ telegramOctets) ⌝ }
     ensures { λ r. ⌜ asReading r ≡ telegramReading (listOf (now (list .entry)) (countsOf n)) (now (telegram .entry)) k ⌝ }
 {
     let code = octets::read_field(telegram, s.start, s.width);
-    let known = known::known(lists::codes_part(list, n), n.codes, k, code);
+    let known = known::knows(list, n, k, own, code);
     let reason = telegram_reason(mark_in(list, n, s, telegram), known);
     if 2 <= reason {
         return Reading {
@@ -98,16 +107,17 @@ fn read_telegram(list: &[u8], n: Counts, s: Signal, telegram: &[u8], k: usize) -
     }
 }
 
-// Inner: signal k of a vehicle, under a list that was accepted with these counts.
-pub fn read_at(
+// Inner: signal k of a vehicle, under a list that was accepted with these counts, where the signal's code entries are found already.
+pub fn read_with(
     list: &[u8],
     n: Counts,
     store: &[u8],
     clock: u32,
     vehicle: usize,
     k: usize,
+    own: Span,
 ) -> Reading
-    requires { ⌜ (Laid (now list) (countsOf n)) × (k < n .signals) ⌝ }
+    requires { ⌜ (Laid (now list) (countsOf n)) × (k < n .signals) × (Entries (listOf (now list) (countsOf n)) k own) ⌝ }
     requires { ⌜ (length (now store) ≡ storeOctets) × (1 ≤ vehicle) × (vehicle ≤ vehicles) ⌝ }
     ensures { λ r. ⌜ asReading r ≡ readingAt (listOf (now (list .entry)) (countsOf n)) (now (store .entry)) clock vehicle k ⌝ }
 {
@@ -120,7 +130,31 @@ pub fn read_at(
             reason,
         };
     }
-    read_telegram(list, n, s, store::telegram(slot), k)
+    read_telegram(list, n, s, store::telegram(slot), k, own)
+}
+
+// Inner: signal k of a vehicle.
+pub fn read_at(
+    list: &[u8],
+    n: Counts,
+    store: &[u8],
+    clock: u32,
+    vehicle: usize,
+    k: usize,
+) -> Reading
+    requires { ⌜ (Laid (now list) (countsOf n)) × (k < n .signals) ⌝ }
+    requires { ⌜ (length (now store) ≡ storeOctets) × (1 ≤ vehicle) × (vehicle ≤ vehicles) ⌝ }
+    ensures { λ r. ⌜ asReading r ≡ readingAt (listOf (now (list .entry)) (countsOf n)) (now (store .entry)) clock vehicle k ⌝ }
+{
+    read_with(
+        list,
+        n,
+        store,
+        clock,
+        vehicle,
+        k,
+        known::entries_of(list, n, k),
+    )
 }
 
 // The same with the refusals 5, 6 and 11.

@@ -34,10 +34,10 @@ returns c =
     let a = g .before .before .before .args in
     let l = listOf (now (a .list)) (countsOf (a .n)) in
     let v = getD (now (a .values)) (a .k) 0 in
-    ap₂ (λ (b : Bool) (q : ℕ). not b || ltb v q && c .is-known .result)
+    ap₂ (λ (b : Bool) (q : ℕ). not b || ltb v q && c .knows .result)
     (w .is-carried .ensures ∙ ap (λ (x : Signal). carries (a .kind) (x .type)) (g .signal-in .ensures .is))
     (p .pow2 .ensures ∙ ap (λ (x : Signal). 2 ^ x .width) (g .signal-in .ensures .is))
-    ∙ ap (λ (b : Bool). not (writesSignal l (a .kind) (a .k)) || ltb v (2 ^ l .signal (a .k) .width) && b) (c .is-known .ensures)
+    ∙ ap (λ (b : Bool). not (writesSignal l (a .kind) (a .k)) || ltb v (2 ^ l .signal (a .k) .width) && b) (c .knows .ensures)
 
 pub value-fits-spec : {M : Type 1} → statement M
 value-fits-spec =

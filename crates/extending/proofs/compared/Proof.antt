@@ -10,9 +10,10 @@ use borrow.Author.Tests.{not-true, not-false}
 use Rattle.paper.specs.SignalList.{SignalList}
 use Rattle.paper.specs.Extends.{version}
 use Rattle.paper.proofs.ListLaws.{Kept, kept-of}
-use Rattle.known.proofs.Laws.{all-between, ordered-of, past-own}
-use Rattle.extending.specs.Extending.{listed, signalKey, signalKeys, lastKey, Newer, From}
-use Rattle.extending.proofs.Laws.{Along, along-none, along-newer, along-kept, stands-nowhere, not-along, all-along, from-later, from-none}
+use Rattle.known.specs.Known.{From}
+use Rattle.known.proofs.Laws.{ordered-of, past-own, from-later, from-none}
+use Rattle.extending.specs.Extending.{listed, signalKey, signalKeys, lastKey, Newer}
+use Rattle.extending.proofs.Laws.{Along, along-none, along-newer, along-kept, stands-nowhere, not-along, all-along}
 use Rattle.extending.proofs.compared.Statement.{statement}
 use Rattle.extending.proofs.compared.Tie as tie
 
@@ -66,14 +67,14 @@ returns c =
     let s = t .before .before .before .before .before in
     stands-nowhere _ _ (kept-a s) (kept-b s) _ _ (along p) (t .if1 .taken) (c .if2 .taken)
 
-entries-of-requires : tie.Need-entries-of-requires Inv-loop μ-loop
-entries-of-requires c κs =
+entries-from-requires : tie.Need-entries-from-requires Inv-loop μ-loop
+entries-from-requires c κs =
     let t = c .before .before .before .before .before in
     let l = t .before .before in
     (l .before .before .before .pre .0, t .if1 .taken, l .loop .inv .1)
 
-entries-of-requires-2 : tie.Need-entries-of-requires-2 Inv-loop μ-loop
-entries-of-requires-2 c κs =
+entries-from-requires-2 : tie.Need-entries-from-requires-2 Inv-loop μ-loop
+entries-from-requires-2 c κs =
     let e = c .before in
     let p = e .before .before in
     let l = p .before .before .before .before .before in
@@ -85,7 +86,7 @@ keeps-at-requires c κs =
     let e = c .before .before in
     let t = e .before .before .before .before .before in
     let s = t .before .before .before .before .before in
-    ((s .pre .0, t .if1 .taken, c .before .entries-of .ensures), (s .pre .1, e .if2 .left, c .entries-of2 .ensures))
+    ((s .pre .0, t .if1 .taken, c .before .entries-from .ensures), (s .pre .1, e .if2 .left, c .entries-from2 .ensures))
 
 returns-2 : tie.Need-returns-2 Inv-loop μ-loop
 returns-2 c =
@@ -115,8 +116,8 @@ loop-again c =
     let t = p .before .before .before in
     let s = t .before .before .before .before .before in (
       along-kept _ _ (kept-a s) (kept-b s) _ _ (along p) (t .if1 .taken) (e .if2 .left) (sym (k .keeps-at .ensures) ∙ not-false _ (c .if3 .left)),
-      past-own _ _ (ordered-of _ (kept-a s)) _ _ _ _ (i .before .entries-of .ensures) (omega arith),
-      past-own _ _ (ordered-of _ (kept-b s)) _ _ _ _ (i .entries-of2 .ensures) (omega arith),
+      past-own _ _ (ordered-of _ (kept-a s)) _ _ _ _ (i .before .entries-from .ensures) (omega arith),
+      past-own _ _ (ordered-of _ (kept-b s)) _ _ _ _ (i .entries-from2 .ensures) (omega arith),
     )
 
 returns-3 : tie.Need-returns-3 Inv-loop μ-loop
@@ -139,8 +140,8 @@ compared-spec =
     (λ c κs. search needs)
     (λ c κs. search needs)
     returns
-    entries-of-requires
-    entries-of-requires-2
+    entries-from-requires
+    entries-from-requires-2
     keeps-at-requires
     returns-2
     add-i

@@ -1,4 +1,4 @@
--- `reading::read_at` meets its contract. Assumes nothing.
+-- `reading::read_with` meets its contract. Assumes nothing.
 use mathlib.Core.Path.{_≡_, sym, ap, ap₂, _∙_}
 use mathlib.Core.List.{List}
 use Prim.Native.Nat.{ℕ}
@@ -15,8 +15,8 @@ use Rattle.lists.specs.Judged.{countsOf}
 use Rattle.store.proofs.Laws.{slot-whole}
 use Rattle.reading.specs.Reading.{slotTests, telegramReading}
 use Rattle.reading.proofs.Laws.{slot-reading, telegram-reads}
-use Rattle.reading.proofs.read_at.Statement.{statement}
-use Rattle.reading.proofs.read_at.Tie as tie
+use Rattle.reading.proofs.read_with.Statement.{statement}
+use Rattle.reading.proofs.read_with.Tie as tie
 
 signal-is : (c : tie.After-signal-in) →
     let a = c .before .before .before .args in
@@ -74,8 +74,8 @@ returns-2 c =
     ∙ ap (λ (x : List ℕ). telegramReading l x (a .k)) (t .telegram .ensures ∙ ap (λ (x : Slot). x .telegram) (slot-is (r .before)))
     ∙ telegram-reads l (slotOf (now (a .store)) (a .vehicle)) (a .clock) (a .k) (sym (reason-is r) ∙ t .before .if1 .left)
 
-pub read-at-spec : {M : Type 1} → statement M
-read-at-spec =
+pub read-with-spec : {M : Type 1} → statement M
+read-with-spec =
     tie.close
     (tie.spec
     (λ c κs. search needs)
