@@ -1,24 +1,30 @@
 -- The parts of marshalling are the paper's, and how its answer is put together. Assumes nothing.
-use Prim.Native.Nat.{ℕ, _+_, _*_, _/_, _≤_}
-use mathlib.Core.Path.{_≡_, refl, sym, ap, _∙_}
+use Prim.Native.Nat.{ℕ, _+_, _-_, _*_, _/_, _≤_, _<_}
+use mathlib.Core.Path.{_≡_, refl, sym, ap, subst⁻¹, _∙_}
 use mathlib.Core.Bool.{Bool, true, false, cond}
 use mathlib.Core.List.{List}
 use native.Mathlib.Numerals.{add-one}
 use native.Mathlib.Omega.{arith}
 use native.Mathlib.Decide.{decLt}
+use native.Mathlib.Nat.{lt-irrefl}
+use lib.ListN.{length, getD, set}
+use lib.Seq.{getD-set-same, getD-set-other}
 use lib.Dec.{ltb}
 use borrow.Author.Tests.{lt-ltb, le-ltb}
 use Rattle.paper.specs.Answer.{Answer, gives, refused, andThen}
-use Rattle.paper.specs.First.{count}
-use Rattle.paper.specs.SignalList.{SignalList, judge, listOf}
+use Rattle.paper.specs.First.{some, count}
+use Rattle.paper.specs.SignalList.{SignalList, routeEnd, judge, listOf}
 use Rattle.paper.specs.Marshalling as paper
 use Rattle.paper.proofs.AnswerLaws.{one-answer}
+use Rattle.paper.proofs.FirstLaws.{some-true, some-false}
+use Rattle.paper.proofs.ListLaws.{Kept, routes-apart}
+use Rattle.known.specs.Known.{Starts}
 use Rattle.refusals.specs.declared.Refusal.{Refusal}
 use Rattle.refusals.specs.Refusal.{refusalOf}
 use Rattle.refusals.proofs.Laws.{numbered, numbered-of}
 use Rattle.marshalling.specs.declared.Marshalled.{Marshalled}
 use Rattle.marshalling.specs.declared.Marshalled.the-variants.{Live, Refused}
-use Rattle.marshalling.specs.Marshalling.{liveAnswer, Delivered, marshallingUnder}
+use Rattle.marshalling.specs.Marshalling.{liveAnswer, Delivered, isShort, marshallingUnder}
 
 -- ---- the routes
 
@@ -28,6 +34,36 @@ too-few octets end =
     elim (decLt octets ((end + 7) / 8)) [
       | yes h ↦ lt-ltb _ _ h ∙ sym (lt-ltb (8 * octets) end (omega arith))
       | no h ↦ le-ltb octets ((end + 7) / 8) (omega arith) ∙ sym (le-ltb (8 * octets) end (omega arith))
+    ]
+
+-- the last route ends last
+pub last-short : (l : SignalList) → Kept l → (octets : ℕ) → 0 < l .routes → isShort l octets (l .routes - 1) ≡ some (isShort l octets) (l .routes)
+last-short l h octets some-route =
+    elim (decLt (8 * octets) (end last)) [
+      | yes lt ↦ lt-ltb _ _ lt ∙ sym (some-true (isShort l octets) (l .routes) last (omega arith) (lt-ltb _ _ lt))
+      | no ge ↦ le-ltb (8 * octets) (end last) (omega arith) ∙ sym (some-false (isShort l octets) (l .routes) (λ r hr. le-ltb (8 * octets) (end r) (omega (arith, ends r hr))))
+    ]
+  where
+    last : ℕ
+    last = l .routes - 1
+
+    end : ℕ → ℕ
+    end r = routeEnd (l .signal) (l .route r)
+
+    ends : (r : ℕ) → r < l .routes → end r ≤ end last
+    ends r hr =
+        elim (decLt r last) [
+          | yes lt ↦ omega (arith, routes-apart l h r last lt (omega arith))
+          | no ge ↦ let z : r ≡ last = omega arith in omega (arith, ap end z)
+        ]
+
+-- one start more is written
+pub starts-more : (l : SignalList) (first : List ℕ) (k e : ℕ) → k < length first → ((g : ℕ) → g < k → Starts l g (getD first g 0)) → Starts l k e
+    → (g : ℕ) → g < k + 1 → Starts l g (getD (set first k e) g 0)
+starts-more l first k e there before here g lt =
+    elim (decLt g k) [
+      | yes less ↦ subst⁻¹ (Starts l g) (getD-set-other first k g e 0 (λ z. lt-irrefl k (rw z at less))) (before g less)
+      | no ge ↦ let z : g ≡ k = omega arith in rw z (subst⁻¹ (Starts l k) (getD-set-same first k e 0 there) here)
     ]
 
 pub one-more : (b : Bool) → cond b 1 0 ≤ 1

@@ -3,7 +3,7 @@ use Prim.Native.Nat.{ℕ, _*_, _≤_, _<_}
 use mathlib.Core.Path.{_≡_}
 use mathlib.Core.Bool.{Bool, not, cond}
 use mathlib.Core.List.{List}
-use lib.ListN.{length}
+use lib.ListN.{length, getD}
 use lib.Dec.{ltb}
 use Rattle.paper.specs.Octets.{put}
 use Rattle.paper.specs.Answer.{Answer, gives, refuseIf, after, mapAnswer}
@@ -13,6 +13,7 @@ use Rattle.paper.specs.Store.{storeOctets, isStore}
 use Rattle.paper.specs.Marshalling as paper
 use Rattle.paper.proofs.ListLaws.{Laid}
 use Rattle.refusals.specs.Refusal.{refusalOf}
+use Rattle.known.specs.Known.{Starts}
 use Rattle.marshalling.specs.declared.Marshalled.{Marshalled}
 use Rattle.marshalling.specs.declared.Marshalled.the-variants.{Live, Refused}
 
@@ -35,6 +36,11 @@ marshallingUnder l store now bus =
     refuseIf (not (isStore store)) 5 0
     (refuseIf (some (isShort l (length bus)) (l .routes)) 12 0
     (gives (record { octets = paper.marshalled l store now bus (l .routes); lives = count (paper.live l store now) (l .routes) })))
+
+-- where the code entries of each signal start, and past the last where they end
+pub record Indexed (l : SignalList) (first : List ℕ) : Type 0 where
+  pub long : length first ≡ 257
+  pub each : (k : ℕ) → k ≤ l .signals → Starts l k (getD first k 0)
 
 -- an accepted list, a whole store, and data of so many octets, in which every route ends
 pub record Served (xs : List ℕ) (n : Counts) (store : List ℕ) (octets : ℕ) : Type 0 where

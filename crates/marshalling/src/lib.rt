@@ -9,7 +9,9 @@ ghost use Rattle.paper.specs.SignalList.{listOf};
 ghost use Rattle.paper.specs.Marshalling.{marshalling};
 ghost use Rattle.paper.proofs.ListLaws.{Laid};
 ghost use Rattle.lists.specs.Judged.{countsOf};
-ghost use Rattle.marshalling.specs.Marshalling.{isShort, Served, RouteWritten, RoutesWritten, Delivered, marshallingUnder};
+ghost use Rattle.known.specs.Known.{Entries};
+ghost use Rattle.marshalling.specs.Marshalling.{isShort, Indexed, Served, RouteWritten, RoutesWritten, Delivered, marshallingUnder};
+use known::Span;
 use lists::Counts;
 use lists::Judged;
 use refusals::Refusal;
@@ -29,19 +31,39 @@ fn is_short(list: &[u8], n: Counts, octets: usize, r: usize) -> bool
     octets < (t.start + lists::width_in(list, n, t.signal) + 7) / 8
 }
 
-// Asked of every route before anything is written.
+// Asked before anything is written. Each route starts at or past the end of the one before, so the last one ends last.
 fn some_short(list: &[u8], n: Counts, octets: usize) -> bool
     requires { ⌜ Laid (now list) (countsOf n) ⌝ }
     ensures { λ b. ⌜ b ≡ some (isShort (listOf (now (list .entry)) (countsOf n)) octets) (n .routes) ⌝ }
 {
-    let mut i = 0;
-    while i < n.routes {
-        if is_short(list, n, octets, i) {
-            return true;
-        }
-        i += 1;
+    if n.routes == 0 {
+        return false;
     }
-    false
+    is_short(list, n, octets, n.routes - 1)
+}
+
+// Where the code entries of each signal start: routes go by their destinations, not by their signals.
+fn index(list: &[u8], n: Counts, first: &mut [u16])
+    requires { ⌜ (Laid (now list) (countsOf n)) × (length (now first) ≡ 257) ⌝ }
+    ensures { λ _. ⌜ Indexed (listOf (now (list .entry)) (countsOf n)) (now (first .exit)) ⌝ }
+{
+    let mut e = 0;
+    let mut k = 0;
+    while k <= n.signals {
+        e = known::reach(list, n, e, k);
+        first[k] = e as u16;
+        k += 1;
+    }
+}
+
+// The code entries of signal k.
+fn entries_at(list: &[u8], n: Counts, first: &[u16], k: usize) -> Span
+    requires { ⌜ (Laid (now list) (countsOf n)) × (Indexed (listOf (now list) (countsOf n)) (now first)) × (k < n .signals) ⌝ }
+    ensures { λ r. ⌜ Entries (listOf (now (list .entry)) (countsOf n)) k r ⌝ }
+{
+    let from = first[k] as usize;
+    let to = first[k + 1] as usize;
+    Span { from, to }
 }
 
 // What a reading adds to the number of live routes.
@@ -52,12 +74,22 @@ fn live(reason: u8) -> usize
 }
 
 // Writes what route r reads into its field.
-fn write_route(list: &[u8], n: Counts, store: &[u8], clock: u32, bus: &mut [u8], r: usize) -> usize
+fn write_route(
+    list: &[u8],
+    n: Counts,
+    first: &[u16],
+    store: &[u8],
+    clock: u32,
+    bus: &mut [u8],
+    r: usize,
+) -> usize
     requires { ⌜ (Served (now list) (countsOf n) (now store) (length (now bus))) × (r < n .routes) ⌝ }
+    requires { ⌜ Indexed (listOf (now list) (countsOf n)) (now first) ⌝ }
     ensures { λ m. ⌜ RouteWritten (listOf (now (list .entry)) (countsOf n)) (now (store .entry)) clock (now (bus .entry)) r m (now (bus .exit)) ⌝ }
 {
     let t = lists::route_in(list, n, r);
-    let reading = reading::read_at(list, n, store, clock, t.vehicle, t.signal);
+    let own = entries_at(list, n, first, t.signal);
+    let reading = reading::read_with(list, n, store, clock, t.vehicle, t.signal, own);
     octets::write_field(
         bus,
         t.start,
@@ -68,14 +100,22 @@ fn write_route(list: &[u8], n: Counts, store: &[u8], clock: u32, bus: &mut [u8],
 }
 
 // Writes what every route reads, and counts the live ones.
-fn write_routes(list: &[u8], n: Counts, store: &[u8], clock: u32, bus: &mut [u8]) -> usize
+fn write_routes(
+    list: &[u8],
+    n: Counts,
+    first: &[u16],
+    store: &[u8],
+    clock: u32,
+    bus: &mut [u8],
+) -> usize
     requires { ⌜ Served (now list) (countsOf n) (now store) (length (now bus)) ⌝ }
+    requires { ⌜ Indexed (listOf (now list) (countsOf n)) (now first) ⌝ }
     ensures { λ m. ⌜ RoutesWritten (listOf (now (list .entry)) (countsOf n)) (now (store .entry)) clock (now (bus .entry)) (n .routes) m (now (bus .exit)) ⌝ }
 {
     let mut lives = 0;
     let mut r = 0;
     while r < n.routes {
-        lives += write_route(list, n, store, clock, bus, r);
+        lives += write_route(list, n, first, store, clock, bus, r);
         r += 1;
     }
     lives
@@ -92,7 +132,9 @@ fn marshal_under(list: &[u8], n: Counts, store: &[u8], clock: u32, bus: &mut [u8
     if some_short(list, n, bus.len()) {
         return Marshalled::Refused(Refusal::DataShort);
     }
-    Marshalled::Live(write_routes(list, n, store, clock, bus))
+    let mut first = [0u16; 257];
+    index(list, n, &mut first);
+    Marshalled::Live(write_routes(list, n, &first, store, clock, bus))
 }
 
 // Writes each route's value at `clock` into its field of `bus`. Refused: 1 to 4, then 5 and 12, and `bus` stays as it was.

@@ -80,14 +80,7 @@ fn telegram_reason(mark: usize, known: bool) -> u8
 }
 
 // Signal k, which is s, out of a telegram that can be read.
-fn read_telegram(
-    list: &[u8],
-    n: Counts,
-    s: Signal,
-    telegram: &[u8],
-    k: usize,
-    own: Span,
-) -> Reading
+fn read_telegram(list: &[u8], n: Counts, s: Signal, telegram: &[u8], k: usize, own: Span) -> Reading
     requires { ⌜ (Laid (now list) (countsOf n)) × (k < n .signals) × (Entries (listOf (now list) (countsOf n)) k own) ⌝ }
     requires { ⌜ (signalOf s ≡ signalAt (signalsPart (now list) (countsOf n)) k) × (length (now telegram) ≡ telegramOctets) ⌝ }
     ensures { λ r. ⌜ asReading r ≡ telegramReading (listOf (now (list .entry)) (countsOf n)) (now (telegram .entry)) k ⌝ }

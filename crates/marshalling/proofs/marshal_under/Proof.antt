@@ -11,7 +11,7 @@ use Rattle.paper.specs.Store.{isStore}
 use Rattle.paper.proofs.AnswerLaws.{refuses, goes-past}
 use Rattle.paper.proofs.FirstLaws.{some-none}
 use Rattle.lists.specs.Judged.{countsOf}
-use Rattle.marshalling.specs.Marshalling.{isShort, marshallingUnder}
+use Rattle.marshalling.specs.Marshalling.{isShort, Served, marshallingUnder}
 use Rattle.marshalling.proofs.Laws.{delivered-refused, delivered-live}
 use Rattle.marshalling.proofs.marshal_under.Statement.{statement}
 use Rattle.marshalling.proofs.marshal_under.Tie as tie
@@ -41,19 +41,22 @@ returns-2 c =
 
 write-routes-requires : tie.Need-write-routes-requires
 write-routes-requires c κs =
-    let e = c .before .before .before in
+    let i = c .before .before .before in
+    let q = i .before .before in
+    let e = q .before .before in
     let s = start e in
-    record {
+    let served : Served (now (s .args .list)) (countsOf (s .args .n)) (now (s .args .store)) (length (now (s .args .bus))) = record {
       laid = s .pre;
       whole = eqb-true _ _ (not-false _ (whole e));
-      room = λ r h. ltb-false _ _ (some-none (isShort (under s) (length (now (s .args .bus)))) (s .args .n .routes) (none-short (c .before)) r h);
-    }
+      room = λ r h. ltb-false _ _ (some-none (isShort (under s) (length (now (s .args .bus)))) (s .args .n .routes) (none-short q) r h);
+    } in
+    (served, i .index .ensures)
 
 returns-3 : tie.Need-returns-3
 unfolding marshallingUnder
 returns-3 c =
     let w = c .before .before in
-    let p = w .before .before in
+    let p = w .before .before .before .before .before .before in
     delivered-live _ _ _ _ _ (w .write-routes .ensures .lives) (w .write-routes .ensures .octets)
     (goes-past _ 5 0 _ _ (whole (p .before .before)) (goes-past _ 12 0 _ _ (none-short p) refl))
 
@@ -65,6 +68,9 @@ marshal-under-spec =
     returns
     (λ c κs. search needs)
     returns-2
+    (λ c. search needs)
+    (λ c κs. search needs)
+    (λ c. search needs)
     write-routes-requires
     (λ c. search needs)
     returns-3)

@@ -1,39 +1,29 @@
--- `marshalling::some_short` meets its contract: no route passed is short. Assumes nothing.
-use Prim.Native.Nat.{_-_}
+-- `marshalling::some_short` meets its contract. Assumes nothing.
+use mathlib.Core.Path.{sym, _∙_}
+use native.Mathlib.Omega.{arith}
+use denote.Ref.{now}
 use borrow.Author.Needs.{needs}
 use Rattle.paper.specs.SignalList.{listOf}
-use Rattle.paper.proofs.LoopLaws.{Missed, missed-none, missed-more, some-here, some-nowhere}
+use Rattle.paper.proofs.FirstLaws.{some-false}
+use Rattle.paper.proofs.ListLaws.{kept-of}
 use Rattle.lists.specs.Judged.{countsOf}
 use Rattle.marshalling.specs.Marshalling.{isShort}
+use Rattle.marshalling.proofs.Laws.{last-short}
 use Rattle.marshalling.proofs.some_short.Statement.{statement}
 use Rattle.marshalling.proofs.some_short.Tie as tie
 
-abbrev Inv-loop : tie.InvT-loop
-Inv-loop list n octets i₀ i = Missed (isShort (listOf list (countsOf n)) octets) (n .routes) i
-
-abbrev μ-loop : tie.MeasureT-loop
-μ-loop list n octets i₀ i = n .routes - i
-
-returns : tie.Need-returns Inv-loop μ-loop
+returns : tie.Need-returns
 returns c =
-    let t = c .before .before in
-    some-here (t .before .before .loop .inv) (t .if1 .taken) (c .before .is-short .ensures) (c .if2 .taken)
+    let a = c .before .before .before .args in
+    sym (some-false (isShort (listOf (now (a .list)) (countsOf (a .n))) (a .octets)) (a .n .routes) (λ r lt. absurd (omega (arith, c .if1 .taken))))
 
-loop-again : tie.Need-loop-again Inv-loop μ-loop
-loop-again c =
-    let t = c .before .before in
-    missed-more (t .before .before .loop .inv) (t .if1 .taken) (c .before .is-short .ensures) (c .if2 .left)
+returns-2 : tie.Need-returns-2
+returns-2 c =
+    let e = c .before .before in
+    let s = e .before .before .before in
+    let xs = now (s .args .list) in
+    let n = countsOf (s .args .n) in
+    c .is-short .ensures ∙ last-short (listOf xs n) (kept-of xs n (s .pre)) (s .args .octets) (omega (arith, e .if1 .left))
 
 pub some-short-spec : {M : Type 1} → statement M
-some-short-spec =
-    tie.close
-    (tie.spec
-    Inv-loop
-    μ-loop
-    (λ c. missed-none _ _)
-    (λ c κs. search needs)
-    returns
-    (λ c. search needs)
-    (λ c. search needs)
-    loop-again
-    (λ c. some-nowhere (c .before .before .loop .inv) (c .if1 .left)))
+some-short-spec = tie.close (tie.spec returns (λ c. search needs) (λ c κs. search needs) returns-2)

@@ -1,5 +1,5 @@
 -- `marshalling::write_route` meets its contract. Assumes nothing.
-use Prim.Native.Nat.{ℕ}
+use Prim.Native.Nat.{ℕ, _<_}
 use mathlib.Core.Path.{_≡_, ap, ap₂, _∙_}
 use mathlib.Core.Bool.{cond}
 use native.Mathlib.Omega.{arith}
@@ -22,46 +22,56 @@ abbrev under : tie.Start → SignalList
 under s = listOf (now (s .args .list)) (countsOf (s .args .n))
 
 kept : (s : tie.Start) → Kept (under s)
-kept s = kept-of (now (s .args .list)) (countsOf (s .args .n)) (s .pre .0 .laid)
+kept s = kept-of (now (s .args .list)) (countsOf (s .args .n)) (s .pre .0 .0 .laid)
 
-read-at-requires : tie.Need-read-at-requires
-read-at-requires c κs =
-    let s = c .before .before .before .before in
-    let k = kept s .route (s .args .r) (s .pre .1) in
-    let vehicle : c .route-in .result .vehicle ≡ under s .route (s .args .r) .vehicle = ap (λ (t : Route). t .vehicle) (c .route-in .ensures .is) in
-    let signal : c .route-in .result .signal ≡ under s .route (s .args .r) .signal = ap (λ (t : Route). t .signal) (c .route-in .ensures .is) in
-    ((s .pre .0 .laid, omega (arith, k .exists)), (s .pre .0 .whole, omega (arith, k .first), omega (arith, k .last)))
+signal-there : (c : tie.After-route-in) → c .route-in .result .signal < c .before .before .before .before .before .args .n .signals
+signal-there c =
+    let s = c .before .before .before .before .before in
+    let k = kept s .route (s .args .r) (s .pre .0 .1) in
+    omega (arith, ap (λ (t : Route). t .signal) (c .route-in .ensures .is), k .exists)
+
+entries-at-requires : tie.Need-entries-at-requires
+entries-at-requires c κs = let s = c .before .before .before .before .before in (s .pre .0 .0 .laid, s .pre .1, signal-there c)
+
+read-with-requires : tie.Need-read-with-requires
+read-with-requires c κs =
+    let t = c .before in
+    let s = t .before .before .before .before .before in
+    let k = kept s .route (s .args .r) (s .pre .0 .1) in
+    let vehicle : t .route-in .result .vehicle ≡ under s .route (s .args .r) .vehicle = ap (λ (t : Route). t .vehicle) (t .route-in .ensures .is) in
+    ((s .pre .0 .0 .laid, signal-there t, c .entries-at .ensures), (s .pre .0 .0 .whole, omega (arith, k .first), omega (arith, k .last)))
 
 -- what route r reads, and the width of its field
-reads : (c : tie.After-read-at) →
-    let s = c .before .before .before .before .before in
-    asReading (c .read-at .result) ≡ routed (under s) (now (s .args .store)) (s .args .clock) (s .args .r)
+reads : (c : tie.After-read-with) →
+    let s = c .before .before .before .before .before .before .before in
+    asReading (c .read-with .result) ≡ routed (under s) (now (s .args .store)) (s .args .clock) (s .args .r)
 unfolding routed
 reads c =
-    let s = c .before .before .before .before .before in
+    let t = c .before .before in
+    let s = t .before .before .before .before .before in
     let at : Route → Reading = λ t. readingAt (under s) (now (s .args .store)) (s .args .clock) (t .vehicle) (t .signal) in
-    let read : asReading (c .read-at .result) ≡ at (routeOf (c .before .route-in .result)) = c .read-at .ensures in
-    read ∙ ap at (c .before .route-in .ensures .is)
+    let read : asReading (c .read-with .result) ≡ at (routeOf (t .route-in .result)) = c .read-with .ensures in
+    read ∙ ap at (t .route-in .ensures .is)
 
 wide : (c : tie.After-width-in) →
-    let s = c .before .before .before .before .before .before .before in
+    let s = c .before .before .before .before .before .before .before .before .before in
     let l = under s in
     c .width-in .result ≡ l .signal (l .route (s .args .r) .signal) .width
 wide c =
-    let t = c .before .before .before in
-    c .width-in .ensures .is ∙ ap (λ (x : Route). under (t .before .before .before .before) .signal (x .signal) .width) (t .route-in .ensures .is)
+    let t = c .before .before .before .before in
+    c .width-in .ensures .is ∙ ap (λ (x : Route). under (t .before .before .before .before .before) .signal (x .signal) .width) (t .route-in .ensures .is)
 
 write-field-requires : tie.Need-write-field-requires
 write-field-requires c κs =
-    let t = c .before .before .before in
-    let s = t .before .before .before .before in
+    let t = c .before .before .before .before in
+    let s = t .before .before .before .before .before in
     let r = s .args .r in
-    let k = kept s .signal (under s .route r .signal) (kept s .route r (s .pre .1) .exists) in
+    let k = kept s .signal (under s .route r .signal) (kept s .route r (s .pre .0 .1) .exists) in
     let within : Within (now (s .args .bus)) (t .route-in .result .start) (c .width-in .result) =
     record {
       some = omega (arith, wide c, k .some);
       wide = omega (arith, wide c, k .wide);
-      inside = omega (arith, wide c, ap (λ (x : Route). x .start) (t .route-in .ensures .is), s .pre .0 .room r (s .pre .1));
+      inside = omega (arith, wide c, ap (λ (x : Route). x .start) (t .route-in .ensures .is), s .pre .0 .0 .room r (s .pre .0 .1));
     } in
     within
 
@@ -71,13 +81,13 @@ returns c =
     let f = c .before .before .before in
     let w = f .before in
     let d = w .before .before in
-    let t = d .before in
-    let s = t .before .before .before .before in
+    let t = d .before .before in
+    let s = t .before .before .before .before .before in
     record {
       lives = c .live .ensures ∙ ap (λ (x : Reading). cond (leb (x .reason) 1) 1 0) (reads d);
       octets =
           f .write-field .ensures
-          ∙ ap₂ (λ (x : Route) (width : ℕ). put (now (s .args .bus)) (x .start) width (d .read-at .result .value)) (t .route-in .ensures .is) (wide w)
+          ∙ ap₂ (λ (x : Route) (width : ℕ). put (now (s .args .bus)) (x .start) width (d .read-with .result .value)) (t .route-in .ensures .is) (wide w)
           ∙ ap (λ (x : Reading). put (now (s .args .bus)) (under s .route (s .args .r) .start) (under s .signal (under s .route (s .args .r) .signal) .width) (x .value)) (reads d);
     }
 
@@ -86,7 +96,8 @@ write-route-spec =
     tie.close
     (tie.spec
     (λ c κs. search needs)
-    read-at-requires
+    entries-at-requires
+    read-with-requires
     (λ c κs. search needs)
     write-field-requires
     (λ c κs. search needs)

@@ -16,11 +16,11 @@ use Rattle.marshalling.proofs.write_routes.Statement.{statement}
 use Rattle.marshalling.proofs.write_routes.Tie as tie
 
 abbrev Inv-loop : tie.InvT-loop
-Inv-loop list n store clock bus₀ lives₀ r₀ bus lives r =
+Inv-loop list n first store clock bus₀ lives₀ r₀ bus lives r =
     (r ≤ n .routes) × (lives ≡ count (live (listOf list (countsOf n)) store clock) r) × (PutSoFar (routePut (listOf list (countsOf n)) store clock) bus₀ r bus)
 
 abbrev μ-loop : tie.MeasureT-loop
-μ-loop list n store clock bus₀ lives₀ r₀ bus lives r = n .routes - r
+μ-loop list n first store clock bus₀ lives₀ r₀ bus lives r = n .routes - r
 
 loop-holds : tie.Need-loop-holds Inv-loop μ-loop
 unfolding count
@@ -29,22 +29,24 @@ loop-holds c = (search needs, refl, none-put _ _)
 write-route-requires : tie.Need-write-route-requires Inv-loop μ-loop
 write-route-requires c κs =
     let p = c .before .before .before in
-    let s = p .before .before .before .before in
-    (record { laid = s .pre .laid; whole = s .pre .whole; room = λ r h. omega (arith, p .loop .inv .2 .long, s .pre .room r h) }, search needs)
+    let s = p .before .before .before .before .before in
+    let served = s .pre .0 in
+    ((record { laid = served .laid; whole = served .whole; room = λ r h. omega (arith, p .loop .inv .2 .long, served .room r h) }, search needs), s .pre .1)
 
 add-lives : tie.Need-add-lives Inv-loop μ-loop
 add-lives c =
     let w = c .before .before in
     let p = w .before .before .before .before in
-    let a = p .before .before .before .before .args in
+    let s = p .before .before .before .before .before in
+    let a = s .args in
     let is-live = live (listOf (now (a .list)) (countsOf (a .n))) (now (a .store)) (a .clock) in
-    omega (arith, p .loop .inv .1, count-le is-live (p .loop .r), w .write-route .ensures .lives, one-more (is-live (p .loop .r)))
+    omega (arith, p .loop .inv .1, count-le is-live (p .loop .r), w .write-route .ensures .lives, one-more (is-live (p .loop .r)), s .pre .0 .laid .routes .opens .within)
 
 loop-again : tie.Need-loop-again Inv-loop μ-loop
 loop-again c =
     let w = c .before .before in
     let p = w .before .before .before .before in
-    let a = p .before .before .before .before .args in
+    let a = p .before .before .before .before .before .args in
     let l = listOf (now (a .list)) (countsOf (a .n)) in (
       search needs,
       ap (λ (m : ℕ). p .loop .lives + m) (w .write-route .ensures .lives) ∙ count-more (live l (now (a .store)) (a .clock)) (p .loop .r) (p .loop .lives) (p .loop .inv .1),
@@ -55,7 +57,7 @@ returns : tie.Need-returns Inv-loop μ-loop
 unfolding marshalled
 returns c =
     let p = c .before .before in
-    let a = p .before .before .before .before .args in
+    let a = p .before .before .before .before .before .args in
     let e : p .loop .r ≡ a .n .routes = omega arith in
     record { lives = p .loop .inv .1 ∙ ap (count (live (listOf (now (a .list)) (countsOf (a .n))) (now (a .store)) (a .clock))) e; octets = all-put _ _ _ (p .loop .r) _ e (p .loop .inv .2) }
 
