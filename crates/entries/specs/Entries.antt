@@ -1,10 +1,10 @@
 -- The entries that the code reads, as those of the paper, and what each reader answers: the entry, and the bounds that spare a caller the law.
-use Prim.Native.Nat.{ℕ, _-_, _^_, _<_}
+use Prim.Native.Nat.{ℕ, _^_, _<_}
 use mathlib.Core.Path.{_≡_}
 use mathlib.Core.Bool.{Bool, _&&_, _||_}
 use mathlib.Core.List.{List}
 use lib.Dec.{ltb, leb, eqb}
-use Rattle.paper.specs.SignalList.{Signal as PaperSignal, Code as PaperCode, Route as PaperRoute, checkAt, signalAt, codeAt, routeAt, widthRule, typeRule, placeRule, namedRule, valueRule, orderRule, codeOrder, routeEnd}
+use Rattle.paper.specs.SignalList.{Signal as PaperSignal, Code as PaperCode, Route as PaperRoute, checkAt, signalAt, codeAt, routeAt, widthRule, typeRule, placeRule, namedRule, valueRule, routeEnd}
 use Rattle.entries.specs.declared.Signal.{Signal}
 use Rattle.entries.specs.declared.Code.{Code}
 use Rattle.entries.specs.declared.Route.{Route}
@@ -63,17 +63,21 @@ pub record OctetRead (x r : ℕ) : Type 0 where
   pub is : r ≡ x
   pub small : r < 256
 
--- the rule of a signal's entry k, which is s behind p, but for the bits that it may share with a check
-unfoldable pub ownRule : ℕ → (ℕ → ℕ) → ℕ → PaperSignal → PaperSignal → Bool
-ownRule checks check k p s = widthRule s && typeRule s && placeRule s && namedRule checks check s && valueRule s && (eqb k 0 || orderRule p s)
+-- an entry of `group` that begins at `start` stands in order behind one of the group `last` that reaches to `past`
+abbrev pub inOrder : ℕ → ℕ → ℕ → ℕ → Bool
+inOrder last past group start = ltb last group || eqb last group && leb past start
 
--- the rule of code entry k, which is c behind p
-unfoldable pub codeKeeps : ℕ → (ℕ → PaperSignal) → ℕ → PaperCode → PaperCode → Bool
-codeKeeps signals signal k p c =
+-- the rule of the signal s, behind a field of type `kind` that ends at `past`, but for the bits that it may share with a check
+unfoldable pub ownRule : ℕ → (ℕ → ℕ) → ℕ → ℕ → PaperSignal → Bool
+ownRule checks check kind past s = widthRule s && typeRule s && placeRule s && namedRule checks check s && valueRule s && inOrder kind past (s .type) (s .start)
+
+-- the rule of the code entry c, behind one of the signal `last` and with `least` as its least code
+unfoldable pub codeKeeps : ℕ → (ℕ → PaperSignal) → ℕ → ℕ → PaperCode → Bool
+codeKeeps signals signal last least c =
     ltb (c .signal) signals && leb (signal (c .signal) .width) 16 && leb (c .low) (c .high) && ltb (c .high) (2 ^ signal (c .signal) .width)
-    && (eqb k 0 || codeOrder p c)
+    && inOrder last least (c .signal) (c .low)
 
--- the rule of route k, which is r behind one that ends at `past`
-unfoldable pub routeKeeps : ℕ → (ℕ → PaperSignal) → ℕ → ℕ → PaperRoute → Bool
-routeKeeps signals signal k past r =
-    ltb (r .signal) signals && leb 1 (r .vehicle) && leb (r .vehicle) 63 && eqb (r .null) 0 && leb (routeEnd signal r) 2048 && (eqb k 0 || leb past (r .start))
+-- the rule of the route r, behind one that ends at `past`
+unfoldable pub routeKeeps : ℕ → (ℕ → PaperSignal) → ℕ → PaperRoute → Bool
+routeKeeps signals signal past r =
+    ltb (r .signal) signals && leb 1 (r .vehicle) && leb (r .vehicle) 63 && eqb (r .null) 0 && leb (routeEnd signal r) 2048 && leb past (r .start)

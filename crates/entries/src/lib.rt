@@ -4,8 +4,8 @@ ghost use Prim.Native.Nat.{_+_, _-_, _^_, _<_, _≤_};
 ghost use mathlib.Core.Bool.{_&&_};
 ghost use lib.ListN.{length, getD};
 ghost use lib.Dec.{ltb};
-ghost use Rattle.paper.specs.SignalList.{entry, checkSize, signalSize, codeSize, routeSize, widest, checkAt, signalAt, codeAt, routeAt, checkRule, placeRule, namedRule, valueRule, orderRule, codeOrder, routeEnd};
-ghost use Rattle.entries.specs.Entries.{signalOf, codeOf, routeOf, CheckRead, SignalRead, CodeRead, RouteRead, OctetRead, Placeable, ownRule, codeKeeps, routeKeeps};
+ghost use Rattle.paper.specs.SignalList.{entry, checkSize, signalSize, codeSize, routeSize, widest, checkAt, signalAt, codeAt, routeAt, checkRule, placeRule, namedRule, valueRule, routeEnd};
+ghost use Rattle.entries.specs.Entries.{signalOf, codeOf, routeOf, CheckRead, SignalRead, CodeRead, RouteRead, OctetRead, Placeable, inOrder, ownRule, codeKeeps, routeKeeps};
 
 pub struct Signal {
     pub start: usize,
@@ -136,8 +136,10 @@ fn place_rule(s: Signal) -> bool
     ensures { λ r. ⌜ r ≡ placeRule (signalOf s) ⌝ }
 {
     let end = s.start + s.width;
-    (s.kind == 0) & (16 <= s.start) & (end <= 320)
-        | (s.kind != 0) & (320 <= s.start) & (end <= 1024)
+    if s.kind == 0 {
+        return (16 <= s.start) & (end <= 320);
+    }
+    (320 <= s.start) & (end <= 1024)
 }
 
 fn named_rule(list: &[u8], checks: usize, s: Signal) -> bool
@@ -163,33 +165,19 @@ fn value_rule(s: Signal) -> bool
     (1 <= s.since) & (s.since <= 255) & (s.limit <= 600000) & (s.replacement < pow2(s.width))
 }
 
-fn order_rule(p: Signal, s: Signal) -> bool
-    requires { ⌜ Placeable p ⌝ }
-    ensures { λ r. ⌜ r ≡ orderRule (signalOf p) (signalOf s) ⌝ }
+// An entry of `group` that begins at `start`, behind one of the group `last` that reaches to `past`: groups never fall, and within one it begins no earlier.
+fn in_order(last: usize, past: usize, group: usize, start: usize) -> bool
+    ensures { λ r. ⌜ r ≡ inOrder last past group start ⌝ }
 {
-    (p.kind < s.kind) | (p.kind == s.kind) & (p.start + p.width <= s.start)
+    (last < group) | (last == group) & (past <= start)
 }
 
-// Inner: stands before the first signal; nothing is asked of it.
-pub fn no_signal() -> Signal
-    ensures { λ r. ⌜ Placeable r ⌝ }
-{
-    Signal {
-        start: 0,
-        width: 0,
-        kind: 0,
-        check: 0,
-        since: 0,
-        limit: 0,
-        replacement: 0,
-    }
-}
-
-// Inner: signal k, which is s behind p, keeps its rule but for the checks that it may share a bit with. The width first: only then is 2^width computed.
-pub fn signal_own(list: &[u8], checks: usize, k: usize, p: Signal, s: Signal) -> bool
+// Inner: s, behind a field of type `kind` that ends at `past`, keeps its rule but for the checks that it may share a bit with. The width first: only then is
+// 2^width computed.
+pub fn signal_own(list: &[u8], checks: usize, kind: usize, past: usize, s: Signal) -> bool
     requires { ⌜ entry checkSize checks ≤ length (now list) ⌝ }
-    requires { ⌜ (Placeable p) × (Placeable s) ⌝ }
-    ensures { λ r. ⌜ r ≡ ownRule checks (checkAt (now (list .entry))) k (signalOf p) (signalOf s) ⌝ }
+    requires { ⌜ Placeable s ⌝ }
+    ensures { λ r. ⌜ r ≡ ownRule checks (checkAt (now (list .entry))) kind past (signalOf s) ⌝ }
 {
     let w = s.width;
     if 48 < w {
@@ -201,7 +189,7 @@ pub fn signal_own(list: &[u8], checks: usize, k: usize, p: Signal, s: Signal) ->
         & place_rule(s)
         & named_rule(list, checks, s)
         & value_rule(s)
-        & ((k == 0) | order_rule(p, s))
+        & in_order(kind, past, s.kind, s.start)
 }
 
 // Inner: check j exists and lies before the bit `end`.
@@ -216,13 +204,6 @@ pub fn check_before(list: &[u8], checks: usize, j: usize, end: usize) -> bool
     }
 }
 
-fn code_order(p: Code, c: Code) -> bool
-    requires { ⌜ p .high < 65536 ⌝ }
-    ensures { λ r. ⌜ r ≡ codeOrder (codeOf p) (codeOf c) ⌝ }
-{
-    (p.signal < c.signal) | (p.signal == c.signal) & (p.high + 2 <= c.low)
-}
-
 // The width of signal k, which exists.
 fn width_of(tail: &[u8], k: usize) -> usize
     requires { ⌜ entry signalSize (k + 1) ≤ length (now tail) ⌝ }
@@ -231,22 +212,10 @@ fn width_of(tail: &[u8], k: usize) -> usize
     octets::wide(tail[2 + 16 * k + 2])
 }
 
-// Inner: stands before the first code entry; nothing is asked of it.
-pub fn no_code() -> Code
-    ensures { λ r. ⌜ r .high < 65536 ⌝ }
-{
-    Code {
-        signal: 0,
-        low: 0,
-        high: 0,
-    }
-}
-
-// Inner: code entry k, which is c behind p, keeps its rule; sig starts at the signals' count.
-pub fn code_rule(sig: &[u8], signals: usize, k: usize, p: Code, c: Code) -> bool
+// Inner: c, behind a code entry of the signal `last` and with `least` as its least code, keeps its rule; sig starts at the signals' count.
+pub fn code_rule(sig: &[u8], signals: usize, last: usize, least: usize, c: Code) -> bool
     requires { ⌜ entry signalSize signals ≤ length (now sig) ⌝ }
-    requires { ⌜ p .high < 65536 ⌝ }
-    ensures { λ r. ⌜ r ≡ codeKeeps signals (signalAt (now (sig .entry))) k (codeOf p) (codeOf c) ⌝ }
+    ensures { λ r. ⌜ r ≡ codeKeeps signals (signalAt (now (sig .entry))) last least (codeOf c) ⌝ }
 {
     if signals <= c.signal {
         return false;
@@ -255,14 +224,17 @@ pub fn code_rule(sig: &[u8], signals: usize, k: usize, p: Code, c: Code) -> bool
     if 16 < w {
         return false;
     }
-    (w <= 16) & (c.low <= c.high) & ((c.high as u64) < pow2(w)) & ((k == 0) | code_order(p, c))
+    (w <= 16)
+        & (c.low <= c.high)
+        & ((c.high as u64) < pow2(w))
+        & in_order(last, least, c.signal, c.low)
 }
 
-// Inner: route k, which is r behind one that ends at `past`, keeps its rule.
-pub fn route_rule(sig: &[u8], signals: usize, k: usize, past: usize, r: Route) -> bool
+// Inner: r, behind a route that ends at `past`, keeps its rule.
+pub fn route_rule(sig: &[u8], signals: usize, past: usize, r: Route) -> bool
     requires { ⌜ entry signalSize signals ≤ length (now sig) ⌝ }
     requires { ⌜ r .start < 65536 ⌝ }
-    ensures { λ b. ⌜ b ≡ routeKeeps signals (signalAt (now (sig .entry))) k past (routeOf r) ⌝ }
+    ensures { λ b. ⌜ b ≡ routeKeeps signals (signalAt (now (sig .entry))) past (routeOf r) ⌝ }
 {
     if signals <= r.signal {
         return false;
@@ -271,7 +243,7 @@ pub fn route_rule(sig: &[u8], signals: usize, k: usize, past: usize, r: Route) -
         & (r.vehicle <= 63)
         & (r.null == 0)
         & (route_end(sig, r) <= 2048)
-        & ((k == 0) | (past <= r.start))
+        & (past <= r.start)
 }
 
 // Inner: the first bit past a route whose signal exists.

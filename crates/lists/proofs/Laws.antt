@@ -109,12 +109,15 @@ module _ {checks : ℕ} {check : ℕ → ℕ} where
     pub behind-more : j < checks → check j + 2 ≤ start → Behind checks check start (j + 1)
     behind-more lt h = record { within = omega arith; each = below-more _ _ (b .each) h }
 
+    pub behind-later : (later : ℕ) → start ≤ later → Behind checks check later j
+    behind-later later h = record { within = b .within; each = λ m l. omega (arith, b .each m l) }
+
     -- a field that starts no earlier has them behind it too
     pub behind-resumed : (later : ℕ) → Behind checks check later (cond (leb start later) j 0)
     behind-resumed later = by (leb start later) refl
       where
         by : (t : Bool) → leb start later ≡ t → Behind checks check later (cond t j 0)
-        by true e = record { within = b .within; each = λ m h. omega (arith, b .each m h, leb-true start later e) }
+        by true e = behind-later later (leb-true _ _ e)
         by false e = behind-none later
 
 module _ (checks : ℕ) (check : ℕ → ℕ) where

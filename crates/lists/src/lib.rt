@@ -88,11 +88,11 @@ fn first_bad_check(list: &[u8], n: usize) -> usize
     n
 }
 
-// The first check that s may share a bit with: those before `from` end at or before the start of p.
-fn resumed(p: Signal, s: Signal, from: usize) -> usize
-    ensures { λ r. ⌜ r ≡ cond (leb (p .start) (s .start)) from 0 ⌝ }
+// The first check that s may share a bit with: those before `from` end at or before `past`.
+fn resumed(past: usize, s: Signal, from: usize) -> usize
+    ensures { λ r. ⌜ r ≡ cond (leb past (s .start)) from 0 ⌝ }
 {
-    if p.start <= s.start { from } else { 0 }
+    if past <= s.start { from } else { 0 }
 }
 
 // The offset of the first of n signals that breaks its rule, or the end of the section. Each is tested by its own rule and then against the checks from
@@ -102,7 +102,8 @@ fn first_bad_signal(list: &[u8], checks: usize, tail: &[u8], n: usize) -> usize
     requires { ⌜ entry signalSize n ≤ length (now tail) ⌝ }
     ensures { λ r. ⌜ r ≡ entry signalSize (firstBad (signalRule checks (checkAt (now (list .entry))) (signalAt (now (tail .entry)))) n) ⌝ }
 {
-    let mut p = entries::no_signal();
+    let mut kind = 0;
+    let mut past = 0;
     let mut from = 0;
     let mut k = 0;
     'signals: loop {
@@ -110,11 +111,11 @@ fn first_bad_signal(list: &[u8], checks: usize, tail: &[u8], n: usize) -> usize
             break 'signals 2 + 16 * n;
         }
         let s = entries::signal_at(tail, k);
-        if !entries::signal_own(list, checks, k, p, s) {
+        if !entries::signal_own(list, checks, kind, past, s) {
             break 'signals 2 + 16 * k;
         }
         let end = s.start + s.width;
-        let mut j = resumed(p, s, from);
+        let mut j = resumed(past, s, from);
         while entries::check_before(list, checks, j, end) {
             if s.start < entries::check_at(list, j) + 2 {
                 break 'signals 2 + 16 * k;
@@ -122,7 +123,8 @@ fn first_bad_signal(list: &[u8], checks: usize, tail: &[u8], n: usize) -> usize
             j += 1;
         }
         from = j;
-        p = s;
+        kind = s.kind;
+        past = end;
         k += 1;
     }
 }
@@ -133,14 +135,16 @@ fn first_bad_code(sig: &[u8], signals: usize, tail: &[u8], n: usize) -> usize
     requires { ⌜ entry codeSize n ≤ length (now tail) ⌝ }
     ensures { λ r. ⌜ r ≡ firstBad (codeRule signals (signalAt (now (sig .entry))) (codeAt (now (tail .entry)))) n ⌝ }
 {
-    let mut p = entries::no_code();
+    let mut last = 0;
+    let mut least = 0;
     let mut k = 0;
     while k < n {
         let c = entries::code_at(tail, k);
-        if !entries::code_rule(sig, signals, k, p, c) {
+        if !entries::code_rule(sig, signals, last, least, c) {
             return k;
         }
-        p = c;
+        last = c.signal;
+        least = c.high + 2;
         k += 1;
     }
     n
@@ -156,7 +160,7 @@ fn first_bad_route(sig: &[u8], signals: usize, tail: &[u8], n: usize) -> usize
     let mut k = 0;
     while k < n {
         let r = entries::route_at(tail, k);
-        if !entries::route_rule(sig, signals, k, past, r) {
+        if !entries::route_rule(sig, signals, past, r) {
             return k;
         }
         past = entries::route_end(sig, r);

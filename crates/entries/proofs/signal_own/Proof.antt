@@ -13,7 +13,7 @@ returns-2 : tie.Need-returns-2
 unfolding ownRule
 returns-2 c =
     let v = c .before in
-    rw (← (v .before .before .place-rule .ensures), ← (v .before .named-rule .ensures), ← (v .value-rule .ensures), ← (c .order-rule .ensures))
+    rw (← (v .before .before .place-rule .ensures), ← (v .before .named-rule .ensures), ← (v .value-rule .ensures), ← (c .in-order .ensures))
 
 pub signal-own-spec : {M : Type 1} → statement M
 signal-own-spec =

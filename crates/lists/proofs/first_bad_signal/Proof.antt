@@ -1,5 +1,5 @@
--- `lists::first_bad_signal` meets its contract. The outer invariant: every signal passed keeps its rule, and the checks before `from` end at or before the last
--- one's start; the inner: the checks passed end at or before the signal's start. Assumes nothing.
+-- `lists::first_bad_signal` meets its contract. The outer invariant: every signal passed keeps its rule, and the checks before `from` end at or before the
+-- last one's end; the inner: the checks passed end at or before the signal's start. Assumes nothing.
 use Prim.Native.Nat.{ℕ, _+_, _-_, _^_, _<_}
 use mathlib.Core.Path.{_≡_, refl, sym, ap, _∙_}
 use mathlib.Core.List.{List}
@@ -9,36 +9,35 @@ use lib.Dec.{ltb}
 use denote.Ref.{now}
 use borrow.Author.Tests.{ltb-true}
 use borrow.Author.Needs.{needs}
-use Rattle.paper.specs.SignalList.{fieldEnd, entry, signalSize, checkAt, signalAt, signalRule}
+use Rattle.paper.specs.SignalList.{Signal, fieldEnd, entry, signalSize, checkAt, signalAt, signalRule}
 use Rattle.paper.proofs.ListLaws.{both}
 use Rattle.paper.proofs.LoopLaws.{Passed, passed-none, passed-more, fails-here, fails-nowhere}
-use Rattle.entries.specs.declared.Signal.{Signal}
-use Rattle.entries.specs.Entries.{signalOf, Placeable}
+use Rattle.entries.specs.Entries.{signalOf}
 use Rattle.entries.proofs.Laws.{Before, before-first, before-next, own-breaks, own-passes}
-use Rattle.lists.proofs.Laws.{Behind, behind-none, behind-more, behind-resumed, shares-none, shares-one}
+use Rattle.lists.proofs.Laws.{Behind, behind-none, behind-more, behind-later, behind-resumed, shares-none, shares-one}
 use Rattle.lists.proofs.first_bad_signal.Statement.{statement}
 use Rattle.lists.proofs.first_bad_signal.Tie as tie
 
-record Stands (list : List ℕ) (checks : ℕ) (tail : List ℕ) (n : ℕ) (p : Signal) (from k : ℕ) : Type 0 where
+record Stands (list : List ℕ) (checks : ℕ) (tail : List ℕ) (n kind past from k : ℕ) : Type 0 where
   passed : Passed (signalRule checks (checkAt list) (signalAt tail)) n k
-  small : Placeable p
-  before : Before (signalAt tail) k (signalOf p)
-  behind : Behind checks (checkAt list) (p .start) from
+  type : Before (λ j. signalAt tail j .type) k kind
+  end : Before (λ j. fieldEnd (signalAt tail j)) k past
+  behind : Behind checks (checkAt list) past from
 
 abbrev Inv-loop : tie.InvT-loop
-Inv-loop list checks tail n from k s end j₀ j = Behind checks (checkAt list) (s .start) j
+Inv-loop list checks tail n kind past from k s end j₀ j = Behind checks (checkAt list) (s .start) j
 
 abbrev μ-loop : tie.MeasureT-loop
-μ-loop list checks tail n from k s end j₀ j = checks - j
+μ-loop list checks tail n kind past from k s end j₀ j = checks - j
 
 abbrev Inv-signals : tie.InvT-signals
-Inv-signals list checks tail n p₀ from₀ k₀ p from k = Stands list checks tail n p from k
+Inv-signals list checks tail n kind₀ past₀ from₀ k₀ kind past from k = Stands list checks tail n kind past from k
 
 abbrev μ-signals : tie.MeasureT-signals
-μ-signals list checks tail n p₀ from₀ k₀ p from k = n - k
+μ-signals list checks tail n kind₀ past₀ from₀ k₀ kind past from k = n - k
 
 signals-holds : tie.Need-signals-holds Inv-loop μ-loop Inv-signals μ-signals
-signals-holds c = record { passed = passed-none _ _; small = c .no-signal .ensures; before = before-first; behind = behind-none _ }
+signals-holds c = record { passed = passed-none _ _; type = before-first; end = before-first; behind = behind-none _ }
 
 loop-holds : tie.Need-loop-holds Inv-loop μ-loop Inv-signals μ-signals
 loop-holds c = rw (c .resumed .ensures) (behind-resumed (c .before .before .before .before .before .before .signals .inv .behind) _)
@@ -47,11 +46,11 @@ loop-holds c = rw (c .resumed .ensures) (behind-resumed (c .before .before .befo
 lies : (c : tie.Then3 Inv-loop μ-loop Inv-signals μ-signals) →
     let l = c .before .before in
     let b = l .before .before .before .before .before in
-    let a = b .before .before .before .before .before .before .args in
+    let a = b .before .before .before .before .before .args in
     (ltb (l .loop .j) (a .checks) && ltb (checkAt (now (a .list)) (l .loop .j)) (fieldEnd (signalOf (b .signal-at .result)))) ≡ true
 lies c = sym (c .before .check-before .ensures) ∙ c .if3 .taken
 
-below : (c : tie.Then3 Inv-loop μ-loop Inv-signals μ-signals) → let l = c .before .before in l .loop .j < l .before .before .before .before .before .before .before .before .before .before .before .args .checks
+below : (c : tie.Then3 Inv-loop μ-loop Inv-signals μ-signals) → let l = c .before .before in l .loop .j < l .before .before .before .before .before .before .before .before .before .before .args .checks
 below c = ltb-true _ _ (both _ _ (lies c) .0)
 
 check-at-requires : tie.Need-check-at-requires Inv-loop μ-loop Inv-signals μ-signals
@@ -64,7 +63,7 @@ add-j : tie.Need-add-j Inv-loop μ-loop Inv-signals μ-signals
 add-j c =
     let t = c .before .before .before in
     let b = t .before .before .before .before .before .before .before in
-    omega (arith, below t, b .before .before .before .before .before .before .fits)
+    omega (arith, below t, b .before .before .before .before .before .fits)
 
 loop-less : tie.Need-loop-less Inv-loop μ-loop Inv-signals μ-signals
 loop-less c = omega (arith, below (c .before .before .before))
@@ -82,11 +81,11 @@ signals-again c =
     let o = s .before .before in
     record {
       passed = passed-more (o .signals .inv .passed) (s .before .if1 .left)
-          (own-passes _ _ _ _ (o .signals .inv .before) (s .signal-at .ensures .is) (e .before .signal-own .ensures) (e .if2 .left)
-          (shares-none _ _ (signalOf (s .signal-at .result)) _ (o .before .before .before .before .pre .0 .1) (l .loop .inv) (sym (c .before .check-before .ensures) ∙ c .if3 .left))) refl;
-      small = record { start-small = search needs; width-small = search needs };
-      before = before-next _ (s .signal-at .ensures .is);
-      behind = l .loop .inv;
+          (own-passes _ _ _ _ (o .signals .inv .type) (o .signals .inv .end) (s .signal-at .ensures .is) (e .before .signal-own .ensures) (e .if2 .left)
+          (shares-none _ _ (signalOf (s .signal-at .result)) _ (o .before .before .before .pre .0 .1) (l .loop .inv) (sym (c .before .check-before .ensures) ∙ c .if3 .left))) refl;
+      type = before-next _ (ap (λ (x : Signal). x .type) (s .signal-at .ensures .is));
+      end = before-next _ (ap fieldEnd (s .signal-at .ensures .is));
+      behind = behind-later (l .loop .inv) _ (omega arith);
     }
 
 returns : tie.Need-returns Inv-loop μ-loop Inv-signals μ-signals
@@ -97,7 +96,7 @@ returns-2 c =
     let o = c .before .before in
     let i = o .before .before .signals .inv in
     ap (entry signalSize)
-    (fails-here (i .passed) (o .before .if1 .left) (own-breaks _ _ _ _ (i .before) (o .signal-at .ensures .is) (c .before .signal-own .ensures) (c .if2 .taken)) refl)
+    (fails-here (i .passed) (o .before .if1 .left) (own-breaks _ _ _ _ (i .type) (i .end) (o .signal-at .ensures .is) (c .before .signal-own .ensures) (c .if2 .taken)) refl)
 
 returns-3 : tie.Need-returns-3 Inv-loop μ-loop Inv-signals μ-signals
 returns-3 c =
@@ -107,7 +106,7 @@ returns-3 c =
     let o = s .before .before in
     ap (entry signalSize)
     (fails-here (o .signals .inv .passed) (s .before .if1 .left)
-    (own-passes _ _ _ _ (o .signals .inv .before) (s .signal-at .ensures .is) (e .before .signal-own .ensures) (e .if2 .left)
+    (own-passes _ _ _ _ (o .signals .inv .type) (o .signals .inv .end) (s .signal-at .ensures .is) (e .before .signal-own .ensures) (e .if2 .left)
     (shares-one _ _ (signalOf (s .signal-at .result)) _ (lies t) (rw (c .before .before .check-at .ensures .is) at (c .if4 .taken)))) refl)
 
 pub first-bad-signal-spec : {M : Type 1} → statement M
@@ -118,7 +117,6 @@ first-bad-signal-spec =
     μ-loop
     Inv-signals
     μ-signals
-    (λ c κs. search needs)
     signals-holds
     (λ c. search needs)
     (λ c. search needs)
