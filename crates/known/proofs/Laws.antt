@@ -24,8 +24,9 @@ abbrev pub Rising : (ℕ → ℕ) → ℕ → Type 0
 Rising f n = (i j : ℕ) → i < j → j < n → f i < f j
 
 module _ (f : ℕ → ℕ) (n key : ℕ) where
-  pub all-between : Between f n key 0 n
-  all-between = record { ordered = zero-le; most = le-refl n; below = below-none _; above = λ k le lt. absurd (omega arith) }
+  -- nothing is known past what is below
+  onward : (low : ℕ) → low ≤ n → ((k : ℕ) → k < low → f k < key) → Between f n key low n
+  onward low le below = record { ordered = le; most = le-refl n; below = below; above = λ k ge lt. absurd (omega arith) }
 
   pub none-between : (low high : ℕ) → Between f n key low high → high ≤ low → Cut f n key low
   none-between low high h le =
@@ -95,11 +96,11 @@ laid-ordered xs n h = ordered-of (listOf xs n) (kept-of xs n h)
 -- ---- where a search for a signal's entries goes on from
 
 pub from-none : (l : SignalList) → From l 0 0
-from-none l = all-between (codeSignals (l .code)) (l .codes) 0
+from-none l = onward (codeSignals (l .code)) (l .codes) 0 0 zero-le (below-none _)
 
 -- a later signal's does too
 pub from-later : (l : SignalList) (k j e : ℕ) → From l k e → k ≤ j → From l j e
-from-later l k j e f le = record { ordered = f .ordered; most = f .most; below = λ g lt. omega (arith, f .below g lt); above = λ g ge lt. absurd (omega arith) }
+from-later l k j e f le = onward (codeSignals (l .code)) (l .codes) j e (f .ordered) (λ g lt. omega (arith, f .below g lt))
 
 -- ---- whether a signal has an entry, and one that holds a code
 
@@ -147,27 +148,24 @@ module _ (codes : ℕ) (code : ℕ → Code) (h : Ordered codes code) where
   module _ (k : ℕ) where
     -- going on from an entry: it is below the signal, or none after it is
     pub reach-more : (e : ℕ) → Between (codeSignals code) codes k e codes → e < codes → code e .signal < k → Between (codeSignals code) codes k (e + 1) codes
-    reach-more e b lt t = record {
-      ordered = omega arith;
-      most = le-refl codes;
-      below = below-more _ _ (b .below) t;
-      above = λ g le hg. absurd (omega arith);
-    }
+    reach-more e b lt t = onward (codeSignals code) codes k (e + 1) (omega arith) (below-more _ _ (b .below) t)
 
     pub reach-here : (e : ℕ) → Between (codeSignals code) codes k e codes → e < codes → k ≤ code e .signal → Cut (codeSignals code) codes k e
-    reach-here e b lt t = record {
-      ordered = le-refl e;
-      most = b .ordered;
-      below = b .below;
-      above = λ g le hg. omega (arith, signals-rise e g le hg);
-    }
+    reach-here e b lt t = record { ordered = le-refl e; most = b .ordered; below = b .below; above = λ g le hg. omega (arith, signals-rise e g le hg) }
 
     pub reach-next : (e : ℕ) → Cut (codeSignals code) codes k e → Between (codeSignals code) codes (k + 1) e codes
-    reach-next e c = record {
-      ordered = c .most;
-      most = le-refl codes;
+    reach-next e c = onward (codeSignals code) codes (k + 1) e (c .most) (λ g lt. omega (arith, c .below g lt))
+
+    -- halving goes by keys
+    pub keys-next : (e : ℕ) → Cut (codeKeys code) codes (k * 65536) e → Between (codeKeys code) codes ((k + 1) * 65536) e codes
+    keys-next e c = onward (codeKeys code) codes ((k + 1) * 65536) e (c .most) (λ g lt. omega (arith, c .below g lt))
+
+    pub keys-start : (e : ℕ) → Cut (codeKeys code) codes (k * 65536) e → Cut (codeSignals code) codes k e
+    keys-start e c = record {
+      ordered = le-refl e;
+      most = c .most;
       below = λ g lt. omega (arith, c .below g lt);
-      above = λ g le hg. absurd (omega arith);
+      above = λ g le hg. omega (arith, c .above g le hg, h .small g hg);
     }
 
     pub own-from : (from to : ℕ) → Cut (codeSignals code) codes k from → Cut (codeSignals code) codes (k + 1) to → Own codes code k from to
@@ -177,44 +175,17 @@ module _ (codes : ℕ) (code : ℕ → Code) (h : Ordered codes code) where
         | no ge ↦ omega arith
       ];
       most = d .most;
-      before = λ e lt. omega (arith, c .below e lt);
+      before = c .below;
       within = λ e le lt. omega (arith, c .above e le (omega (arith, d .most)), d .below e lt);
       after = λ e le lt. omega (arith, d .above e le lt);
     }
 
     -- past the entries of a signal, none is below a later one's
     pub past-own : (j from to : ℕ) → Own codes code j from to → j < k → Between (codeSignals code) codes k to codes
-    past-own j from to own lt = record {
-      ordered = own .most;
-      most = le-refl codes;
-      below = λ e l.
-          elim (decLt e from) [
-            | yes less ↦ omega (arith, own .before e less)
-            | no ge ↦ omega (arith, own .within e (omega arith) l)
-          ];
-      above = λ g le hg. absurd (omega arith);
-    }
-
-    -- past those that are below the signal, none is below the next
-    pub next-between : (from : ℕ) → Cut (codeKeys code) codes (k * 65536) from → Between (codeKeys code) codes ((k + 1) * 65536) from codes
-    next-between from c = record {
-      ordered = c .most;
-      most = le-refl codes;
-      below = λ e lt. omega (arith, c .below e lt);
-      above = λ e le lt. absurd (omega arith);
-    }
-
-    pub own-of : (from to : ℕ) → Cut (codeKeys code) codes (k * 65536) from → Cut (codeKeys code) codes ((k + 1) * 65536) to → Own codes code k from to
-    own-of from to c d = record {
-      ordered = elim (decLt to from) [
-        | yes less ↦ absurd (omega (arith, c .below to less, d .above to (le-refl to) (omega (arith, c .most))))
-        | no ge ↦ omega arith
-      ];
-      most = d .most;
-      before = λ e lt. omega (arith, c .below e lt);
-      within = λ e le lt. omega (arith, c .above e le (omega (arith, d .most)), d .below e lt, h .small e (omega (arith, d .most)));
-      after = λ e le lt. omega (arith, d .above e le lt, h .small e lt);
-    }
+    past-own j from to own lt = onward (codeSignals code) codes k to (own .most) (λ e l. elim (decLt e from) [
+      | yes less ↦ omega (arith, own .before e less)
+      | no ge ↦ omega (arith, own .within e (omega arith) l)
+    ])
 
     -- ---- what a signal with these entries knows
 
