@@ -59,7 +59,7 @@ loop-again c =
       reach-next _ _ (laid-ordered (now (s .args .list)) (countsOf (s .args .n)) (s .pre .0)) _ _ (c .reach .ensures),
       length-set (l .loop .first) (l .loop .k) (c .reach .result) ∙ l .loop .inv .2,
       starts-more (listOf (now (s .args .list)) (countsOf (s .args .n))) (l .loop .first) (l .loop .k) (c .reach .result)
-      (omega (arith, t .if1 .taken, l .loop .inv .2, s .pre .0 .signals .opens .within)) (l .loop .inv .3) (c .reach .ensures),
+          (omega (arith, t .if1 .taken, l .loop .inv .2, s .pre .0 .signals .opens .within)) (l .loop .inv .3) (c .reach .ensures),
     )
 
 same-length : tie.Need-same-length Inv-loop μ-loop
