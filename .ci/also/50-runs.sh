@@ -1,4 +1,11 @@
-# The programs' runs: tables of arguments and expected output.
+# The programs' runs: tables of arguments and expected output, side by side.
 . .ci/need.sh
 need python3 python3
-python3 runs/judge.py && python3 runs/extends.py && python3 runs/programs.py
+jobs=()
+for table in judge extends programs; do
+    python3 "runs/$table.py" &
+    jobs+=($!)
+done
+status=0
+for job in "${jobs[@]}"; do wait "$job" || status=1; done
+exit $status
