@@ -2,7 +2,7 @@
 ghost use Prim.Native.Nat.{_<_};
 ghost use Rattle.paper.proofs.ListLaws.{Laid};
 ghost use Rattle.lists.specs.Judged.{countsOf};
-ghost use Rattle.saying.specs.Ready.{Ready, IsVehicle};
+ghost use Rattle.words.specs.Ready.{Ready, IsVehicle};
 use entries::Signal;
 use libc::STDOUT_FILENO;
 use lists::Counts;
@@ -11,7 +11,7 @@ use reading::Reading;
 use refusals::Refusal;
 use saying::Clock;
 use saying::Number;
-use saying::Totals;
+use words::Totals;
 
 // How much is asked: with 3 words every vehicle, with 4 one, with 5 one signal of it.
 struct Asked {
@@ -48,9 +48,9 @@ Bad input gets one line that begins with `refused` and the number of document
 fn print_signal(vehicle: usize, k: usize, s: Signal, r: Reading) {
     let l = saying::say_right(saying::empty(), 2, vehicle as u64);
     let l = saying::say(saying::say_right(l, 7, k as u64), b"  ");
-    let l = saying::say_place(l, s.kind, s.start, s.width);
+    let l = words::say_place(l, s.kind, s.start, s.width);
     let l = saying::say(saying::say_right(l, 48, r.value), b"  ");
-    saying::print(saying::say_reason(l, r.reason));
+    saying::print(words::say_reason(l, r.reason));
 }
 
 fn one_signal(
@@ -67,7 +67,7 @@ fn one_signal(
     let s = lists::signal_in(list, n, k);
     let r = reading::read_at(list, n, store, clock, vehicle, k);
     print_signal(vehicle, k, s, r);
-    saying::count_reason(totals, r.reason)
+    words::count_reason(totals, r.reason)
 }
 
 fn one_vehicle(
@@ -80,7 +80,7 @@ fn one_vehicle(
 ) -> Totals
     requires { ⌜ (Ready (now list) (countsOf n) (now store)) × (IsVehicle vehicle) ⌝ }
 {
-    saying::print_head(store, clock, vehicle);
+    words::print_head(store, clock, vehicle);
     let mut t = totals;
     let mut k = 0;
     while k < n.signals {
@@ -93,15 +93,15 @@ fn one_vehicle(
 fn all_vehicles(list: &[u8], n: Counts, store: &[u8], clock: u32) -> Totals
     requires { ⌜ Ready (now list) (countsOf n) (now store) ⌝ }
 {
-    let mut t = saying::no_totals();
+    let mut t = words::no_totals();
     let mut v = 1;
     while v < 64 {
-        if saying::is_heard(store, v) {
+        if words::is_heard(store, v) {
             t = one_vehicle(list, n, store, clock, v, t);
         }
         v += 1;
     }
-    saying::print_never(store);
+    words::print_never(store);
     t
 }
 
@@ -109,11 +109,11 @@ fn print_one(list: &[u8], n: Counts, store: &[u8], clock: u32, vehicle: usize, k
     requires { ⌜ (Ready (now list) (countsOf n) (now store)) × (IsVehicle vehicle) ⌝ }
 {
     if n.signals <= k {
-        saying::print_refused(Refusal::NoSuchSignal);
+        words::print_refused(Refusal::NoSuchSignal);
         return;
     }
-    saying::print_head(store, clock, vehicle);
-    one_signal(list, n, store, clock, vehicle, k, saying::no_totals());
+    words::print_head(store, clock, vehicle);
+    one_signal(list, n, store, clock, vehicle, k, words::no_totals());
 }
 
 fn print_ready(list: &[u8], n: Counts, store: &[u8], clock: u32, vehicle: usize, asked: Asked)
@@ -121,11 +121,11 @@ fn print_ready(list: &[u8], n: Counts, store: &[u8], clock: u32, vehicle: usize,
 {
     let words = asked.words;
     if words == 3 {
-        saying::print_totals(all_vehicles(list, n, store, clock));
+        words::print_totals(all_vehicles(list, n, store, clock));
         return;
     }
     if words == 4 {
-        saying::print_totals(one_vehicle(list, n, store, clock, vehicle, saying::no_totals()));
+        words::print_totals(one_vehicle(list, n, store, clock, vehicle, words::no_totals()));
         return;
     }
     print_one(list, n, store, clock, vehicle, asked.signal);
@@ -137,11 +137,11 @@ fn print_asked(list: &[u8], n: Counts, store: &[u8], clock: u32, asked: Asked)
 {
     let vehicle = asked.vehicle;
     if !store::is_store(store) {
-        saying::print_refused(Refusal::StoreLength);
+        words::print_refused(Refusal::StoreLength);
         return;
     }
     if !store::is_vehicle(vehicle) {
-        saying::print_refused(Refusal::Vehicle);
+        words::print_refused(Refusal::Vehicle);
         return;
     }
     print_ready(list, n, store, clock, vehicle, asked);
@@ -150,19 +150,19 @@ fn print_asked(list: &[u8], n: Counts, store: &[u8], clock: u32, asked: Asked)
 fn judge(list: &[u8], store: &[u8], clock: u32, asked: Asked) {
     let judged = lists::judge(list);
     match judged {
-        Judged::Refused(f) => saying::print_refused(f),
+        Judged::Refused(f) => words::print_refused(f),
         Judged::Accepted(n) => print_asked(list, n, store, clock, asked),
     }
 }
 
 fn read_files(clock: u32, asked: Asked) {
     let mut list = [0u8; 10377];
-    let l = saying::read(1, b"LIST", &mut list);
+    let l = files::read(1, b"LIST", &mut list);
     if !l.ok {
         return;
     }
     let mut store = [0u8; 8380];
-    let s = saying::read(2, b"STORE", &mut store);
+    let s = files::read(2, b"STORE", &mut store);
     if !s.ok {
         return;
     }

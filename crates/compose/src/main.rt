@@ -50,7 +50,7 @@ fn replacements(list: &[u8], n: Counts, values: &mut [u64])
 }
 
 fn print_composed(kind: usize, version: usize, octets: usize) {
-    let l = saying::say_telegram(saying::say(saying::empty(), b"composed "), kind);
+    let l = words::say_telegram(saying::say(saying::empty(), b"composed "), kind);
     let l = saying::say_number(saying::say(l, b" version "), version as u64);
     let l = saying::say_number(saying::say(l, b" octets "), octets as u64);
     saying::print(l);
@@ -58,11 +58,11 @@ fn print_composed(kind: usize, version: usize, octets: usize) {
 
 // The telegram takes the name of OUT once all of it is written.
 fn write_out(kind: usize, version: usize, out: &[u8]) {
-    let fd = saying::begin(4, b"OUT");
+    let fd = files::begin(4, b"OUT");
     if fd < 0 {
         return;
     }
-    if saying::commit(4, b"OUT", fd, out) {
+    if files::commit(4, b"OUT", fd, out) {
         print_composed(kind, version, out.len());
     }
 }
@@ -70,7 +70,7 @@ fn write_out(kind: usize, version: usize, out: &[u8]) {
 fn compose_out(list: &[u8], n: Counts, kind: usize, values: &[u64], marks: &[u8], out: &mut [u8]) {
     let outcome = composing::compose(list, kind, values, marks, out);
     match outcome {
-        Outcome::Refused(f) => saying::print_refused(f),
+        Outcome::Refused(f) => words::print_refused(f),
         Outcome::Done => write_out(kind, n.version, out),
     }
 }
@@ -134,20 +134,20 @@ fn compose_under(list: &[u8], n: Counts, kind: usize, given: &[u8])
 fn judge(list: &[u8], kind: usize, given: &[u8]) {
     let judged = lists::judge(list);
     match judged {
-        Judged::Refused(f) => saying::print_refused(f),
+        Judged::Refused(f) => words::print_refused(f),
         Judged::Accepted(n) => compose_under(list, n, kind, given),
     }
 }
 
 fn read_values(list: &[u8], kind: usize) {
     let mut given = [0u8; 65537];
-    let v = saying::read(3, b"VALUES", &mut given);
+    let v = files::read(3, b"VALUES", &mut given);
     if !v.ok {
         return;
     }
     let n = v.octets;
     if n == 65537 {
-        saying::print_long(3, b"VALUES", 65536);
+        files::print_long(3, b"VALUES", 65536);
         return;
     }
     judge(list, kind, &given[..n]);
@@ -155,7 +155,7 @@ fn read_values(list: &[u8], kind: usize) {
 
 fn read_files(kind: usize) {
     let mut list = [0u8; 10377];
-    let l = saying::read(1, b"LIST", &mut list);
+    let l = files::read(1, b"LIST", &mut list);
     if !l.ok {
         return;
     }

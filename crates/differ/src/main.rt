@@ -1,7 +1,7 @@
 // Which gateway believes what: one store read by two gateways' lists, side by side.
 ghost use Rattle.paper.proofs.ListLaws.{Laid};
 ghost use Rattle.lists.specs.Judged.{countsOf};
-ghost use Rattle.saying.specs.Ready.{Ready, IsVehicle};
+ghost use Rattle.words.specs.Ready.{Ready, IsVehicle};
 use libc::STDOUT_FILENO;
 use lists::Counts;
 use lists::Judged;
@@ -95,7 +95,7 @@ fn say_side(line: Line, column: usize, side: Side) -> Line {
         return saying::say(saying::pad(line, column), b"  not in the list");
     }
     let l = saying::say_right(line, column, side.value);
-    saying::say_reason(saying::say(l, b"  "), side.reason)
+    words::say_reason(saying::say(l, b"  "), side.reason)
 }
 
 // Widths that differ are said behind the line.
@@ -110,7 +110,7 @@ fn say_widths(line: Line, a: Side, b: Side) -> Line {
 // The place, which either side may have, and what each side says there.
 fn print_pair(mark: &[u8], vehicle: usize, place: Side, a: Side, b: Side) {
     let l = saying::say_right(saying::say(saying::empty(), mark), 4, vehicle as u64);
-    let l = saying::say_place(saying::say(l, b"  "), place.kind, place.start, place.width);
+    let l = words::say_place(saying::say(l, b"  "), place.kind, place.start, place.width);
     let l = saying::say(saying::pad(say_side(l, 45, a), 73), b"|");
     saying::print(say_widths(say_side(l, 90, b), a, b));
 }
@@ -208,7 +208,7 @@ fn one_vehicle(
 ) -> At
     requires { ⌜ (Ready (now first) (countsOf n) (now store)) × (Ready (now second) (countsOf m) (now store)) × (IsVehicle vehicle) ⌝ }
 {
-    saying::print_head(store, clock, vehicle);
+    words::print_head(store, clock, vehicle);
     let mut at = At {
         first: 0,
         second: 0,
@@ -238,12 +238,12 @@ fn all_vehicles(first: &[u8], n: Counts, second: &[u8], m: Counts, store: &[u8],
     let mut at = start();
     let mut v = 1;
     while v < 64 {
-        if saying::is_heard(store, v) {
+        if words::is_heard(store, v) {
             at = one_vehicle(first, n, second, m, store, clock, v, at);
         }
         v += 1;
     }
-    saying::print_never(store);
+    words::print_never(store);
     at
 }
 
@@ -294,11 +294,11 @@ fn print_asked(
     requires { ⌜ (Laid (now first) (countsOf n)) × (Laid (now second) (countsOf m)) ⌝ }
 {
     if !store::is_store(store) {
-        saying::print_refused(Refusal::StoreLength);
+        words::print_refused(Refusal::StoreLength);
         return;
     }
     if !store::is_vehicle(vehicle) {
-        saying::print_refused(Refusal::Vehicle);
+        words::print_refused(Refusal::Vehicle);
         return;
     }
     print_ready(first, n, second, m, store, clock, vehicle, all);
@@ -317,7 +317,7 @@ fn judge_second(
 {
     let judged = lists::judge(second);
     match judged {
-        Judged::Refused(f) => saying::print_refused_of(f, b" of the second list"),
+        Judged::Refused(f) => words::print_refused_of(f, b" of the second list"),
         Judged::Accepted(m) => print_asked(first, n, second, m, store, clock, vehicle, all),
     }
 }
@@ -325,19 +325,19 @@ fn judge_second(
 fn judge_first(first: &[u8], second: &[u8], store: &[u8], clock: u32, vehicle: usize, all: bool) {
     let judged = lists::judge(first);
     match judged {
-        Judged::Refused(f) => saying::print_refused_of(f, b" of the first list"),
+        Judged::Refused(f) => words::print_refused_of(f, b" of the first list"),
         Judged::Accepted(n) => judge_second(first, n, second, store, clock, vehicle, all),
     }
 }
 
 fn read_others(first: &[u8], clock: u32, vehicle: usize, all: bool) {
     let mut second = [0u8; 10377];
-    let l = saying::read(2, b"second LIST", &mut second);
+    let l = files::read(2, b"second LIST", &mut second);
     if !l.ok {
         return;
     }
     let mut store = [0u8; 8380];
-    let s = saying::read(3, b"STORE", &mut store);
+    let s = files::read(3, b"STORE", &mut store);
     if !s.ok {
         return;
     }
@@ -348,7 +348,7 @@ fn read_others(first: &[u8], clock: u32, vehicle: usize, all: bool) {
 
 fn read_files(clock: u32, vehicle: usize, all: bool) {
     let mut first = [0u8; 10377];
-    let l = saying::read(1, b"first LIST", &mut first);
+    let l = files::read(1, b"first LIST", &mut first);
     if !l.ok {
         return;
     }

@@ -153,6 +153,10 @@ module _ (xs : List ℕ) (n : Counts) (e : judgedAnswer (Accepted n) ≡ judge x
   pub accepted-laid : Laid xs (countsOf n)
   accepted-laid = laid xs (countsOf n) (sym e)
 
+-- the same where an answer turned out to be an acceptance
+pub laid-of : (xs : List ℕ) (j : Judged) (n : Counts) → j ≡ Accepted n → judgedAnswer j ≡ judge xs → Laid xs (countsOf n)
+laid-of xs j n e a = accepted-laid xs n (sym (ap judgedAnswer e) ∙ a)
+
 -- ---- the contract settles the answer
 
 told : Answer PaperCounts → Judged

@@ -2,7 +2,7 @@
 ghost use Prim.Native.Nat.{_<_};
 ghost use Rattle.paper.proofs.ListLaws.{Laid};
 ghost use Rattle.lists.specs.Judged.{countsOf};
-ghost use Rattle.saying.specs.Ready.{Ready};
+ghost use Rattle.words.specs.Ready.{Ready};
 use entries::Route;
 use entries::Signal;
 use libc::STDOUT_FILENO;
@@ -38,10 +38,10 @@ are written to DATA.new, which then takes the name of DATA.
 
 fn print_route(r: usize, t: Route, s: Signal, x: Reading) {
     let l = saying::say(saying::say_right(saying::empty(), 3, r as u64), b"  ");
-    let l = saying::say_right(saying::say_field(l, t.start, s.width), 36, t.vehicle as u64);
-    let l = saying::say_place(saying::say(l, b"  "), s.kind, s.start, s.width);
+    let l = saying::say_right(words::say_field(l, t.start, s.width), 36, t.vehicle as u64);
+    let l = words::say_place(saying::say(l, b"  "), s.kind, s.start, s.width);
     let l = saying::say(saying::say_right(l, 77, x.value), b"  ");
-    saying::print(saying::say_reason(l, x.reason));
+    saying::print(words::say_reason(l, x.reason));
 }
 
 fn one_route(list: &[u8], n: Counts, store: &[u8], clock: u32, r: usize)
@@ -94,11 +94,11 @@ fn marshal_bus(
     let outcome = marshalling::marshal(list, store, clock, bus);
     match outcome {
         Marshalled::Refused(f) => {
-            saying::drop_new(4, fd);
-            saying::print_refused(f);
+            files::drop_new(4, fd);
+            words::print_refused(f);
         }
         Marshalled::Live(live) => {
-            if saying::commit(4, b"DATA", fd, bus) {
+            if files::commit(4, b"DATA", fd, bus) {
                 if routes {
                     print_routes(list, n, store, clock);
                 }
@@ -113,15 +113,15 @@ fn marshal_into(fd: i32, list: &[u8], n: Counts, store: &[u8], clock: u32, route
     requires { ⌜ Laid (now list) (countsOf n) ⌝ }
 {
     let mut bus = [0u8; 4097];
-    let d = saying::read(4, b"DATA", &mut bus);
+    let d = files::read(4, b"DATA", &mut bus);
     if !d.ok {
-        saying::drop_new(4, fd);
+        files::drop_new(4, fd);
         return;
     }
     let k = d.octets;
     if k == 4097 {
-        saying::drop_new(4, fd);
-        saying::print_long(4, b"DATA", 4096);
+        files::drop_new(4, fd);
+        files::print_long(4, b"DATA", 4096);
         return;
     }
     marshal_bus(fd, list, n, store, clock, routes, &mut bus[..k]);
@@ -130,7 +130,7 @@ fn marshal_into(fd: i32, list: &[u8], n: Counts, store: &[u8], clock: u32, route
 fn marshal_under(list: &[u8], n: Counts, store: &[u8], clock: u32, routes: bool)
     requires { ⌜ Laid (now list) (countsOf n) ⌝ }
 {
-    let fd = saying::begin(4, b"DATA");
+    let fd = files::begin(4, b"DATA");
     if fd >= 0 {
         marshal_into(fd, list, n, store, clock, routes);
     }
@@ -139,19 +139,19 @@ fn marshal_under(list: &[u8], n: Counts, store: &[u8], clock: u32, routes: bool)
 fn judge(list: &[u8], store: &[u8], clock: u32, routes: bool) {
     let judged = lists::judge(list);
     match judged {
-        Judged::Refused(f) => saying::print_refused(f),
+        Judged::Refused(f) => words::print_refused(f),
         Judged::Accepted(n) => marshal_under(list, n, store, clock, routes),
     }
 }
 
 fn read_files(clock: u32, routes: bool) {
     let mut list = [0u8; 10377];
-    let l = saying::read(1, b"LIST", &mut list);
+    let l = files::read(1, b"LIST", &mut list);
     if !l.ok {
         return;
     }
     let mut store = [0u8; 8380];
-    let s = saying::read(2, b"STORE", &mut store);
+    let s = files::read(2, b"STORE", &mut store);
     if !s.ok {
         return;
     }

@@ -1,3 +1,2 @@
--- What the contracts of `saying` and of the programs cite.
+-- What the contracts of `saying` cite.
 pub mod Numbers
-pub mod Ready

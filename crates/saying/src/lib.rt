@@ -1,10 +1,7 @@
-// What the programs say and how they are spoken to: lines in columns, places, reasons and refusals in words, numbers and files as arguments.
+// How the programs say something and how they are spoken to: lines in columns, and words and numbers as arguments.
 // No function that a program's input reaches has a `requires`.
 mod argument;
-mod believed;
-mod file;
 mod line;
-mod words;
 
 pub use argument::Clock;
 pub use argument::Number;
@@ -17,30 +14,12 @@ pub use argument::parse;
 pub use argument::print_usage;
 pub use argument::print_word;
 pub use argument::say_argument;
-pub use believed::Totals;
-pub use believed::count_reason;
-pub use believed::is_heard;
-pub use believed::no_totals;
-pub use believed::print_head;
-pub use believed::print_never;
-pub use believed::print_totals;
-pub use file::Input;
-pub use file::begin;
-pub use file::commit;
-pub use file::drop_new;
-pub use file::make;
-pub use file::print_long;
-pub use file::read;
+pub use argument::say_error;
 pub use line::Line;
 pub use line::empty;
 pub use line::pad;
 pub use line::print;
+pub use line::put;
 pub use line::say;
 pub use line::say_number;
 pub use line::say_right;
-pub use words::print_refused;
-pub use words::print_refused_of;
-pub use words::say_field;
-pub use words::say_place;
-pub use words::say_reason;
-pub use words::say_telegram;

@@ -25,7 +25,7 @@ then takes the name of STORE; while it is there no other take touches STORE.
 
 fn make_store() {
     let store = [0u8; 8379];
-    if saying::make(2, b"STORE", &store) {
+    if files::make(2, b"STORE", &store) {
         io::write_all(STDOUT_FILENO, b"made a store, no vehicle heard\n");
     }
 }
@@ -35,7 +35,7 @@ fn print_taken(vehicle: usize, clock: u32, telegram: &[u8]) {
         return;
     }
     let l = saying::say(saying::empty(), b"taken ");
-    let l = saying::say_telegram(l, store::telegram_type(telegram));
+    let l = words::say_telegram(l, store::telegram_type(telegram));
     let l = saying::say_number(
         saying::say(l, b" version "),
         store::data_version(telegram) as u64,
@@ -48,11 +48,11 @@ fn take_store(fd: i32, vehicle: usize, clock: u32, telegram: &[u8], store: &mut 
     let outcome = store::take(store, vehicle, clock, telegram);
     match outcome {
         Outcome::Refused(f) => {
-            saying::drop_new(1, fd);
-            saying::print_refused(f);
+            files::drop_new(1, fd);
+            words::print_refused(f);
         }
         Outcome::Done => {
-            if saying::commit(1, b"STORE", fd, store) {
+            if files::commit(1, b"STORE", fd, store) {
                 print_taken(vehicle, clock, telegram);
             }
         }
@@ -62,9 +62,9 @@ fn take_store(fd: i32, vehicle: usize, clock: u32, telegram: &[u8], store: &mut 
 // The store is read and replaced while STORE.new, open as fd, keeps other takes away.
 fn take_into(fd: i32, vehicle: usize, clock: u32, telegram: &[u8]) {
     let mut store = [0u8; 8380];
-    let s = saying::read(1, b"STORE", &mut store);
+    let s = files::read(1, b"STORE", &mut store);
     if !s.ok {
-        saying::drop_new(1, fd);
+        files::drop_new(1, fd);
         return;
     }
     let n = s.octets;
@@ -79,12 +79,12 @@ fn take_words() {
         return;
     };
     let mut telegram = [0u8; 129];
-    let t = saying::read(4, b"TELEGRAM", &mut telegram);
+    let t = files::read(4, b"TELEGRAM", &mut telegram);
     if !t.ok {
         return;
     }
     let n = t.octets;
-    let fd = saying::begin(1, b"STORE");
+    let fd = files::begin(1, b"STORE");
     if fd < 0 {
         return;
     }

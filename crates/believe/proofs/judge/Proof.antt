@@ -1,6 +1,6 @@
 -- `believe::judge` is safe and ends. Assumes nothing.
 use borrow.Author.Needs.{needs}
-use Rattle.saying.proofs.Laws.{laid-of}
+use Rattle.lists.proofs.Laws.{laid-of}
 use Rattle.believe.proofs.judge.Statement.{statement}
 use Rattle.believe.proofs.judge.Tie as tie
 

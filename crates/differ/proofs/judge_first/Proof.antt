@@ -1,6 +1,6 @@
 -- `differ::judge_first` is safe and ends. Assumes nothing.
 use borrow.Author.Needs.{needs}
-use Rattle.saying.proofs.Laws.{laid-of}
+use Rattle.lists.proofs.Laws.{laid-of}
 use Rattle.differ.proofs.judge_first.Statement.{statement}
 use Rattle.differ.proofs.judge_first.Tie as tie
 

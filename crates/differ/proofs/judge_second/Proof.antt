@@ -1,6 +1,6 @@
 -- `differ::judge_second` is safe and ends. Assumes nothing.
 use borrow.Author.Needs.{needs}
-use Rattle.saying.proofs.Laws.{laid-of}
+use Rattle.lists.proofs.Laws.{laid-of}
 use Rattle.differ.proofs.judge_second.Statement.{statement}
 use Rattle.differ.proofs.judge_second.Tie as tie
 

@@ -2,7 +2,7 @@
 use mathlib.Core.Path.{sym, _∙_}
 use borrow.Author.Needs.{needs}
 use borrow.Author.Tests.{not-false}
-use Rattle.saying.proofs.Laws.{are-ready, one-of-them}
+use Rattle.words.proofs.Laws.{are-ready, one-of-them}
 use Rattle.differ.proofs.print_asked.Statement.{statement}
 use Rattle.differ.proofs.print_asked.Tie as tie
 

@@ -1,6 +1,6 @@
 -- `marshal::judge` is safe and ends. Assumes nothing.
 use borrow.Author.Needs.{needs}
-use Rattle.saying.proofs.Laws.{laid-of}
+use Rattle.lists.proofs.Laws.{laid-of}
 use Rattle.marshal.proofs.judge.Statement.{statement}
 use Rattle.marshal.proofs.judge.Tie as tie
 

@@ -1,7 +1,7 @@
 -- `marshal::print_routes` is safe and ends. Assumes nothing.
 use mathlib.Core.Path.{sym, _∙_}
 use borrow.Author.Needs.{needs}
-use Rattle.saying.proofs.Laws.{are-ready}
+use Rattle.words.proofs.Laws.{are-ready}
 use Rattle.marshal.proofs.print_routes.Statement.{statement}
 use Rattle.marshal.proofs.print_routes.Tie as tie
 

@@ -1,8 +1,8 @@
 -- `saying::believed::print_totals` is safe and ends. Assumes nothing.
 use Prim.Native.Nat.{_-_}
 use borrow.Author.Needs.{needs}
-use Rattle.saying.proofs.believed.print_totals.Statement.{statement}
-use Rattle.saying.proofs.believed.print_totals.Tie as tie
+use Rattle.words.proofs.believed.print_totals.Statement.{statement}
+use Rattle.words.proofs.believed.print_totals.Tie as tie
 
 abbrev Inv-loop : tie.InvT-loop
 Inv-loop totals r₀ r = Unit {0}

@@ -3,15 +3,15 @@ ghost use mathlib.Core.Path.{_≡_};
 ghost use Prim.Native.Nat.{_≤_, _<_};
 ghost use lib.ListN.{length};
 ghost use Rattle.paper.specs.Store.{slotOctets};
-use crate::line::Line;
-use crate::line::empty;
-use crate::line::print;
-use crate::line::put;
-use crate::line::say;
-use crate::line::say_number;
-use crate::line::say_right;
-use crate::words::say_reason;
-use crate::words::say_telegram;
+use crate::said::say_reason;
+use crate::said::say_telegram;
+use saying::Line;
+use saying::empty;
+use saying::print;
+use saying::put;
+use saying::say;
+use saying::say_number;
+use saying::say_right;
 
 // What a vehicle's slot holds.
 struct Held {

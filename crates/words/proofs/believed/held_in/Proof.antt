@@ -4,8 +4,8 @@ use native.Mathlib.Omega.{arith}
 use lib.ListN.{length, length-drop}
 use denote.Ref.{now}
 use borrow.Author.Needs.{needs}
-use Rattle.saying.proofs.believed.held_in.Statement.{statement}
-use Rattle.saying.proofs.believed.held_in.Tie as tie
+use Rattle.words.proofs.believed.held_in.Statement.{statement}
+use Rattle.words.proofs.believed.held_in.Tie as tie
 
 long : (c : tie.After-telegram) → 2 ≤ length (now (c .telegram .result))
 long c = rw (c .telegram .ensures) (simp length-drop (omega arith))

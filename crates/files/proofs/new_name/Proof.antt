@@ -3,8 +3,8 @@ use native.Mathlib.Omega.{arith}
 use lib.ListN.{length-set}
 use borrow.Author.Needs.{needs}
 use Rattle.io.proofs.Counting.{counts}
-use Rattle.saying.proofs.file.new_name.Statement.{statement}
-use Rattle.saying.proofs.file.new_name.Tie as tie
+use Rattle.files.proofs.new_name.Statement.{statement}
+use Rattle.files.proofs.new_name.Tie as tie
 
 returns-3 : tie.Need-returns-3
 returns-3 c = counts _ _ (simp length-set (omega arith))

@@ -7,8 +7,8 @@ use borrow.Author.Tests.{eqb-true, leb-true, not-false}
 use Rattle.paper.specs.Store.{slotOctets}
 use Rattle.paper.proofs.ListLaws.{both}
 use Rattle.store.proofs.Laws.{slot-whole}
-use Rattle.saying.proofs.believed.held_of.Statement.{statement}
-use Rattle.saying.proofs.believed.held_of.Tie as tie
+use Rattle.words.proofs.believed.held_of.Statement.{statement}
+use Rattle.words.proofs.believed.held_of.Tie as tie
 
 slot-requires : tie.Need-slot-requires
 slot-requires c κs =

@@ -1,10 +1,10 @@
 // The files that a program's arguments name, read whole and replaced whole.
 ghost use Rattle.io.specs.Counts.{Counts};
-use crate::argument::say_error;
-use crate::line::Line;
-use crate::line::print;
-use crate::line::say;
-use crate::line::say_number;
+use saying::Line;
+use saying::print;
+use saying::say;
+use saying::say_error;
+use saying::say_number;
 
 // No numbers of errno: a write that failed, and a new file that is there already.
 const UNWRITTEN: i32 = -1;

@@ -1,8 +1,8 @@
 -- `saying::believed::say_ranges` is safe and ends. Assumes nothing.
 use Prim.Native.Nat.{_-_, _≤_}
 use borrow.Author.Needs.{needs}
-use Rattle.saying.proofs.believed.say_ranges.Statement.{statement}
-use Rattle.saying.proofs.believed.say_ranges.Tie as tie
+use Rattle.words.proofs.believed.say_ranges.Statement.{statement}
+use Rattle.words.proofs.believed.say_ranges.Tie as tie
 
 abbrev Inv-loop : tie.InvT-loop
 Inv-loop store l₀ v₀ l v = 1 ≤ v

@@ -1,11 +1,11 @@
 // Document 01's reasons, refusals and places in words.
-use crate::line::Line;
-use crate::line::empty;
-use crate::line::print;
-use crate::line::put;
-use crate::line::say;
-use crate::line::say_number;
 use refusals::Refusal;
+use saying::Line;
+use saying::empty;
+use saying::print;
+use saying::put;
+use saying::say;
+use saying::say_number;
 
 pub fn say_reason(line: Line, reason: u8) -> Line {
     match reason {

@@ -1,0 +1,18 @@
+// What document 01 names, in a program's words: reasons, refusals and places, what stands in a store and what is read out of it.
+// No function that a program's input reaches has a `requires`.
+mod believed;
+mod said;
+
+pub use believed::Totals;
+pub use believed::count_reason;
+pub use believed::is_heard;
+pub use believed::no_totals;
+pub use believed::print_head;
+pub use believed::print_never;
+pub use believed::print_totals;
+pub use said::print_refused;
+pub use said::print_refused_of;
+pub use said::say_field;
+pub use said::say_place;
+pub use said::say_reason;
+pub use said::say_telegram;
