@@ -44,20 +44,38 @@ TABLE = [
     ("both refused", b"", L + b"\0", refused(1, 0, "first")),
 ]
 
+OTHERWISE = [
+    ([], "extends FIRST SECOND\n\n"),
+    (["help"], "extends FIRST SECOND\n\n"),
+    (["data/coach.list"], "error: usage: extends FIRST SECOND\n"),
+    (["data/coach.list"] * 3, "error: usage: extends FIRST SECOND\n"),
+    (["data/none.list", "data/coach.list"], "error: FIRST 'data/none.list': no such file or folder\n"),
+    (["data/coach.list", "data"], "error: SECOND 'data': "),
+]
+
+
+def run(*words):
+    return subprocess.run([os.path.abspath("run"), "extends", *words], stdout=subprocess.PIPE, timeout=60).stdout.decode()
+
 
 def main():
     bad = 0
+    for words, first in OTHERWISE:
+        got = run(*words)
+        if not got.startswith(first):
+            print(f"extends {' '.join(words)}: expected {first!r}, got {got!r}")
+            bad += 1
     with tempfile.TemporaryDirectory() as folder:
         a, b = os.path.join(folder, "a"), os.path.join(folder, "b")
         for name, first, second, expected in TABLE:
             for path, octets in ((a, first), (b, second)):
                 with open(path, "wb") as f:
                     f.write(octets)
-            got = subprocess.run([os.path.abspath("run"), "extends", a, b], stdout=subprocess.PIPE, timeout=60).stdout.decode()
+            got = run(a, b)
             if got != expected + "\n":
                 print(f"extends, {name}: expected {expected!r}, got {got!r}")
                 bad += 1
-    print(f"extends: {len(TABLE)} runs, {bad} wrong")
+    print(f"extends: {len(TABLE) + len(OTHERWISE)} runs, {bad} wrong")
     return 1 if bad else 0
 
 

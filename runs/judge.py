@@ -154,6 +154,13 @@ TABLE = [
 ]
 
 
+WORDS_WRONG = [
+    ("a missing file", ["FOLDER/none"]),
+    ("a folder", ["FOLDER"]),
+    ("two lists", ["FOLDER/list", "FOLDER/list"]),
+]
+
+
 def run(program, *args):
     return subprocess.run([program, "judge", *args], stdout=subprocess.PIPE, stderr=subprocess.STDOUT, timeout=60).stdout.decode()
 
@@ -170,18 +177,23 @@ def main():
             if got != expected + "\n":
                 print(f"judge, {name}: expected {expected!r}, got {got!r}")
                 bad += 1
-        for name, args in (("no argument", []), ("a missing file", [os.path.join(folder, "none")]), ("a folder", [folder])):
-            got = run(program, *args)
-            if not got.startswith("error") or got.count("\n") != 1:
+        for name, args in WORDS_WRONG:
+            got = run(program, *(word.replace("FOLDER", folder) for word in args))
+            if not got.startswith("error: ") or got.count("\n") != 1:
                 print(f"judge, {name}: expected one line that begins with error, got {got!r}")
                 bad += 1
+    for args in ([], ["help"]):
+        got = run(program, *args)
+        if not got.startswith("judge LIST\n\n"):
+            print(f"judge {' '.join(args)}: expected help, got {got!r}")
+            bad += 1
     for name, expected in (("coach", ok(48, 165, 41, 14, 2)), ("coach-next", ok(48, 166, 42, 14, 3)), ("coach-wrong", ok(48, 166, 42, 14, 2))):
         got = run(program, f"data/{name}.list")
         if got != expected + "\n":
             print(f"judge, data/{name}.list: expected {expected!r}, got {got!r}")
             bad += 1
     assert len(LONGEST) == 10376
-    print(f"judge: {len(TABLE) + 6} runs, {bad} wrong")
+    print(f"judge: {len(TABLE) + len(WORDS_WRONG) + 5} runs, {bad} wrong")
     return 1 if bad else 0
 
 

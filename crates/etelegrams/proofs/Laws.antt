@@ -11,7 +11,7 @@ use native.Mathlib.Numerals.{add-one}
 use lib.ListN.{length, getD, take, set, length-append}
 use lib.Seq.{set-split, getD-append-add}
 use borrow.Author.Tests.{eq-eqb, ne-eqb, eqb-true, ltb-true, ltb-false, not-true, not-false}
-use Rattle.paper.specs.Answer.{Answer, gives, refused, refuseIf, andThen}
+use Rattle.paper.specs.Answer.{Answer, gives, refused, refuseIf}
 use Rattle.paper.specs.Octets.{octet, number, octetsOf, over}
 use Rattle.paper.specs.First.{all, some, firstBad, firstFrom}
 use Rattle.paper.specs.ETelegrams.{requests, reportTo, isRequest, isReport, eCode, eLimit, EReading, eReading, answerTo, answering}

@@ -2,81 +2,63 @@
 use libc::STDOUT_FILENO;
 use lists::Counts;
 use lists::Judged;
-use refusals::Refusal;
+use saying::Line;
 
-fn say(text: &[u8]) {
-    io::write_all(STDOUT_FILENO, text);
+fn help() {
+    io::write_all(
+        STDOUT_FILENO,
+        b"judge LIST
+
+Judges the signal list LIST. An accepted list gets one line with its counts and
+its version, the greatest since-version of its signals, 1 where it has none.
+A list that breaks a rule gets one line that begins with `refused`, the number
+of document 01 and the offset of what is wrong:
+  1 list ends inside a count or a section    3 entry breaks its rule
+  2 count above its limit                    4 octets after the routes
+A file that cannot be read gets one line that begins with `error`.
+",
+    );
 }
 
-fn number(text: &[u8], n: u64) {
-    say(text);
-    io::print_decimal(STDOUT_FILENO, n);
+fn say_count(line: Line, name: &[u8], n: usize) -> Line {
+    saying::say_number(saying::say(line, name), n as u64)
 }
 
-fn accepted(n: Counts) {
-    number(b"list ok checks=", n.checks as u64);
-    number(b" signals=", n.signals as u64);
-    number(b" codes=", n.codes as u64);
-    number(b" routes=", n.routes as u64);
-    number(b" version=", n.version as u64);
-    say(b"\n");
-}
-
-// In the paper's words.
-fn reason(f: Refusal) {
-    match f {
-        Refusal::ListEnds(_) => say(b": list ends inside a count or a section\n"),
-        Refusal::CountAbove(_) => say(b": count above its limit\n"),
-        Refusal::EntryBroken(_) => say(b": entry breaks its rule\n"),
-        Refusal::OctetsAfter(_) => say(b": octets after the routes\n"),
-        _ => say(b"\n"),
-    }
-}
-
-fn refused(f: Refusal) {
-    number(b"refused ", refusals::number(f) as u64);
-    number(b" at ", refusals::carried(f) as u64);
-    reason(f);
-}
-
-fn show(found: Judged) {
-    match found {
-        Judged::Accepted(n) => accepted(n),
-        Judged::Refused(f) => refused(f),
-    }
-}
-
-// A short count leaves open whether the file ended or a read failed: one more read tells.
-fn is_at_end(fd: i32) -> bool {
-    let mut one = [0u8; 1];
-    libc::read(fd, &mut one) == 0
+fn print_accepted(n: Counts) {
+    let l = say_count(saying::empty(), b"list ok checks=", n.checks);
+    let l = say_count(l, b" signals=", n.signals);
+    let l = say_count(l, b" codes=", n.codes);
+    let l = say_count(l, b" routes=", n.routes);
+    saying::print(say_count(l, b" version=", n.version));
 }
 
 // One octet more than the longest list: what follows cannot change the answer.
-fn judge_file(fd: i32) {
+fn judge() {
     let mut list = [0u8; 10377];
-    let n = io::read_full(fd, &mut list);
-    if n < 10377 {
-        if !is_at_end(fd) {
-            say(b"error: the list cannot be read\n");
-            return;
-        }
+    let input = files::read(1, b"LIST", &mut list);
+    if !input.ok {
+        return;
     }
-    show(lists::judge(&list[..n]));
+    let n = input.octets;
+    match lists::judge(&list[..n]) {
+        Judged::Accepted(n) => print_accepted(n),
+        Judged::Refused(f) => words::print_refused(f),
+    }
 }
 
 fn main() {
-    let mut path = io::buffer();
-    let length = os::arg(1, &mut path);
-    if os::errno() != 0 {
-        say(b"error: the argument is the path of a list\n");
+    let n = os::arg_count();
+    if n < 2 {
+        help();
         return;
     }
-    let fd = os::open_read(&path[..length]);
-    if fd < 0 {
-        say(b"error: the list cannot be opened\n");
+    if 2 < n {
+        saying::print_usage(b"judge LIST");
         return;
     }
-    judge_file(fd);
-    libc::close(fd);
+    if saying::is_word(1, b"help") {
+        help();
+        return;
+    }
+    judge();
 }

@@ -3,7 +3,6 @@ use Prim.Native.Nat.{ℕ, _+_, _-_, _*_, _/_, _≤_, _<_}
 use mathlib.Core.Path.{_≡_, refl, sym, ap, subst⁻¹, _∙_}
 use mathlib.Core.Bool.{Bool, true, false, cond}
 use mathlib.Core.List.{List}
-use native.Mathlib.Numerals.{add-one}
 use native.Mathlib.Omega.{arith}
 use native.Mathlib.Decide.{decLt}
 use native.Mathlib.Nat.{lt-irrefl}
@@ -12,7 +11,7 @@ use lib.Seq.{getD-set-same, getD-set-other}
 use lib.Dec.{ltb}
 use borrow.Author.Tests.{lt-ltb, le-ltb}
 use Rattle.paper.specs.Answer.{Answer, gives, refused, andThen}
-use Rattle.paper.specs.First.{some, count}
+use Rattle.paper.specs.First.{some}
 use Rattle.paper.specs.SignalList.{SignalList, routeEnd, judge, listOf}
 use Rattle.paper.specs.Marshalling as paper
 use Rattle.paper.proofs.AnswerLaws.{one-answer}

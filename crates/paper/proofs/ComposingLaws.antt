@@ -3,24 +3,24 @@
 use Prim.Native.Nat.{ℕ, zero, suc, _+_, _-_, _*_, _/_, _%_, _^_, _≤_, _<_}
 use mathlib.Core.Path.{_≡_, refl, sym, ap, _∙_}
 use mathlib.Core.Logic.{_⊎_, inl, inr, ⊎-elim}
-use mathlib.Core.Bool.{Bool, true, false, not, cond, _&&_, false≢true}
-use mathlib.Core.List.{List, [], _∷_, _++_}
+use mathlib.Core.Bool.{Bool, true, false, not, cond}
+use mathlib.Core.List.{List}
 use native.Mathlib.Nat.{zero-div}
 use native.Mathlib.Omega.{arith}
-use native.Mathlib.Decide.{decLt, ℕ-discrete}
-use lib.ListN.{length, getD, replicate, length-replicate, List·getD-append, List·getD-eq-default, getD-replicate}
-use lib.Dec.{ltb, leb, eqb, lit<}
-use borrow.Author.Tests.{ltb-true, ltb-false, leb-true, eqb-true, eqb-false, le-leb, ne-eqb, eq-eqb, not-true, not-false}
-use Rattle.paper.specs.Octets.{octet, bit, field, Put, puts, Octets}
-use Rattle.paper.specs.Answer.{Answer, gives, refuseIf}
-use Rattle.paper.specs.First.{firstBad, greatest}
-use Rattle.paper.specs.Telegrams.{applicationType, telegramType, isType, versionOf, typeLength, carries, markWidth}
-use Rattle.paper.specs.SignalList.{Signal, SignalList, Counts, fieldEnd, greatestSince, judge, listOf}
+use native.Mathlib.Decide.{ℕ-discrete}
+use lib.ListN.{length, getD, replicate, length-replicate}
+use lib.Dec.{eqb, lit<}
+use borrow.Author.Tests.{ltb-true, ltb-false, leb-true, eqb-true, eqb-false, le-leb, not-false}
+use Rattle.paper.specs.Octets.{octet, bit, field, puts, Octets}
+use Rattle.paper.specs.Answer.{gives}
+use Rattle.paper.specs.First.{firstBad}
+use Rattle.paper.specs.Telegrams.{applicationType, telegramType, isType, typeLength, carries, markWidth}
+use Rattle.paper.specs.SignalList.{SignalList, Counts, fieldEnd, greatestSince, judge, listOf}
 use Rattle.paper.specs.Extends.{version, knows}
 use Rattle.paper.specs.Composing.{writesSignal, writesCheck, headed, signalPut, checkPut, composed, markFits, valueFits, composing}
 use Rattle.paper.proofs.AnswerLaws.{not-refused, and-then, gives-one}
 use Rattle.paper.proofs.FirstLaws.{first-passed, greatest-least, greatest-at, greatest-most}
-use Rattle.paper.proofs.FieldLaws.{fieldOf, field-ext, field-octet, octet-field}
+use Rattle.paper.proofs.FieldLaws.{fieldOf, field-octet, octet-field}
 use Rattle.paper.proofs.PutsLaws.{Disjoint, length-puts, octets-puts, bit-puts-other, field-puts-other, field-puts}
 use Rattle.paper.proofs.ListLaws.{both, either, other, Kept, fields-apart, checks-apart}
 use Rattle.paper.proofs.StoreLaws.{type-least}

@@ -1,31 +1,31 @@
 -- The demands over the definitions: what is composed reads back (demand 2), and what a reader of an extending or an extended list is
 -- given (demand 3). Assumes nothing.
-use Prim.Native.Nat.{ℕ, zero, suc, _+_, _-_, _*_, _/_, _%_, _^_, _≤_, _<_}
-use mathlib.Core.Path.{_≡_, refl, sym, ap, ap₂, _∙_}
+use Prim.Native.Nat.{ℕ, _+_, _-_, _*_, _/_, _%_, _^_, _≤_, _<_}
+use mathlib.Core.Path.{_≡_, refl, sym, ap, _∙_}
 use mathlib.Core.Logic.{_⊎_, inl, inr, ⊎-elim}
-use mathlib.Core.Bool.{Bool, true, false, not, cond, _&&_, _||_, false≢true}
+use mathlib.Core.Bool.{Bool, true, false, not, cond, false≢true}
 use mathlib.Core.List.{List, [], _∷_, _++_}
 use native.Mathlib.Omega.{arith}
 use native.Mathlib.Decide.{ℕ-discrete}
-use lib.ListN.{length, getD, replicate, List·getD-append}
+use lib.ListN.{length, getD, List·getD-append}
 use lib.Dec.{ltb, leb, eqb}
-use borrow.Author.Tests.{leb-true, le-leb, le-ltb, lt-ltb, ne-eqb, eq-eqb, eqb-true, eqb-false, lt-leb}
+use borrow.Author.Tests.{leb-true, le-leb, le-ltb, lt-ltb, ne-eqb, eq-eqb}
 use Rattle.paper.specs.Octets.{octet, bit, field}
-use Rattle.paper.specs.Answer.{Answer, gives, refuseIf}
+use Rattle.paper.specs.Answer.{gives, refuseIf}
 use Rattle.paper.specs.First.{firstOf}
-use Rattle.paper.specs.Telegrams.{applicationType, telegramType, isType, versionOf, typeLength, carries, error, ok, forced, undefined, markWidth}
-use Rattle.paper.specs.SignalList.{Signal, SignalList, Counts, fieldEnd, judge, listOf}
-use Rattle.paper.specs.Extends.{version, knows, placeOf, same, extends}
-use Rattle.paper.specs.Store.{vehicles, storeOctets, Slot, slotOf, taken, taking, age, inTime, isStore, isVehicle}
+use Rattle.paper.specs.Telegrams.{applicationType, telegramType, versionOf, typeLength, carries, error, ok, forced, undefined, markWidth}
+use Rattle.paper.specs.SignalList.{Signal, SignalList, Counts, judge, listOf}
+use Rattle.paper.specs.Extends.{version, knows, placeOf, same}
+use Rattle.paper.specs.Store.{vehicles, storeOctets, Slot, slotOf, taken, taking, age, inTime}
 use Rattle.paper.specs.Reading.{Reading, heard, markOf, codeOf, hindrances, reasonOf, readingOf, readingAt, reading}
-use Rattle.paper.specs.Composing.{composed, composing, writesCheck}
+use Rattle.paper.specs.Composing.{composed, composing}
 use Rattle.paper.specs.Demands.{Standing, givenMark, delivered, withheld}
 use Rattle.paper.proofs.AnswerLaws.{goes-on, gives-one}
 use Rattle.paper.proofs.FieldLaws.{field-ext}
 use Rattle.paper.proofs.ListLaws.{Kept, kept}
 use Rattle.paper.proofs.StoreLaws.{type-least, takes-it, padded, stood, standing-slot, standing-whole}
 use Rattle.paper.proofs.ExtendsLaws.{Agree, agree-itself, Related, agree, only-newer, same-of}
-use Rattle.paper.proofs.ComposingLaws.{version-least, version-at, Fitting, Composes, composes, type-range, carried-within, named-written, length-composed, composed-application, composed-type, composed-version, composed-signal, composed-check}
+use Rattle.paper.proofs.ComposingLaws.{version-least, version-at, Fitting, Composes, composes, carried-within, named-written, length-composed, composed-application, composed-type, composed-version, composed-signal, composed-check}
 
 -- what stands behind makes no difference to a field
 field-front : (l m : List ℕ) (s w : ℕ) → s + w ≤ 8 * length l → field (l ++ m) s w ≡ field l s w

@@ -1,13 +1,11 @@
 -- What "B extends A" says of two accepted lists, and that extending is an order. Assumes nothing.
-use Prim.Native.Nat.{ℕ, _+_, _-_, _^_, _≤_, _<_}
+use Prim.Native.Nat.{ℕ, _-_, _^_, _≤_, _<_}
 use mathlib.Core.Path.{_≡_, refl, sym, ap, _∙_}
 use mathlib.Core.Logic.{_⊎_, inl, inr, ⊎-elim}
-use mathlib.Core.Bool.{Bool, true, false, not, cond, _&&_, _||_, or-true}
+use mathlib.Core.Bool.{Bool, true, false, not, _||_, or-true}
 use native.Mathlib.Omega.{arith}
-use native.Mathlib.Decide.{ℕ-discrete}
-use lib.Dec.{ltb, leb, eqb}
-use borrow.Author.Tests.{ltb-true, eqb-true, eq-eqb, not-true, lt-ltb}
-use Rattle.paper.specs.First.{all, some}
+use borrow.Author.Tests.{ltb-true, eqb-true, eq-eqb, lt-ltb}
+use Rattle.paper.specs.First.{some}
 use Rattle.paper.specs.SignalList.{Signal, SignalList, greatestSince}
 use Rattle.paper.specs.Extends.{version, knows, placeOf, same, codesKept, keeps, stands, newer, extends}
 use Rattle.paper.proofs.FirstLaws.{all-at, all-true, some-at, some-true, greatest-least, greatest-at, greatest-most}

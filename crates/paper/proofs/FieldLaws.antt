@@ -1,6 +1,6 @@
 -- The laws of bit fields. Assumes nothing.
-use mathlib.Core.Path.{_≡_, refl, sym, ap, ap₂, _∙_, subst}
-use mathlib.Core.Logic.{_⊎_, inl, inr, ⊎-elim}
+use mathlib.Core.Path.{_≡_, refl, sym, ap, ap₂, _∙_}
+use mathlib.Core.Logic.{_⊎_, ⊎-elim}
 use mathlib.Core.List.{List}
 use Prim.Native.Nat.{ℕ, zero, suc, _+_, _-_, _*_, _/_, _%_, _^_, _≤_, _<_}
 use native.Mathlib.Nat.{div-one, div-div-eq-div-mul, add-zero, add-suc, add-assoc, mod-lt, mod-one, mod-eq-of-lt, mul-add-div-right, mul-add-mod-self-right, pow-suc}
@@ -11,7 +11,7 @@ use lib.Seq.{ext-getD, set-out, set-set, set-getD, getD-set-same, getD-set-other
 use lib.Arith.{digits-lt, mod-mul}
 use lib.Dec.{lit<}
 use lib.Pow.{pow-pos, pow-add, high, low, split, shr-shr, shr-lt, mod-mod-pow}
-use Rattle.paper.specs.Octets.{bit, field, withBit, setBit, put, number, Octets}
+use Rattle.paper.specs.Octets.{bit, field, withBit, setBit, put, Octets}
 
 -- ---- the same of one octet, for the code's loops: the n bits of x from bit b, and x with the low n bits of v there; b + n is at most 8
 unfoldable pub fieldOf : ℕ → ℕ → ℕ → ℕ

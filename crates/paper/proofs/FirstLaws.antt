@@ -2,13 +2,11 @@
 use Prim.Native.Nat.{ℕ, zero, suc, _+_, _≤_, _<_, max}
 use mathlib.Core.Path.{_≡_, refl, sym, ap, _∙_}
 use mathlib.Core.Logic.{_⊎_, inl, inr}
-use mathlib.Core.Bool.{Bool, true, false, not, cond, _&&_, _||_, false≢true}
+use mathlib.Core.Bool.{Bool, true, false, not, cond, false≢true}
 use mathlib.Core.List.{List, [], _∷_, _++_}
-use lib.Dec.{eqb}
 use lib.ListN.{length}
-use borrow.Author.Count.{below-more}
 use borrow.Author.Tests.{eq-eqb, ne-eqb, eqb-true, eqb-false, not-true, not-false}
-use native.Mathlib.Nat.{eq-or-lt-of-le, lt-irrefl, add-zero}
+use native.Mathlib.Nat.{eq-or-lt-of-le, lt-irrefl}
 use native.Mathlib.Numerals.{add-one}
 use native.Mathlib.Omega.{arith}
 use Rattle.paper.specs.First.{stop, firstFrom, firstBad, all, some, count, greatest, firstOf}
@@ -124,14 +122,6 @@ module _ (ok : ℕ → Bool) where
       let h : k < n = not-all (λ j. not (ok j)) n (not-true _ e) in
       (k, (h, not-false (ok k) (first-fails (λ j. not (ok j)) n h)))
 
-pub some-more : (ok : ℕ → Bool) (n : ℕ) → some ok (n + 1) ≡ (some ok n || ok n)
-some-more ok n = by (some ok n) refl (ok n) refl
-  where
-    by : (b : Bool) → some ok n ≡ b → (d : Bool) → ok n ≡ d → some ok (n + 1) ≡ (b || d)
-    by true e d f = let w = some-at ok n e in some-true ok (n + 1) (w .0) (omega (arith, w .1 .0)) (w .1 .1)
-    by false e true f = some-true ok (n + 1) n (omega arith) f
-    by false e false f = some-false ok (n + 1) (below-more _ _ (some-none ok n e) f)
-
 -- ---- the first of two runs of tests
 
 -- a test of the first run holds: it is the first of both
@@ -184,12 +174,6 @@ module _ (ok : ℕ → Bool) (n m : ℕ) (e : m ≡ count ok n) where
   pub count-more : m + cond (ok n) 1 0 ≡ count ok (n + 1)
   unfolding count
   count-more = rw (add-one, e)
-
-  pub count-yes : ok n ≡ true → m + 1 ≡ count ok (n + 1)
-  count-yes t = sym (ap (λ (b : Bool). m + cond b 1 0) t) ∙ count-more
-
-  pub count-no : ok n ≡ false → m ≡ count ok (n + 1)
-  count-no f = sym (add-zero m) ∙ sym (ap (λ (b : Bool). m + cond b 1 0) f) ∙ count-more
 
 module _ (least : ℕ) (f : ℕ → ℕ) where
   pub greatest-least : (n : ℕ) → least ≤ greatest least f n

@@ -1,19 +1,19 @@
 -- What an accepted list keeps: one law per section, in numbers and orders, and what follows for two entries. Assumes nothing.
 use Prim.Native.Nat.{ℕ, zero, suc, _+_, _-_, _*_, _%_, _^_, _≤_, _<_, zero-le}
-use mathlib.Core.Path.{_≡_, refl, sym, ap, subst, _∙_}
+use mathlib.Core.Path.{_≡_, refl, sym, ap}
 use mathlib.Core.Logic.{_⊎_, inl, inr, ⊎-elim}
-use mathlib.Core.Bool.{Bool, true, false, not, cond, _&&_, _||_, false≢true}
+use mathlib.Core.Bool.{Bool, true, false, not, _&&_, _||_, false≢true}
 use mathlib.Core.List.{List}
 use native.Mathlib.Nat.{lt-irrefl, le-refl, le-of-lt, mul-le-mul-left, add-zero, add-suc}
 use native.Mathlib.Decide.{decLt, ℕ-discrete}
 use native.Mathlib.Omega.{arith}
-use lib.ListN.{length, drop, length-drop}
+use lib.ListN.{length, length-drop}
 use lib.Dec.{ltb, leb, eqb}
-use borrow.Author.Tests.{ltb-true, ltb-false, leb-true, eqb-true, eqb-false, eq-eqb, ne-eqb, not-true, not-false}
+use borrow.Author.Tests.{ltb-true, ltb-false, leb-true, eqb-true, eqb-false, ne-eqb, not-true, not-false}
 use Rattle.paper.specs.Octets.{number}
 use Rattle.paper.specs.Answer.{Answer, gives, refused, refuseIf, andThen, shift}
-use Rattle.paper.specs.First.{firstBad, all}
-use Rattle.paper.specs.SignalList.{Signal, Code, Route, fieldEnd, routeEnd, entry, rest, checkSize, signalSize, codeSize, routeSize, mostChecks, mostSignals, mostCodes, mostRoutes, widest, checkAt, signalAt, codeAt, routeAt, checkRule, widthRule, typeRule, placeRule, namedRule, valueRule, orderRule, apart, clearRule, signalRule, codeOrder, codeRule, routeRule, opening, judgeEntries, judgeSection, greatestSince, Counts, ending, fromRoutes, fromCodes, fromSignals, judge, SignalList, listOf, signalsPart, codesPart, routesPart}
+use Rattle.paper.specs.First.{firstBad}
+use Rattle.paper.specs.SignalList.{Signal, Code, Route, fieldEnd, routeEnd, entry, rest, checkSize, signalSize, codeSize, routeSize, mostChecks, mostSignals, mostCodes, mostRoutes, widest, checkAt, signalAt, codeAt, routeAt, checkRule, placeRule, namedRule, orderRule, apart, signalRule, codeRule, routeRule, opening, judgeEntries, judgeSection, greatestSince, Counts, ending, fromRoutes, fromCodes, fromSignals, judge, SignalList, listOf, signalsPart, codesPart, routesPart}
 use Rattle.paper.proofs.AnswerLaws.{not-refused, and-then, not-shifted, gives-one}
 use Rattle.paper.proofs.FirstLaws.{first-passed, all-at}
 
@@ -414,36 +414,6 @@ signals-within checks check xs =
     within-then (length xs) (judgeSection mostSignals signalSize (signalRule checks check (signalAt xs)) xs) _
     (section-within _ _ _ xs)
     (λ n e. within-rest signalSize n xs (length xs) (fromCodes n (signalAt xs) checks (rest signalSize n xs)) (holds-of _ _ _ _ _ e .opens .present) (le-refl _) (codes-within n (signalAt xs) checks (rest signalSize n xs)))
-
--- how long the parts of an accepted list are
-pub record Parts (xs : List ℕ) (n : Counts) : Type 0 where
-  pub few-checks : n .checks ≤ 64
-  pub few-signals : n .signals ≤ 256
-  pub few-codes : n .codes ≤ 512
-  pub few-routes : n .routes ≤ 512
-  pub checks : 2 + 2 * n .checks ≤ length xs
-  pub signals : 2 + 16 * n .signals ≤ length (signalsPart xs n)
-  pub codes : 2 + 6 * n .codes ≤ length (codesPart xs n)
-  pub routes : 2 + 6 * n .routes ≤ length (routesPart xs n)
-  pub whole : length xs ≡ 2 + 2 * n .checks + (2 + 16 * n .signals) + (2 + 6 * n .codes) + (2 + 6 * n .routes)
-
-pub parts-of : (xs : List ℕ) (n : Counts) → Laid xs n → Parts xs n
-parts-of xs n h = record {
-  few-checks = h .checks .opens .within;
-  few-signals = h .signals .opens .within;
-  few-codes = h .codes .opens .within;
-  few-routes = h .routes .opens .within;
-  checks = h .checks .opens .present;
-  signals = h .signals .opens .present;
-  codes = h .codes .opens .present;
-  routes = h .routes .opens .present;
-  whole = omega (
-    arith,
-    length-drop (entry checkSize (n .checks)) xs,
-    length-drop (entry signalSize (n .signals)) (signalsPart xs n),
-    length-drop (entry codeSize (n .codes)) (codesPart xs n),
-  );
-}
 
 -- ---- two entries of an accepted list
 

@@ -7,8 +7,8 @@ use native.Mathlib.Decide.{decLt}
 use native.Mathlib.Omega.{arith}
 use borrow.Author.Count.{below-none, below-more}
 use borrow.Author.Tests.{not-true, not-false}
-use Rattle.paper.specs.First.{firstBad, all, some}
-use Rattle.paper.proofs.FirstLaws.{first-here, first-none, all-true, all-false, some-true, some-false}
+use Rattle.paper.specs.First.{firstBad, all}
+use Rattle.paper.proofs.FirstLaws.{first-here, first-none, all-true, all-false}
 
 -- the loop stands at k: the test passes at each index before
 pub record Passed (ok : ℕ → Bool) (n k : ℕ) : Type 0 where
@@ -37,32 +37,9 @@ module _ {ok : ℕ → Bool} {n k : ℕ} (p : Passed ok n k) (ge : n ≤ k) wher
   pub stands-past : k ≡ firstBad ok n
   stands-past = let e : k ≡ n = omega (arith, p .within) in e ∙ fails-nowhere
 
-  pub all-passed : true ≡ all ok n
-  all-passed = sym (all-true ok n (λ j h. p .each j (omega arith)))
-
 -- it need not go to the end: the rest passes too
 pub passes-on : {ok : ℕ → Bool} {n k : ℕ} → Passed ok n k → ((j : ℕ) → k ≤ j → j < n → ok j ≡ true) → true ≡ all ok n
 passes-on {ok} {n} {k} p rest = sym (all-true ok n (λ j h. elim (decLt j k) [
   | yes lt ↦ p .each j lt
   | no ge ↦ rest j (omega arith) h
 ]))
-
--- ---- a loop that looks for an index at which the test passes: it fails at each before
-
-pub record Missed (ok : ℕ → Bool) (n k : ℕ) : Type 0 where
-  pub within : k ≤ n
-  pub each : (j : ℕ) → j < k → ok j ≡ false
-
-pub missed-none : (ok : ℕ → Bool) (n : ℕ) → Missed ok n 0
-missed-none ok n = record { within = omega arith; each = below-none _ }
-
-module _ {ok : ℕ → Bool} {n k : ℕ} (p : Missed ok n k) (lt : k < n) {b : Bool} (is : b ≡ ok k) where
-  pub missed-more : b ≡ false → Missed ok n (k + 1)
-  missed-more e = record { within = omega arith; each = below-more _ _ (p .each) (sym is ∙ e) }
-
-  pub some-here : b ≡ true → true ≡ some ok n
-  some-here e = sym (some-true ok n k lt (sym is ∙ e))
-
-module _ {ok : ℕ → Bool} {n k : ℕ} (p : Missed ok n k) (ge : n ≤ k) where
-  pub some-nowhere : false ≡ some ok n
-  some-nowhere = sym (some-false ok n (λ j h. p .each j (omega arith)))

@@ -1,25 +1,24 @@
 -- Marshalled data: each destination field holds its reading, every other bit is as before, and a field routed from one vehicle depends
 -- on no other vehicle's slot. Assumes nothing.
-use Prim.Native.Nat.{ℕ, _+_, _*_, _^_, _≤_, _<_}
-use mathlib.Core.Path.{_≡_, refl, sym, ap, _∙_}
-use mathlib.Core.Logic.{_⊎_, inl, inr}
-use mathlib.Core.Bool.{Bool, true, false, not, cond}
+use Prim.Native.Nat.{ℕ, _*_, _^_, _≤_, _<_}
+use mathlib.Core.Path.{_≡_, refl, ap}
+use mathlib.Core.Logic.{inr}
+use mathlib.Core.Bool.{Bool, true, false, cond}
 use mathlib.Core.List.{List}
-use native.Mathlib.Omega.{arith}
 use lib.ListN.{length}
 use lib.Dec.{ltb, leb}
 use borrow.Author.Tests.{ltb-false, eqb-true, not-false}
-use Rattle.paper.specs.Octets.{bit, field, Put, puts, Octets}
-use Rattle.paper.specs.Answer.{Answer, gives, refuseIf}
-use Rattle.paper.specs.First.{some, count}
-use Rattle.paper.specs.SignalList.{Signal, SignalList, Counts, routeEnd, judge, listOf}
+use Rattle.paper.specs.Octets.{bit, field}
+use Rattle.paper.specs.Answer.{gives}
+use Rattle.paper.specs.First.{count}
+use Rattle.paper.specs.SignalList.{SignalList, Counts, routeEnd, judge, listOf}
 use Rattle.paper.specs.Store.{Slot, storeOctets, slotOf}
-use Rattle.paper.specs.Reading.{Reading, codeOf, reasonOf, readingOf, readingAt}
+use Rattle.paper.specs.Reading.{codeOf, reasonOf, readingOf, readingAt}
 use Rattle.paper.specs.Marshalling.{routed, routePut, marshalled, live, Marshalled, marshalling}
 use Rattle.paper.proofs.AnswerLaws.{not-refused, and-then, gives-one}
 use Rattle.paper.proofs.FirstLaws.{some-none}
 use Rattle.paper.proofs.FieldLaws.{field-lt}
-use Rattle.paper.proofs.PutsLaws.{length-puts, octets-puts, bit-puts-other, field-puts}
+use Rattle.paper.proofs.PutsLaws.{bit-puts-other, field-puts}
 use Rattle.paper.proofs.ListLaws.{Kept, kept, routes-apart}
 use Rattle.paper.proofs.ReadingLaws.{isolation}
 
@@ -33,14 +32,6 @@ reading-fits l h slot now k lt = by (leb 2 (reasonOf l slot now k))
     by false = field-lt (slot .telegram) (l .signal k .start) (l .signal k .width)
 
 module _ (l : SignalList) (h : Kept l) (store : List ℕ) (now : ℕ) (bus : List ℕ) where
-  pub length-marshalled : (n : ℕ) → length (marshalled l store now bus n) ≡ length bus
-  unfolding marshalled
-  length-marshalled n = length-puts (routePut l store now) bus n
-
-  pub octets-marshalled : (n : ℕ) → Octets bus → Octets (marshalled l store now bus n)
-  unfolding marshalled
-  octets-marshalled n o = octets-puts (routePut l store now) bus n o
-
   -- "changes no other bit"
   pub outside-routes : (a : ℕ)
       → ((r : ℕ) → r < l .routes → l .route r .start ≤ a → a < routeEnd (l .signal) (l .route r) → ⊥)

@@ -8,7 +8,7 @@ use native.Mathlib.Numerals.{add-one}
 use native.Mathlib.Omega.{arith}
 use native.Mathlib.Decide.{decLt}
 use lib.ListN.{length, getD, set, take, drop, length-append, length-take, length-drop, List·getD-append, List·getD-eq-default}
-use lib.Seq.{sets-eq, paste, paste-zero, paste-suc, length-take-le, take-length, take-append-seam, drop-append-seam, take-suc, take-at, drop-at, take-add, drop-drop, getD-at, getD-take, getD-drop, getD-append-add, ext-getD}
+use lib.Seq.{sets-eq, paste, paste-zero, paste-suc, length-take-le, take-length, take-append-seam, drop-append-seam, take-suc, take-at, drop-at, drop-drop, getD-at, getD-take, getD-drop, getD-append-add, ext-getD}
 use lib.Arith.{digits-lt, mod-mul}
 use lib.Dec.{lit<}
 use Rattle.paper.specs.Octets.{field, number, octetsOf, over, Octets}
@@ -27,10 +27,6 @@ unfolding number
 number-lt l k zero o = omega arith
 number-lt l k (suc n) o = rw (pow-suc 256 n) (digits-lt (number-lt l k n o) (o (k + n)))
 
-pub number-one : (l : List ℕ) (k : ℕ) → number l k 1 ≡ getD l k 0
-unfolding number
-number-one l k = rw add-zero (omega arith)
-
 pub number-two : (l : List ℕ) (k : ℕ) → number l k 2 ≡ getD l k 0 * 256 + getD l (k + 1) 0
 unfolding number
 number-two l k = rw add-zero (omega arith)
@@ -42,12 +38,6 @@ number-split l k m zero = rw add-zero (omega arith)
 number-split l k m (suc n) =
     rw add-suc
     (omega (arith, number-split l k m n, ap (λ (i : ℕ). getD l i 0) (add-assoc k m n), ap (λ (x : ℕ). number l k m * x) (pow-suc 256 n)))
-
-pub number-drop : (a : ℕ) (l : List ℕ) (k n : ℕ) → number (drop a l) k n ≡ number l (a + k) n
-number-drop a l k n = number-ext (drop a l) l k (a + k) n (λ i h. getD-drop a l (k + i) 0 ∙ ap (λ (j : ℕ). getD l j 0) (omega arith))
-
-pub number-take : (a : ℕ) (l : List ℕ) (k n : ℕ) → k + n ≤ a → number (take a l) k n ≡ number l k n
-number-take a l k n h = number-ext (take a l) l k k n (λ i lt. getD-take a l (k + i) 0 (omega arith))
 
 -- what stands behind or before makes no difference
 pub number-front : (l m : List ℕ) (k n : ℕ) → k + n ≤ length l → number (l ++ m) k n ≡ number l k n
@@ -218,13 +208,6 @@ over-over l a x y h =
     ∙ drop-drop (length y) (a + length x) l
     ∙ ap (λ (n : ℕ). drop n l) e in
     ap₂ (λ (u v : List ℕ). u ++ (y ++ v)) t d ∙ append-assoc (take a l) x _ ∙ ap (λ (u : List ℕ). take a l ++ u) (sym (append-assoc x y _))
-
--- over a part that starts a octets on
-pub over-drop : (a : ℕ) (l : List ℕ) (k : ℕ) (m : List ℕ) → a ≤ length l → drop a (over l (a + k) m) ≡ over (drop a l) k m
-unfolding over
-over-drop a l k m h =
-    let e : a + k + length m ≡ a + (k + length m) = omega arith in
-    rw (take-add a k l, append-assoc, drop-at (take a l) _ a (length-take-le a l h), e, drop-drop) refl
 
 -- a loop that writes m from k on, octet by octet: what stands after j turns, and a turn. `paste` is lib.Seq's
 pub over-begun : (l : List ℕ) (k : ℕ) (m : List ℕ) → l ≡ paste l k m 0

@@ -1,21 +1,21 @@
 -- Demand 2 over the definitions: a value is live exactly when it should be, and otherwise the first reason that applies. Assumes nothing.
-use Prim.Native.Nat.{ℕ, zero, suc, _+_, _-_, _*_, _^_, _≤_, _<_}
-use mathlib.Core.Path.{_≡_, refl, sym, ap, _∙_}
-use mathlib.Core.Logic.{_↔_, _⊎_, inl, inr, ⊎-elim}
-use mathlib.Core.Bool.{Bool, true, false, not, cond, _&&_, _||_, true≢false, false≢true}
+use Prim.Native.Nat.{ℕ, zero, suc, _+_, _-_, _≤_, _<_}
+use mathlib.Core.Path.{_≡_, refl, ap, _∙_}
+use mathlib.Core.Logic.{_↔_, _⊎_, inl, inr}
+use mathlib.Core.Bool.{Bool, true, false, not, cond, false≢true}
 use mathlib.Core.List.{List, [], _∷_}
 use native.Mathlib.Omega.{arith}
 use native.Mathlib.Decide.{ℕ-discrete}
 use lib.ListN.{length, getD}
-use lib.Dec.{ltb, leb, eqb}
-use borrow.Author.Tests.{ltb-true, ltb-false, leb-true, leb-false, eqb-true, eqb-false, not-true, not-false, le-leb, lt-leb, le-ltb, lt-ltb, ne-eqb, eq-eqb}
+use lib.Dec.{eqb}
+use borrow.Author.Tests.{ltb-false, eqb-false, not-false, le-leb, lt-leb, le-ltb, ne-eqb}
 use Rattle.paper.specs.Octets.{field}
 use Rattle.paper.specs.First.{firstOf}
-use Rattle.paper.specs.Telegrams.{telegramType, versionOf, carries, error, ok, forced, undefined, markWidth}
+use Rattle.paper.specs.Telegrams.{telegramType, versionOf, carries, ok, forced, markWidth}
 use Rattle.paper.specs.SignalList.{Signal, SignalList}
 use Rattle.paper.specs.Extends.{knows, placeOf}
 use Rattle.paper.specs.Store.{Slot, slotOf, age, inTime}
-use Rattle.paper.specs.Reading.{Reading, heard, markOf, codeOf, hindrances, reasonOf, readingOf, readingAt}
+use Rattle.paper.specs.Reading.{heard, markOf, codeOf, hindrances, reasonOf, readingOf, readingAt}
 use Rattle.paper.proofs.FieldLaws.{field-lt}
 
 -- ---- the first of numbered tests

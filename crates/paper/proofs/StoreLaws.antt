@@ -1,24 +1,24 @@
 -- The laws of the store: a slot that was written says what was written, and every other slot is as before. Assumes nothing.
-use Prim.Native.Nat.{ℕ, zero, suc, _+_, _-_, _*_, _%_, _≤_, _<_}
+use Prim.Native.Nat.{ℕ, _+_, _-_, _≤_, _<_}
 use mathlib.Core.Path.{_≡_, refl, sym, ap, ap₂, _∙_}
-use mathlib.Core.Logic.{_⊎_, inl, inr, ⊎-elim}
-use mathlib.Core.Bool.{Bool, true, false, not, cond, _&&_, _||_}
+use mathlib.Core.Logic.{_⊎_, inl, inr}
+use mathlib.Core.Bool.{Bool, true, false, cond}
 use mathlib.Core.List.{List, [], _∷_, _++_}
 use native.Mathlib.Nat.{mod-eq-of-lt}
 use native.Mathlib.Omega.{arith}
 use native.Mathlib.Decide.{decLt}
-use lib.ListN.{length, getD, take, drop, replicate, length-append, length-replicate}
-use lib.Seq.{drop-at, take-take, take-all}
-use lib.Dec.{ltb, leb, eqb}
-use borrow.Author.Tests.{eq-eqb, le-leb, le-ltb, ltb-false, leb-true, eqb-true, not-false}
-use Rattle.paper.specs.Octets.{field, number, octetsOf, over}
+use lib.ListN.{length, take, drop, replicate, length-append, length-replicate}
+use lib.Seq.{drop-at}
+use lib.Dec.{eqb}
+use borrow.Author.Tests.{eq-eqb, le-leb, le-ltb, leb-true, eqb-true, not-false}
+use Rattle.paper.specs.Octets.{number, octetsOf, over}
 use Rattle.paper.specs.Answer.{Answer, gives, refused, refuseIf, after}
 use Rattle.paper.specs.Telegrams.{applicationType, telegramType, isType, typeLength, carries}
-use Rattle.paper.specs.Store.{vehicles, telegramOctets, slotHead, slotOctets, storeOctets, isStore, isVehicle, Slot, slotStart, slotFrom, slotTo, slotOf, taken, taking, turn, inTime}
+use Rattle.paper.specs.Store.{vehicles, telegramOctets, slotOctets, storeOctets, slotStart, slotFrom, slotTo, slotOf, taken, taking, turn, inTime}
 use Rattle.paper.specs.Demands.{Step, offer, step, run, Passes, NoneLater, Standing}
 use Rattle.paper.proofs.AnswerLaws.{not-refused, never-both}
 use Rattle.paper.proofs.ListLaws.{both}
-use Rattle.paper.proofs.NumberLaws.{length-octetsOf, number-octetsOf-front, number-front, number-back, length-over, part-over, other-over}
+use Rattle.paper.proofs.NumberLaws.{length-octetsOf, number-octetsOf-front, number-back, length-over, part-over, other-over}
 
 -- ---- cases at which a sentence misread shows
 

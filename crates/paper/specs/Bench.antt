@@ -1,11 +1,11 @@
 -- Document 01, "Bench examples": the list L and what it is judged to.
-use Prim.Native.Nat.{ℕ, _-_}
+use Prim.Native.Nat.{ℕ}
 use mathlib.Core.Path.{_≡_, refl}
 use mathlib.Core.List.{List, [], _∷_, _++_}
-use lib.ListN.{length, take, replicate}
-use Rattle.paper.specs.Octets.{bit, field, setBit, withBit, put, number, octetsOf, over}
-use Rattle.paper.specs.Answer.{Answer, gives, refused, refuseIf}
-use Rattle.paper.specs.First.{firstFrom, firstBad, all, some, count, greatest}
+use lib.ListN.{take}
+use Rattle.paper.specs.Octets.{number}
+use Rattle.paper.specs.Answer.{gives, refused, refuseIf}
+use Rattle.paper.specs.First.{firstFrom, firstBad, all, some, greatest}
 use Rattle.paper.specs.SignalList
 use Rattle.paper.specs.SignalList.{Counts, judge}
 

@@ -1,14 +1,14 @@
 -- Document 01, "Store, age and reading": composing an R-telegram.
-use Prim.Native.Nat.{ℕ, zero, suc, _+_, _-_, _*_, _^_}
-use mathlib.Core.Bool.{Bool, true, false, not, cond, _&&_, _||_}
-use mathlib.Core.List.{List, [], _∷_}
+use Prim.Native.Nat.{ℕ, _+_, _-_, _*_, _^_}
+use mathlib.Core.Bool.{Bool, not, _&&_, _||_}
+use mathlib.Core.List.{List, _∷_}
 use lib.ListN.{length, getD, replicate}
 use lib.Dec.{ltb, leb, eqb}
 use Rattle.paper.specs.Octets.{Put, puts}
 use Rattle.paper.specs.Answer.{Answer, gives, refuseIf}
-use Rattle.paper.specs.First.{firstBad, some}
-use Rattle.paper.specs.Telegrams.{isType, typeLength, carries, undefined, markWidth}
-use Rattle.paper.specs.SignalList.{Signal, SignalList, underList}
+use Rattle.paper.specs.First.{firstBad}
+use Rattle.paper.specs.Telegrams.{isType, typeLength, carries, markWidth}
+use Rattle.paper.specs.SignalList.{SignalList, underList}
 use Rattle.paper.specs.Extends.{version, knows}
 
 -- "every signal the type carries and every check within the telegram's length"

@@ -2,11 +2,11 @@
 use Prim.Native.Nat.{ℕ, _-_, _<_}
 use mathlib.Core.Path.{_≡_}
 use mathlib.Core.Logic.{_⊎_}
-use mathlib.Core.Bool.{Bool, true, not, cond}
+use mathlib.Core.Bool.{true, not, cond}
 use mathlib.Core.List.{List, [], _∷_}
 use lib.ListN.{getD}
 use lib.Dec.{leb, eqb}
-use Rattle.paper.specs.Answer.{Answer, gives, refused, after}
+use Rattle.paper.specs.Answer.{gives, refused, after}
 use Rattle.paper.specs.First.{firstOf}
 use Rattle.paper.specs.Telegrams.{carries, error, ok, forced, undefined}
 use Rattle.paper.specs.SignalList.{Signal, SignalList}

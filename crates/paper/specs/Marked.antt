@@ -6,7 +6,7 @@ use mathlib.Core.List.{List, [], _∷_, map}
 use lib.ListN.{getD, set, replicate, List·getD-map}
 use lib.Ieee.{binary32, ofBits, round}
 use Rattle.paper.specs.Octets.{bit, field, withBit, setBit, put, puts, number, octetsOf, over}
-use Rattle.paper.specs.Answer.{Answer, gives, refused, refuseIf, after}
+use Rattle.paper.specs.Answer.{Answer, gives, refuseIf, after}
 use Rattle.paper.specs.First.{firstFrom, firstBad, all, some, count, greatest}
 use Rattle.paper.specs.Telegrams.{applicationType, telegramType, versionOf}
 use Rattle.paper.specs.SignalList

@@ -1,5 +1,5 @@
 -- Document 01, "Store, age and reading": marshalling routed signals into vehicle bus data.
-use Prim.Native.Nat.{ℕ, zero, suc, _+_, _*_}
+use Prim.Native.Nat.{ℕ, _*_}
 use mathlib.Core.Bool.{Bool, true, not}
 use mathlib.Core.List.{List}
 use lib.ListN.{length}

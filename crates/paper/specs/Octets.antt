@@ -1,6 +1,6 @@
 -- Document 01, "Octets and bits": octets, bits, fields and numbers of several octets.
 -- A list of octets is counted from 0 here: octet o of the paper, which counts from 1, is element o - 1.
-use Prim.Native.Nat.{ℕ, zero, suc, _+_, _-_, _*_, _/_, _%_, _^_, _≤_, _<_}
+use Prim.Native.Nat.{ℕ, zero, suc, _+_, _-_, _*_, _/_, _%_, _^_, _<_}
 use mathlib.Core.Bool.{Bool, cond}
 use mathlib.Core.List.{List, [], _∷_, _++_}
 use lib.ListN.{length, getD, take, drop, set}

@@ -1,11 +1,11 @@
 -- Document 01, "The signal list": its entries, the rule of each, and the judging to number and offset.
 use Prim.Native.Nat.{ℕ, _+_, _-_, _*_, _%_, _^_}
-use mathlib.Core.Bool.{Bool, true, false, not, cond, _&&_, _||_}
+use mathlib.Core.Bool.{Bool, not, _&&_, _||_}
 use mathlib.Core.List.{List}
 use lib.ListN.{length, getD, drop}
 use lib.Dec.{ltb, leb, eqb}
 use Rattle.paper.specs.Octets.{number}
-use Rattle.paper.specs.Answer.{Answer, gives, refused, refuseIf, andThen, shift}
+use Rattle.paper.specs.Answer.{Answer, gives, refuseIf, andThen, shift}
 use Rattle.paper.specs.First.{firstBad, all, greatest}
 
 -- ---- Entries

@@ -1,7 +1,7 @@
 -- A refusal can be told from its number and what it carries. Assumes nothing.
 use Prim.Native.Nat.{ℕ, _+_, _-_}
-use mathlib.Core.Path.{_≡_, refl, sym, ap₂, _∙_}
-use mathlib.Core.List.{List, [], _∷_}
+use mathlib.Core.Path.{_≡_, refl, ap₂, _∙_}
+use mathlib.Core.List.{[], _∷_}
 use lib.ListN.{getD}
 use Rattle.paper.specs.Answer.{Answer, refused, shift}
 use Rattle.refusals.specs.declared.Refusal.{Refusal}

@@ -1,7 +1,7 @@
 -- Numbers read digit by digit. Assumes nothing.
 use Prim.Native.Nat.{ℕ, _+_, _-_, _*_, _/_, _≤_, _<_}
 use mathlib.Core.Path.{_≡_, sym, _∙_}
-use mathlib.Core.Bool.{true, false, cond}
+use mathlib.Core.Bool.{true, cond}
 use mathlib.Core.List.{List}
 use native.Mathlib.Decide.{decLt}
 use native.Mathlib.Numerals.{add-one}
@@ -11,7 +11,6 @@ use lib.ListN.{length, drop, getD}
 use lib.Seq.{drop-cons, drop-length}
 use borrow.Author.Tests.{leb-true, le-leb, lt-leb}
 use Rattle.paper.proofs.ListLaws.{both}
-use Rattle.saying.specs.declared.argument.Number.{Number}
 use Rattle.saying.specs.declared.argument.Number.the-variants.{Is, Not}
 use Rattle.saying.specs.Numbers.{andDigit, goesOn, numberFrom}
 

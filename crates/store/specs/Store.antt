@@ -1,6 +1,5 @@
 -- The tests of taking a telegram, in the parts in which the code works them out.
 use Prim.Native.Nat.{ℕ}
-use mathlib.Core.Path.{_≡_}
 use mathlib.Core.Bool.{not}
 use mathlib.Core.List.{List}
 use lib.ListN.{length}

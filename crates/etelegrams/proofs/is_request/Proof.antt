@@ -1,5 +1,4 @@
 -- `etelegrams::is_request` meets its contract: the chain is the paper's table. Assumes nothing.
-use borrow.Author.Needs.{needs}
 use Rattle.paper.specs.ETelegrams.{requests}
 use Rattle.etelegrams.proofs.Laws.{is-request}
 use Rattle.etelegrams.proofs.is_request.Statement.{statement}

@@ -1,9 +1,7 @@
 -- `extending::compared` meets its contract. Assumes nothing.
-use Prim.Native.Nat.{ℕ, _-_, _≤_, _<_}
-use mathlib.Core.Path.{_≡_, sym, ap, _∙_}
-use mathlib.Core.Bool.{Bool, true, false, _&&_}
+use Prim.Native.Nat.{_-_}
+use mathlib.Core.Path.{sym, ap, _∙_}
 use native.Mathlib.Omega.{arith}
-use lib.Dec.{ltb, eqb}
 use denote.Ref.{now}
 use borrow.Author.Needs.{needs}
 use borrow.Author.Tests.{not-true, not-false}
@@ -12,7 +10,7 @@ use Rattle.paper.specs.Extends.{version}
 use Rattle.paper.proofs.ListLaws.{Kept, kept-of}
 use Rattle.known.specs.Known.{From}
 use Rattle.known.proofs.Laws.{ordered-of, past-own, from-later, from-none}
-use Rattle.extending.specs.Extending.{listed, signalKey, signalKeys, lastKey, Newer}
+use Rattle.extending.specs.Extending.{listed, signalKey, signalKeys, Newer}
 use Rattle.extending.proofs.Laws.{Along, along-none, along-newer, along-kept, stands-nowhere, not-along, all-along}
 use Rattle.extending.proofs.compared.Statement.{statement}
 use Rattle.extending.proofs.compared.Tie as tie

@@ -2,7 +2,6 @@
 use Prim.Native.Nat.{_+_, _*_}
 use mathlib.Core.Path.{ap, _∙_}
 use mathlib.Core.Bool.{_&&_}
-use native.Mathlib.Omega.{arith}
 use lib.Dec.{leb}
 use denote.Ref.{now}
 use borrow.Author.Needs.{needs}

@@ -1,6 +1,6 @@
 -- `lists::first_bad_signal` meets its contract. The outer invariant: every signal passed keeps its rule, and the checks before `from` end at or before the
 -- last one's end; the inner: the checks passed end at or before the signal's start. Assumes nothing.
-use Prim.Native.Nat.{ℕ, _+_, _-_, _^_, _<_}
+use Prim.Native.Nat.{ℕ, _-_, _^_, _<_}
 use mathlib.Core.Path.{_≡_, refl, sym, ap, _∙_}
 use mathlib.Core.List.{List}
 use mathlib.Core.Bool.{true, _&&_}

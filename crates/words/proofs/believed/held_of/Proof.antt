@@ -1,10 +1,7 @@
 -- `saying::believed::held_of` is safe and ends: the store is whole and the vehicle one of the 63. Assumes nothing.
-use mathlib.Core.Path.{_≡_, sym, _∙_}
-use lib.ListN.{length}
-use denote.Ref.{now}
+use mathlib.Core.Path.{sym, _∙_}
 use borrow.Author.Needs.{needs}
 use borrow.Author.Tests.{eqb-true, leb-true, not-false}
-use Rattle.paper.specs.Store.{slotOctets}
 use Rattle.paper.proofs.ListLaws.{both}
 use Rattle.store.proofs.Laws.{slot-whole}
 use Rattle.words.proofs.believed.held_of.Statement.{statement}
