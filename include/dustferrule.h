@@ -8,8 +8,22 @@
  *  - an area that is written overlaps no other area of the same call;
  *  - with length 0 the pointer is never read or written, but it must not be NULL: pass any non-null pointer.
  *
- * Results: `refusal` is 0, or a number of document 01's table of refusals (1-27); every field that an answer does not use is 0.
- * `carried` is the offset of refusals 1-4, and the signal number (from 0) of refusal 15. A refused call changes no octet it was lent.
+ * Results: `refusal` is 0, or a number of the table below; every field that an answer does not use is 0. A refused call changes no
+ * octet it was lent. Of the numbers that a call can meet, 1-4 come first, as judging the list meets them, then the lowest.
+ *
+ *    1 list ends inside a count or a section    10 length not the type's                    19 address not listed
+ *    2 count above its limit                    11 no such signal                           20 nobody meets it
+ *    3 entry breaks its rule                    12 data shorter than a route's end          21 E-telegram not 9 to 1,024 octets
+ *    4 octets after the routes                  13 values or marks not one per entry        22 code neither request nor report
+ *    5 store not 8,379 octets                   14 a written mark above 3                   23 answer to a report
+ *    6 vehicle not 1-63                         15 a written value at or above 2^width,     24 head not 6 octets
+ *    7 R-telegram under 2 octets                   or its code not known                    25 output under 9 octets
+ *    8 application type not 1                   16 output length not the type's             26 scaled kind, width not 16 or raw above 65,535
+ *    9 telegram type not 1-3                    17 consist empty or above 63 vehicles       27 no check place in the table
+ *                                               18 consist rule broken
+ *
+ * `carried` is the offset in the list of the section's count (1, 2), of the entry (3) or of the first octet too many (4), and the number
+ * of the signal, from 0, that is at fault (15). The rules of a list's entries stand in docs/PROMISES.md, under "The signal list".
  * Nothing here allocates, blocks, keeps state or calls back.
  */
 #ifndef DUSTFERRULE_H

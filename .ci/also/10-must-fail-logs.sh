@@ -9,5 +9,7 @@ for log in $(find target/must-fail -name .log | sort); do
     '') echo "$log: no error found"; status=1 ;;
     esac
 done
-[ "$status" -eq 0 ] && echo "$(find target/must-fail -name .log | wc -l) must-fail logs: each is refused because a fact fails"
+logs=$(find target/must-fail -name .log | wc -l) edits=$(find crates -path '*/must-fail/*.edit' | wc -l)
+[ "$logs" -eq "$edits" ] || { echo "$edits must-fail edits and $logs logs"; status=1; }
+[ "$status" -eq 0 ] && echo "$logs must-fail logs: each is refused because a fact fails"
 exit $status

@@ -1,0 +1,94 @@
+/* Every call of the header once, on an input whose answer document 01 gives: the header fits the library. Says which call is wrong. */
+#include <stdio.h>
+#include <string.h>
+
+#include "dustferrule.h"
+
+/* the list L: voltage selection, R1 octet 54 bits 0-3, check 41 2/3, codes 0-6 and 15 known, routed to data bits 0-3 */
+static const uint8_t L[44] = {0, 1, 0x01, 0x42, 0, 1, 0x01, 0xA8, 4, 1, 1, 1, 0, 0, 0x13, 0x88, 0, 0, 0, 0, 0, 0,
+                              0, 2, 0, 0, 0, 0, 0, 6, 0, 0, 0, 15, 0, 15, 0, 1, 0, 0, 1, 0, 0, 0};
+
+static int bad;
+
+static void expect(const char *call, int right)
+{
+    if (!right) {
+        printf("%s: wrong\n", call);
+        bad = 1;
+    }
+}
+
+static void lists(void)
+{
+    df_judged j = df_judge(L, sizeof L);
+    expect("df_judge", !j.refusal && !j.carried && j.checks == 1 && j.signals == 1 && j.codes == 2 && j.routes == 1 && j.version == 1);
+    j = df_judge(L, sizeof L - 1);
+    expect("df_judge", j.refusal == 1 && j.carried == 36 && !j.checks && !j.signals && !j.codes && !j.routes && !j.version);
+    df_extending e = df_extends(L, sizeof L, L, sizeof L);
+    expect("df_extends", !e.refusal && !e.which && !e.carried && e.extends == 1);
+    e = df_extends(L, sizeof L, L, sizeof L - 1);
+    expect("df_extends", e.refusal == 1 && e.which == 2 && e.carried == 36 && !e.extends);
+    df_place p = df_check_place(8 * 61 + 4);
+    expect("df_check_place", !p.refusal && p.place == 8 * 41 + 2);
+}
+
+static void telegrams(void)
+{
+    static uint8_t store[DF_STORE_OCTETS];
+    uint8_t out[128], data[1] = {0xAB};
+    uint64_t values[1] = {4};
+    uint8_t marks[1] = {1};
+    df_outcome o = df_compose(L, sizeof L, 1, values, 1, marks, 1, out, sizeof out);
+    expect("df_compose", !o.refusal && !o.carried && out[0] == 0x11 && out[1] == 1 && out[40] == 0x10 && out[53] == 0x40);
+    values[0] = 7;
+    o = df_compose(L, sizeof L, 1, values, 1, marks, 1, out, sizeof out);
+    expect("df_compose", o.refusal == 15 && o.carried == 0 && out[53] == 0x40);
+    o = df_take(store, sizeof store, 1, 1000, out, sizeof out);
+    expect("df_take", !o.refusal && !o.carried && store[0] == 1 && store[3] == 3 && store[4] == 0xE8 && store[5] == 0x11);
+    df_reading r = df_read(L, sizeof L, store, sizeof store, 6000, 1, 0);
+    expect("df_read", !r.refusal && r.reason == 0 && !r.carried && r.value == 4);
+    r = df_read(L, sizeof L, store, sizeof store, 6001, 1, 0);
+    expect("df_read", !r.refusal && r.reason == 3 && !r.carried && r.value == 0);
+    df_marshalled m = df_marshal(L, sizeof L, store, sizeof store, 6000, data, sizeof data);
+    expect("df_marshal", !m.refusal && !m.carried && m.lives == 1 && data[0] == 0x4B);
+}
+
+static void shown(void)
+{
+    df_shown s = df_show_speed(16, 16384);
+    expect("df_show_speed", !s.refusal && s.value == 256.0f);
+    s = df_show_percentage(16, 49152);
+    expect("df_show_percentage", !s.refusal && s.value == 300.0f);
+    s = df_show_signed_percentage(16, 49152);
+    expect("df_show_signed_percentage", !s.refusal && s.value == -100.0f);
+    s = df_show_current(16, 2048);
+    expect("df_show_current", !s.refusal && s.value == 125.0f);
+    s = df_show_speed(15, 0);
+    expect("df_show_speed", s.refusal == 26 && s.value == 0.0f);
+    expect("df_show_code", df_show_code(281474976710655u) == 281474976710655u);
+}
+
+static void train(void)
+{
+    const uint8_t marks[3] = {1 | 4, 2, 2 | 16}, request[9] = {1, 2, 3, 4, 5, 6, 0x10, 0x07, 9}, head[6] = {6, 5, 4, 3, 2, 1};
+    uint8_t out[10] = {0};
+    df_members m = df_resolve(marks, sizeof marks, 67);
+    expect("df_resolve", !m.refusal && m.size == 2 && m.set == (1u << 2 | 1u << 3));
+    m = df_resolve(marks, sizeof marks, 65);
+    expect("df_resolve", m.refusal == 20 && !m.size && !m.set);
+    df_e_reading e = df_e_read(request, sizeof request);
+    expect("df_e_read", !e.refusal && e.code == 0x1007 && e.report == 0 && e.status == 9);
+    df_outcome o = df_e_answer(request, sizeof request, head, sizeof head, 7, out, sizeof out);
+    expect("df_e_answer", !o.refusal && !o.carried && !memcmp(out, "\6\5\4\3\2\1\x1A\x07\7\0", 10));
+}
+
+int main(void)
+{
+    lists();
+    telegrams();
+    shown();
+    train();
+    if (!bad)
+        puts("every call of the header answers as it should");
+    return bad;
+}
