@@ -182,7 +182,7 @@ def main():
             if not got.startswith("error: ") or got.count("\n") != 1:
                 print(f"judge, {name}: expected one line that begins with error, got {got!r}")
                 bad += 1
-    for args in ([], ["help"]):
+    for args in ([], ["help"], ["--help"]):
         got = run(program, *args)
         if not got.startswith("judge LIST\n\n"):
             print(f"judge {' '.join(args)}: expected help, got {got!r}")
@@ -193,7 +193,7 @@ def main():
             print(f"judge, data/{name}.list: expected {expected!r}, got {got!r}")
             bad += 1
     assert len(LONGEST) == 10376
-    print(f"judge: {len(TABLE) + len(WORDS_WRONG) + 5} runs, {bad} wrong")
+    print(f"judge: {len(TABLE) + len(WORDS_WRONG) + 6} runs, {bad} wrong")
     return 1 if bad else 0
 
 

@@ -191,11 +191,7 @@ fn ask(words: usize) {
 
 fn main() {
     let n = os::arg_count();
-    if n < 2 {
-        help();
-        return;
-    }
-    if (n == 2) & saying::is_word(1, b"help") {
+    if saying::asks_help(n) {
         help();
         return;
     }

@@ -190,11 +190,7 @@ fn ask() {
 
 fn main() {
     let n = os::arg_count();
-    if n < 2 {
-        help();
-        return;
-    }
-    if (n == 2) & saying::is_word(1, b"help") {
+    if saying::asks_help(n) {
         help();
         return;
     }

@@ -317,7 +317,7 @@ fn judge_second(
 {
     let judged = lists::judge(second);
     match judged {
-        Judged::Refused(f) => words::print_refused_of(f, b" of the second list"),
+        Judged::Refused(f) => words::print_refused_of(f, b" (second list)"),
         Judged::Accepted(m) => print_asked(first, n, second, m, store, clock, vehicle, all),
     }
 }
@@ -325,7 +325,7 @@ fn judge_second(
 fn judge_first(first: &[u8], second: &[u8], store: &[u8], clock: u32, vehicle: usize, all: bool) {
     let judged = lists::judge(first);
     match judged {
-        Judged::Refused(f) => words::print_refused_of(f, b" of the first list"),
+        Judged::Refused(f) => words::print_refused_of(f, b" (first list)"),
         Judged::Accepted(n) => judge_second(first, n, second, store, clock, vehicle, all),
     }
 }
@@ -368,11 +368,7 @@ fn ask(words: usize) {
 
 fn main() {
     let n = os::arg_count();
-    if n < 2 {
-        help();
-        return;
-    }
-    if (n == 2) & saying::is_word(1, b"help") {
+    if saying::asks_help(n) {
         help();
         return;
     }

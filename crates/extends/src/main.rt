@@ -44,11 +44,7 @@ fn compare() {
 
 fn main() {
     let n = os::arg_count();
-    if n < 2 {
-        help();
-        return;
-    }
-    if (n == 2) & saying::is_word(1, b"help") {
+    if saying::asks_help(n) {
         help();
         return;
     }

@@ -48,17 +48,13 @@ fn judge() {
 
 fn main() {
     let n = os::arg_count();
-    if n < 2 {
+    if saying::asks_help(n) {
         help();
         return;
     }
-    if 2 < n {
-        saying::print_usage(b"judge LIST");
+    if n == 2 {
+        judge();
         return;
     }
-    if saying::is_word(1, b"help") {
-        help();
-        return;
-    }
-    judge();
+    saying::print_usage(b"judge LIST");
 }

@@ -69,6 +69,14 @@ pub fn is_word(i: usize, expected: &[u8]) -> bool {
     check::same(&word[..n], expected)
 }
 
+// Whether a program of n words, its own name among them, is asked what it takes.
+pub fn asks_help(n: usize) -> bool {
+    if n < 2 {
+        return true;
+    }
+    (n == 2) & (is_word(1, b"help") | is_word(1, b"--help"))
+}
+
 // What would break the line is shown as a question mark.
 fn shown(octet: u8) -> u8 {
     if (octet < 32) | (octet == 127) {

@@ -5,6 +5,7 @@ mod line;
 
 pub use argument::Clock;
 pub use argument::Number;
+pub use argument::asks_help;
 pub use argument::clock_argument;
 pub use argument::is_word;
 pub use argument::number_argument;
