@@ -3,23 +3,23 @@
 use Prim.Native.Nat.{ℕ, zero, suc, _+_, _-_, _*_, _/_, _%_, _^_, _≤_, _<_}
 use mathlib.Core.Path.{_≡_, refl, sym, ap, _∙_}
 use mathlib.Core.Logic.{_⊎_, inl, inr, ⊎-elim}
-use mathlib.Core.Bool.{Bool, true, false, not, cond}
+use mathlib.Core.Bool.{Bool, true, false, not, cond, _||_}
 use mathlib.Core.List.{List}
 use native.Mathlib.Nat.{zero-div}
 use native.Mathlib.Omega.{arith}
 use native.Mathlib.Decide.{ℕ-discrete}
 use lib.ListN.{length, getD, replicate, length-replicate}
 use lib.Dec.{eqb, lit<}
-use borrow.Author.Tests.{ltb-true, ltb-false, leb-true, eqb-true, eqb-false, le-leb, not-false}
+use borrow.Author.Tests.{ltb-true, ltb-false, leb-true, eqb-true, eqb-false, eq-eqb, lt-ltb, le-ltb, le-leb, not-false}
 use Rattle.paper.specs.Octets.{octet, bit, field, puts, Octets}
-use Rattle.paper.specs.Answer.{gives}
+use Rattle.paper.specs.Answer.{gives, refuseIf}
 use Rattle.paper.specs.First.{firstBad}
 use Rattle.paper.specs.Telegrams.{applicationType, telegramType, isType, typeLength, carries, markWidth}
 use Rattle.paper.specs.SignalList.{SignalList, Counts, fieldEnd, greatestSince, judge, listOf}
 use Rattle.paper.specs.Extends.{version, knows}
 use Rattle.paper.specs.Composing.{writesSignal, writesCheck, headed, signalPut, checkPut, composed, markFits, valueFits, composing}
 use Rattle.paper.proofs.AnswerLaws.{not-refused, and-then, gives-one}
-use Rattle.paper.proofs.FirstLaws.{first-passed, greatest-least, greatest-at, greatest-most}
+use Rattle.paper.proofs.FirstLaws.{first-passed, first-none, greatest-least, greatest-at, greatest-most}
 use Rattle.paper.proofs.FieldLaws.{fieldOf, field-octet, octet-field}
 use Rattle.paper.proofs.PutsLaws.{Disjoint, length-puts, octets-puts, bit-puts-other, field-puts-other, field-puts}
 use Rattle.paper.proofs.ListLaws.{both, either, other, Kept, fields-apart, checks-apart}
@@ -44,6 +44,8 @@ module _ (l : SignalList) where
 
 pub record Fitting (l : SignalList) (type : ℕ) (values marks : List ℕ) : Type 0 where
   pub typed : isType type ≡ true
+  pub valued : length values ≡ l .signals
+  pub marked : length marks ≡ l .checks
   pub value : (k : ℕ) → k < l .signals → writesSignal l type k ≡ true → (getD values k 0 < 2 ^ l .signal k .width) × (knows l k (getD values k 0) ≡ true)
   pub mark : (j : ℕ) → j < l .checks → writesCheck l type j ≡ true → getD marks j 0 < 4
 
@@ -65,6 +67,7 @@ composes xs type values marks room telegram e =
     let c = not-refused _ _ _ _ _ (b .1) in
     let d = not-refused _ _ _ _ _ (c .1) in
     let f = not-refused _ _ _ _ _ (d .1) in
+    let each = both _ _ (not-false _ (b .0)) in
     let marksFit : l .checks ≤ firstBad (markFits l type marks) (l .checks) = ltb-false _ _ (c .0) in
     let valuesFit : l .signals ≤ firstBad (valueFits l type values) (l .signals) = ltb-false _ _ (d .0) in
     record {
@@ -72,6 +75,8 @@ composes xs type values marks room telegram e =
       accepted = o .1 .0;
       fitting = record {
         typed = not-false _ (a .0);
+        valued = eqb-true _ _ (each .0);
+        marked = eqb-true _ _ (each .1);
         value = λ k lt w.
             let p = both _ _ (other _ _ (first-passed (valueFits l type values) (l .signals) k (omega arith)) (ap not w)) in
             (ltb-true _ _ (p .0), p .1);
@@ -80,6 +85,33 @@ composes xs type values marks room telegram e =
       };
       is = sym (gives-one _ _ _ (f .1) refl);
     }
+
+-- what is not written is not tested
+where-written : (written fits : Bool) → (written ≡ true → fits ≡ true) → (not written || fits) ≡ true
+where-written true fits h = h refl
+where-written false fits h = refl
+
+-- and what passes the tests is composed, where the room is the type's length
+pub composes-it : (xs : List ℕ) (n : Counts) (type : ℕ) (values marks : List ℕ) (room : ℕ) → judge xs ≡ gives n → Fitting (listOf xs n) type values marks
+    → room ≡ typeLength type → composing xs type values marks room ≡ gives (composed (listOf xs n) type values marks)
+unfolding composing refuseIf markFits valueFits
+composes-it xs n type values marks room e fit long =
+    let l = listOf xs n in
+    let marksFit : firstBad (markFits l type marks) (l .checks) ≡ l .checks =
+    first-none (markFits l type marks) (l .checks)
+    (λ j lt. where-written _ _ (λ w. let m = fit .mark j lt w in le-leb (getD marks j 0) 3 (omega arith))) in
+    let valuesFit : firstBad (valueFits l type values) (l .signals) ≡ l .signals =
+    first-none (valueFits l type values) (l .signals)
+    (λ k lt. where-written _ _ (λ w. let v = fit .value k lt w in rw (lt-ltb _ _ (v .0)) (v .1))) in
+    rw (
+      e,
+      fit .typed,
+      eq-eqb _ _ (fit .valued),
+      eq-eqb _ _ (fit .marked),
+      le-ltb (firstBad (markFits l type marks) (l .checks)) (l .checks) (omega arith),
+      le-ltb (firstBad (valueFits l type values) (l .signals)) (l .signals) (omega arith),
+      eq-eqb _ _ long,
+    )
 
 -- ---- zeros
 

@@ -8,13 +8,14 @@ use lib.Ieee.{binary32, ofBits, round}
 use Rattle.paper.specs.Octets.{bit, field, withBit, setBit, put, puts, number, octetsOf, over}
 use Rattle.paper.specs.Answer.{Answer, gives, refuseIf, after}
 use Rattle.paper.specs.First.{firstFrom, firstBad, all, some, count, greatest}
-use Rattle.paper.specs.Telegrams.{applicationType, telegramType, versionOf}
+use Rattle.paper.specs.Telegrams.{applicationType, telegramType, versionOf, ok}
 use Rattle.paper.specs.SignalList
 use Rattle.paper.specs.SignalList.{judge}
-use Rattle.paper.specs.Extends.{hasCodes, inRange, knownIn, knows, placeOf}
+use Rattle.paper.specs.Extends.{version, hasCodes, inRange, knownIn, knows, placeOf}
 use Rattle.paper.specs.Store.{storeOctets, slotOf, taken, taking, age}
 use Rattle.paper.specs.Reading.{Reading, heard, markOf, codeOf, hindrances, reasonOf, readingOf, readingAt, reading}
 use Rattle.paper.specs.Marshalling.{Marshalled, routed, marshalled, live, marshalling}
+use Rattle.paper.specs.Composing.{headed, composed, markFits, valueFits, composing}
 use Rattle.paper.specs.Shown.{speed, Shown, asSpeed, showing}
 use Rattle.paper.specs.Bench.{listL}
 
@@ -99,3 +100,8 @@ marked-at i d e =
     sym (List·getD-map (λ (r : Row). response (r .asked)) table i d)
     ∙ ap₂ (λ (l : List Response) (x : Response). getD l i x) marked e
     ∙ List·getD-map (λ (r : Row). r .expected) table i d
+
+-- the other way: an R1 composed under L with the value 4 and the mark ok is the telegram of (a)
+pub composed-a : composing listL 1 (4 ∷ []) (ok ∷ []) 128 ≡ gives (telegram 0x10 0x40)
+unfolding telegram listL withBit setBit put puts number refuseIf firstFrom firstBad all some greatest SignalList.checkAt SignalList.signalAt SignalList.codeAt SignalList.routeAt SignalList.checkRule SignalList.signalRule SignalList.codeRule SignalList.routeRule SignalList.opening SignalList.judgeEntries SignalList.judgeSection SignalList.greatestSince SignalList.ending SignalList.fromRoutes SignalList.fromCodes SignalList.fromSignals judge hasCodes inRange knownIn knows version headed composed markFits valueFits composing
+composed-a = refl
