@@ -1,7 +1,7 @@
 -- Marshalled data: each destination field holds its reading, every other bit is as before, and a field routed from one vehicle depends
 -- on no other vehicle's slot. Assumes nothing.
 use Prim.Native.Nat.{ℕ, _*_, _^_, _≤_, _<_}
-use mathlib.Core.Path.{_≡_, refl, ap}
+use mathlib.Core.Path.{_≡_, refl, sym, ap, _∙_}
 use mathlib.Core.Logic.{inr}
 use mathlib.Core.Bool.{Bool, true, false, cond}
 use mathlib.Core.List.{List}
@@ -13,7 +13,7 @@ use Rattle.paper.specs.Answer.{gives}
 use Rattle.paper.specs.First.{count}
 use Rattle.paper.specs.SignalList.{SignalList, Counts, routeEnd, judge, listOf}
 use Rattle.paper.specs.Store.{Slot, storeOctets, slotOf}
-use Rattle.paper.specs.Reading.{codeOf, reasonOf, readingOf, readingAt}
+use Rattle.paper.specs.Reading.{Reading, codeOf, reasonOf, readingOf, readingAt}
 use Rattle.paper.specs.Marshalling.{routed, routePut, marshalled, live, Marshalled, marshalling}
 use Rattle.paper.proofs.AnswerLaws.{not-refused, and-then, gives-one}
 use Rattle.paper.proofs.FirstLaws.{some-none}
@@ -91,8 +91,25 @@ other-bit xs store now bus m h a out =
     let l = listOf xs (h .counts) in
     rw (h .octets) (outside-routes l (kept xs (h .counts) (h .accepted)) store now bus a out)
 
--- "A field routed from one vehicle depends on no other vehicle's slot."
-pub no-other-slot : (l : SignalList) (store store′ : List ℕ) (now r : ℕ) → slotOf store (l .route r .vehicle) ≡ slotOf store′ (l .route r .vehicle)
+-- what a route reads, value and reason, depends on no other vehicle's slot
+pub routed-alike : (l : SignalList) (store store′ : List ℕ) (now r : ℕ) → slotOf store (l .route r .vehicle) ≡ slotOf store′ (l .route r .vehicle)
     → routed l store now r ≡ routed l store′ now r
 unfolding routed
-no-other-slot l store store′ now r e = isolation l store store′ now (l .route r .vehicle) (l .route r .signal) e
+routed-alike l store store′ now r e = isolation l store store′ now (l .route r .vehicle) (l .route r .signal) e
+
+-- "A field routed from one vehicle depends on no other vehicle's slot": of two stores that agree on that slot, whatever data went in
+module _ (xs : List ℕ) (n : Counts) (accepted : judge xs ≡ gives n) (now r : ℕ) (lt : r < n .routes) where
+  -- the field of the route's destination, in the data afterwards
+  arrived : (store bus : List ℕ) (m : Marshalled) → marshalling xs store now bus ≡ gives m
+      → let l = listOf xs n in field (m .octets) (l .route r .start) (l .signal (l .route r .signal) .width) ≡ routed l store now r .value
+  unfolding routed
+  arrived store bus m e =
+      let h = marshals xs store now bus m e in
+      let q : h .counts ≡ n = gives-one (judge xs) _ _ (h .accepted) accepted in
+      rw q at (destination xs store now bus m h r (rw q lt))
+
+  pub no-other-slot : (store store′ bus bus′ : List ℕ) (m m′ : Marshalled) → marshalling xs store now bus ≡ gives m → marshalling xs store′ now bus′ ≡ gives m′
+      → let l = listOf xs n in slotOf store (l .route r .vehicle) ≡ slotOf store′ (l .route r .vehicle)
+      → field (m .octets) (l .route r .start) (l .signal (l .route r .signal) .width) ≡ field (m′ .octets) (l .route r .start) (l .signal (l .route r .signal) .width)
+  no-other-slot store store′ bus bus′ m m′ e e′ same =
+      arrived store bus m e ∙ ap (λ (x : Reading). x .value) (routed-alike (listOf xs n) store store′ now r same) ∙ sym (arrived store′ bus′ m′ e′)
