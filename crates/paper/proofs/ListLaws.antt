@@ -1,4 +1,5 @@
--- What an accepted list keeps: one law per section, in numbers and orders, and what follows for two entries. Assumes nothing.
+-- What an accepted list keeps: one law per section, in numbers and orders, that what keeps it is accepted, and what follows for two
+-- entries. Assumes nothing.
 use Prim.Native.Nat.{ℕ, zero, suc, _+_, _-_, _*_, _%_, _^_, _≤_, _<_, zero-le}
 use mathlib.Core.Path.{_≡_, refl, sym, ap}
 use mathlib.Core.Logic.{_⊎_, inl, inr, ⊎-elim}
@@ -9,13 +10,13 @@ use native.Mathlib.Decide.{decLt, ℕ-discrete}
 use native.Mathlib.Omega.{arith}
 use lib.ListN.{length, length-drop}
 use lib.Dec.{ltb, leb, eqb}
-use borrow.Author.Tests.{ltb-true, ltb-false, leb-true, eqb-true, eqb-false, ne-eqb, not-true, not-false}
+use borrow.Author.Tests.{ltb-true, ltb-false, leb-true, eqb-true, eqb-false, le-ltb, ne-eqb, not-true, not-false}
 use Rattle.paper.specs.Octets.{number}
 use Rattle.paper.specs.Answer.{Answer, gives, refused, refuseIf, andThen, shift}
 use Rattle.paper.specs.First.{firstBad}
 use Rattle.paper.specs.SignalList.{Signal, Code, Route, fieldEnd, routeEnd, entry, rest, checkSize, signalSize, codeSize, routeSize, mostChecks, mostSignals, mostCodes, mostRoutes, widest, checkAt, signalAt, codeAt, routeAt, checkRule, placeRule, namedRule, orderRule, apart, signalRule, codeRule, routeRule, opening, judgeEntries, judgeSection, greatestSince, Counts, ending, fromRoutes, fromCodes, fromSignals, judge, SignalList, listOf, signalsPart, codesPart, routesPart}
 use Rattle.paper.proofs.AnswerLaws.{not-refused, and-then, not-shifted, gives-one}
-use Rattle.paper.proofs.FirstLaws.{first-passed, all-at}
+use Rattle.paper.proofs.FirstLaws.{first-passed, first-none, all-at}
 
 -- ---- a test made of tests, taken apart and put together
 
@@ -78,6 +79,16 @@ holds-of limit size rule xs n e =
     let o = and-then (opening limit size xs) (judgeEntries size rule) n e in
     let p = entries-of size rule (o .0) n (o .1 .1) in
     record { opens = opened-of limit size xs n (rw (p .0) at (o .1 .0)); entries = λ k h. p .1 k (omega (arith, p .0)) }
+
+-- and what keeps that is accepted
+opens-it : (limit size : ℕ) (xs : List ℕ) (n : ℕ) → Opened limit size xs n → opening limit size xs ≡ gives n
+unfolding opening refuseIf
+opens-it limit size xs n h =
+    rw (le-ltb (length xs) 2 (omega (arith, h .present)), ← h .count, le-ltb _ _ (h .within), le-ltb _ _ (h .present))
+
+section-it : (limit size : ℕ) (rule : ℕ → Bool) (xs : List ℕ) (n : ℕ) → Holds limit size rule xs n → judgeSection limit size rule xs ≡ gives n
+unfolding judgeSection judgeEntries refuseIf
+section-it limit size rule xs n h = rw (opens-it limit size xs n (h .opens), first-none rule n (h .entries), le-ltb n n (le-refl n))
 
 -- ---- the rule of an entry, as facts on numbers; stated over the tables, for any layout of the octets
 
@@ -338,6 +349,35 @@ laid xs n e =
       ends = rw q at (d .1 .1 .0);
       version = sym (ap (λ (m : Counts). m .version) (d .1 .1 .1));
     }
+
+-- and a list that is laid out so is accepted: 1-4 are given exactly when some rule is broken
+pub accepts-it : (xs : List ℕ) (n : Counts) → Laid xs n → judge xs ≡ gives n
+unfolding judge fromSignals fromCodes fromRoutes ending refuseIf
+accepts-it xs n h =
+    rw (
+      section-it _ _ _ _ _ (h .checks),
+      section-it _ _ _ _ _ (h .signals),
+      section-it _ _ _ _ _ (h .codes),
+      section-it _ _ _ _ _ (h .routes),
+      le-ltb _ _ (h .ends),
+      ← h .version,
+    )
+
+-- "The longest list has 10,376 octets."
+pub longest : (xs : List ℕ) (n : Counts) → judge xs ≡ gives n → length xs ≤ 10376
+longest xs n e =
+    let h = laid xs n e in
+    omega (
+      arith,
+      h .checks .opens .within,
+      h .signals .opens .within,
+      h .codes .opens .within,
+      h .routes .opens .within,
+      h .ends,
+      length-drop (entry checkSize (n .checks)) xs,
+      length-drop (entry signalSize (n .signals)) (signalsPart xs n),
+      length-drop (entry codeSize (n .codes)) (codesPart xs n),
+    )
 
 pub kept-of : (xs : List ℕ) (n : Counts) → Laid xs n → Kept (listOf xs n)
 kept-of xs n h = record {
