@@ -1,11 +1,11 @@
 # A must-fail edit shows something only where a fact fails: an answer of a proof file that is refused, or, of a function that needs no
-# file, a fact that the search no longer closes. Where the first error is that the proof file no longer fits the code, the edit shows
-# nothing, and the gate fails.
+# file, a fact that the search no longer closes. Where the first error is that the proof file no longer fits the code, or that a name is
+# unknown, the edit shows nothing, and the gate fails.
 status=0
 for log in $(find target/must-fail -name .log | sort); do
     first=$(grep -m 1 -e ': error: ' -e ': no proof: .* does not close' "$log")
     case $first in
-    *'that can be named from here'*) echo "$log: the edit only made the proof file unfit: $first"; status=1 ;;
+    *'that can be named from here'* | *'is not in scope'*) echo "$log: the edit only made a file unfit: $first"; status=1 ;;
     '') echo "$log: no error found"; status=1 ;;
     esac
 done
