@@ -1,6 +1,6 @@
 -- The demands over the definitions: what is composed reads back (demand 2), and what a reader of an extending or an extended list is
 -- given (demand 3). Assumes nothing.
-use Prim.Native.Nat.{ℕ, _+_, _-_, _*_, _/_, _%_, _^_, _≤_, _<_}
+use Prim.Native.Nat.{ℕ, zero, suc, _+_, _-_, _*_, _/_, _%_, _^_, _≤_, _<_}
 use mathlib.Core.Path.{_≡_, refl, sym, ap, _∙_}
 use mathlib.Core.Logic.{_⊎_, inl, inr, ⊎-elim}
 use mathlib.Core.Bool.{Bool, true, false, not, cond, false≢true}
@@ -12,7 +12,7 @@ use lib.Dec.{ltb, leb, eqb}
 use borrow.Author.Tests.{leb-true, le-leb, le-ltb, lt-ltb, ne-eqb, eq-eqb}
 use Rattle.paper.specs.Octets.{octet, bit, field}
 use Rattle.paper.specs.Answer.{gives, refuseIf}
-use Rattle.paper.specs.First.{firstOf}
+use Rattle.paper.specs.First.{some, firstOf}
 use Rattle.paper.specs.Telegrams.{applicationType, telegramType, versionOf, typeLength, carries, error, ok, forced, undefined, markWidth}
 use Rattle.paper.specs.SignalList.{Signal, SignalList, Counts, judge, listOf}
 use Rattle.paper.specs.Extends.{version, knows, placeOf, same}
@@ -21,9 +21,11 @@ use Rattle.paper.specs.Reading.{Reading, heard, markOf, codeOf, hindranc
 use Rattle.paper.specs.Composing.{composed, composing}
 use Rattle.paper.specs.Demands.{Standing, givenMark, delivered, withheld}
 use Rattle.paper.proofs.AnswerLaws.{goes-on, gives-one}
+use Rattle.paper.proofs.FirstLaws.{some-none, some-at}
 use Rattle.paper.proofs.FieldLaws.{field-ext}
 use Rattle.paper.proofs.ListLaws.{Kept, kept}
 use Rattle.paper.proofs.StoreLaws.{type-least, takes-it, padded, stood, standing-slot, standing-whole}
+use Rattle.paper.proofs.ReadingLaws.{mark-lt}
 use Rattle.paper.proofs.ExtendsLaws.{Agree, agree-itself, Related, agree, only-newer, same-of}
 use Rattle.paper.proofs.ComposingLaws.{version-least, version-at, Fitting, Composes, composes, carried-within, named-written, length-composed, composed-application, composed-type, composed-version, composed-signal, composed-check}
 
@@ -55,6 +57,47 @@ as-given : (l : SignalList) (k mark value : ℕ) → (mark ≡ ok) ⊎ (mark ≡
     → delivered l k mark value ≡ record { value = value; reason = cond (eqb mark forced) 1 0 }
 as-given l k mark value (inl e) h = rw (e, h)
 as-given l k mark value (inr e) h = rw (e, h)
+
+-- ---- what demand 3 names
+
+-- signal i of the writer's list is signal j of the reader's, by type and start, and the type carries it
+pub record Shared (w r : SignalList) (type i j : ℕ) : Type 0 where
+  pub there : i < w .signals
+  pub one : same (w .signal i) (r .signal j) ≡ true
+  pub carried : carries type (r .signal j .type) ≡ true
+
+-- what a reader may be given of its signal j, in the words of the demand: the written value with its mark (0, 1), its own replacement for a
+-- bad mark (6, 7) or a code unknown to it (8), or for a signal that the type doesn't carry (4) or that only its own list has (5)
+pub data Named (w r : SignalList) (type : ℕ) (values marks : List ℕ) (j : ℕ) : Reading → Type 0 where
+  live-ok : (i : ℕ) → Shared w r type i j → givenMark marks (w .signal i) ≡ ok → knows r j (getD values i 0) ≡ true
+      → Named w r type values marks j (record { value = getD values i 0; reason = 0 })
+  live-forced : (i : ℕ) → Shared w r type i j → givenMark marks (w .signal i) ≡ forced → knows r j (getD values i 0) ≡ true
+      → Named w r type values marks j (record { value = getD values i 0; reason = 1 })
+  not-carried : carries type (r .signal j .type) ≡ false → Named w r type values marks j (record { value = r .signal j .replacement; reason = 4 })
+  newer : carries type (r .signal j .type) ≡ true → ((i : ℕ) → i < w .signals → same (w .signal i) (r .signal j) ≡ true → ⊥)
+      → Named w r type values marks j (record { value = r .signal j .replacement; reason = 5 })
+  mark-error : (i : ℕ) → Shared w r type i j → givenMark marks (w .signal i) ≡ error
+      → Named w r type values marks j (record { value = r .signal j .replacement; reason = 6 })
+  mark-undefined : (i : ℕ) → Shared w r type i j → givenMark marks (w .signal i) ≡ undefined
+      → Named w r type values marks j (record { value = r .signal j .replacement; reason = 7 })
+  code-unknown : (i : ℕ) → Shared w r type i j → (givenMark marks (w .signal i) ≡ ok) ⊎ (givenMark marks (w .signal i) ≡ forced)
+      → knows r j (getD values i 0) ≡ false → Named w r type values marks j (record { value = r .signal j .replacement; reason = 8 })
+
+-- what is delivered is named, by its mark and whether the reader knows the code
+delivered-named : (w r : SignalList) (type : ℕ) (values marks : List ℕ) (i j : ℕ) → Shared w r type i j → givenMark marks (w .signal i) < 4
+    → Named w r type values marks j (delivered r j (givenMark marks (w .signal i)) (getD values i 0))
+delivered-named w r type values marks i j s small = by (givenMark marks (w .signal i)) refl small (knows r j (getD values i 0)) refl
+  where
+    by : (mark : ℕ) → givenMark marks (w .signal i) ≡ mark → mark < 4 → (known : Bool) → knows r j (getD values i 0) ≡ known
+        → let reason = firstOf 6 (eqb mark error ∷ eqb mark undefined ∷ not known ∷ []) (cond (eqb mark forced) 1 0) in
+        Named w r type values marks j (record { value = cond (leb 2 reason) (r .signal j .replacement) (getD values i 0); reason = reason })
+    by zero e lt known k = mark-error i s e
+    by (suc zero) e lt true k = live-ok i s e k
+    by (suc zero) e lt false k = code-unknown i s (inl e) k
+    by (suc (suc zero)) e lt true k = live-forced i s e k
+    by (suc (suc zero)) e lt false k = code-unknown i s (inr e) k
+    by (suc (suc (suc zero))) e lt known k = mark-undefined i s e
+    by (suc (suc (suc (suc mark)))) e lt known k = absurd (omega arith)
 
 -- ---- a telegram of the writer's list, as it stands in a slot
 
@@ -225,6 +268,41 @@ module _ (xs : List ℕ) (type : ℕ) (values marks : List ℕ) (room : ℕ) (te
         let r = listOf ys n in
         arrived _
         (sent-withheld w (kept xs m writer) type values marks fitted r stamp now j (stands .within) (⊎-elim (λ a. inl a) (λ a. inr (only-newer w r related j hj a)) d))
+
+    -- DEMAND 3, whole: of every signal of its list the reader is given one of the readings that the demand names. Never another value
+    pub never-another : Related (listOf xs m) (listOf ys n)
+        → (given : Reading) × ((Named (listOf xs m) (listOf ys n) type values marks j given) × (reading ys store now v j ≡ gives given))
+    never-another related = by (carries type (r .signal j .type)) refl (some (λ i. same (w .signal i) (r .signal j)) (w .signals)) refl
+      where
+        w : SignalList
+        w = listOf xs m
+
+        r : SignalList
+        r = listOf ys n
+
+        replaced : (b : Bool) → carries type (r .signal j .type) ≡ b → reading ys store now v j ≡ gives (withheld r type j)
+            → reading ys store now v j ≡ gives (record { value = r .signal j .replacement; reason = cond b 5 4 })
+        replaced b e q = q ∙ ap (λ (x : Bool). gives (record { value = r .signal j .replacement; reason = cond x 5 4 })) e
+
+        by : (b : Bool) → carries type (r .signal j .type) ≡ b → (c : Bool) → some (λ i. same (w .signal i) (r .signal j)) (w .signals) ≡ c
+            → (given : Reading) × ((Named w r type values marks j given) × (reading ys store now v j ≡ gives given))
+        by false e c q = (record { value = r .signal j .replacement; reason = 4 }, (not-carried e, replaced false e (only-reader related (inl e))))
+        by true e false q =
+            let none : (i : ℕ) → i < w .signals → same (w .signal i) (r .signal j) ≡ true → ⊥ =
+            λ i hi s. false≢true (sym (some-none (λ i. same (w .signal i) (r .signal j)) (w .signals) q i hi) ∙ s) in
+            (record { value = r .signal j .replacement; reason = 5 }, (newer e none, replaced true e (only-reader related (inr none))))
+        by true e true q =
+            let t = some-at (λ i. same (w .signal i) (r .signal j)) (w .signals) q in
+            let i = t .0 in
+            let p = same-of (w .signal i) (r .signal j) (t .1 .1) in
+            let a = agree w r (kept xs m writer) (kept ys n reader) related i j (t .1 .0) hj (p .0) (p .1) in
+            let small = rw (sent-mark w (kept xs m writer) type values marks fitted r stamp now j (stands .within) i (t .1 .0) a e (kept ys n reader) hj) at (mark-lt r (r .signal j) (padded (composed w type values marks))) in (
+              delivered r j (givenMark marks (w .signal i)) (getD values i 0),
+              (
+                delivered-named w r type values marks i j (record { there = t .1 .0; one = t .1 .1; carried = e }) small,
+                both-have related i (t .1 .0) (t .1 .1) e,
+              ),
+            )
 
   -- DEMAND 2, reading back: what is composed with a mark ok or forced, or no check, reads back within its time limit as given
   pub read-back : (v stamp now k : ℕ) (store : List ℕ) → k < m .signals → carries type (listOf xs m .signal k .type) ≡ true
