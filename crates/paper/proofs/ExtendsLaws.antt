@@ -3,11 +3,14 @@ use Prim.Native.Nat.{ℕ, _-_, _^_, _≤_, _<_}
 use mathlib.Core.Path.{_≡_, refl, sym, ap, _∙_}
 use mathlib.Core.Logic.{_⊎_, inl, inr, ⊎-elim}
 use mathlib.Core.Bool.{Bool, true, false, not, _||_, or-true}
+use mathlib.Core.List.{List}
 use native.Mathlib.Omega.{arith}
 use borrow.Author.Tests.{ltb-true, eqb-true, eq-eqb, lt-ltb}
+use Rattle.paper.specs.Answer.{Answer, gives, refused}
 use Rattle.paper.specs.First.{some}
-use Rattle.paper.specs.SignalList.{Signal, SignalList, greatestSince}
-use Rattle.paper.specs.Extends.{version, knows, placeOf, same, codesKept, keeps, stands, newer, extends}
+use Rattle.paper.specs.SignalList.{Signal, SignalList, Counts, greatestSince, judge, listOf}
+use Rattle.paper.specs.Extends.{version, knows, placeOf, same, codesKept, keeps, stands, newer, extends, Extending, extending, firstRefused, secondRefused, extendingBy, extendsLists}
+use Rattle.paper.proofs.AnswerLaws.{gives-one}
 use Rattle.paper.proofs.FirstLaws.{all-at, all-true, some-at, some-true, greatest-least, greatest-at, greatest-most}
 use Rattle.paper.proofs.ListLaws.{both, either, other, Kept, one-place}
 
@@ -102,6 +105,38 @@ only-newer a b (inr e) j hj none =
     let w = extended b a e .stands-in j hj in
     let g = w .1 .1 .agrees in
     absurd (none (w .0) (w .1 .0) (same-true (a .signal (w .0)) (b .signal j) (sym (g .type)) (sym (g .start))))
+
+-- ---- what the answer of a call on two lists tells
+
+by-yes : {A : Type 0} (x : Answer A) (refusal : ℕ → ℕ → Extending) (next : A → Extending) → ((n at : ℕ) → refusal n at ≡ extending true → ⊥)
+    → extendingBy x refusal next ≡ extending true → (a : A) × ((x ≡ gives a) × (next a ≡ extending true))
+by-yes (gives a) refusal next none e = (a, (refl, e))
+by-yes (refused n at) refusal next none e = absurd (none n at e)
+
+-- a yes: both lists are accepted, and the second extends the first
+pub record ExtendsYes (xs ys : List ℕ) : Type 0 where
+  pub first : Counts
+  pub second : Counts
+  pub first-accepted : judge xs ≡ gives first
+  pub second-accepted : judge ys ≡ gives second
+  pub yes : extends (listOf xs first) (listOf ys second) ≡ true
+
+pub extends-yes : (xs ys : List ℕ) → extendsLists xs ys ≡ extending true → ExtendsYes xs ys
+unfolding extendsLists
+extends-yes xs ys e =
+    let a = by-yes (judge xs) firstRefused _ (λ n at q. let z : _≡_ {A = ℕ} 0 1 = cc in omega arith) e in
+    let b = by-yes (judge ys) secondRefused _ (λ n at q. let z : _≡_ {A = ℕ} 0 1 = cc in omega arith) (a .1 .1) in
+    record { first = a .0; second = b .0; first-accepted = a .1 .0; second-accepted = b .1 .0; yes = cc (b .1 .1) }
+
+-- so whichever of the two writes and whichever reads, they are related
+pub yes-related : (xs ys : List ℕ) → extendsLists xs ys ≡ extending true → (m n : Counts) → judge xs ≡ gives m → judge ys ≡ gives n
+    → (Related (listOf xs m) (listOf ys n)) × (Related (listOf ys n) (listOf xs m))
+yes-related xs ys e m n first second =
+    let h = extends-yes xs ys e in
+    let p : h .first ≡ m = gives-one (judge xs) (h .first) m (h .first-accepted) first in
+    let q : h .second ≡ n = gives-one (judge ys) (h .second) n (h .second-accepted) second in
+    let y : extends (listOf xs m) (listOf ys n) ≡ true = rw (p, q) at (h .yes) in
+    (inl y, inr y)
 
 -- ---- extending is an order
 
