@@ -8,15 +8,18 @@ use native.Mathlib.Omega.{arith}
 use native.Mathlib.Decide.{ℕ-discrete}
 use lib.ListN.{length, getD}
 use lib.Dec.{eqb}
-use borrow.Author.Tests.{ltb-false, eqb-false, not-false, le-leb, lt-leb, le-ltb, ne-eqb}
+use borrow.Author.Tests.{ltb-true, ltb-false, leb-true, eqb-true, eqb-false, not-false, le-leb, lt-leb, le-ltb, ne-eqb}
 use Rattle.paper.specs.Octets.{field}
+use Rattle.paper.specs.Answer.{gives}
 use Rattle.paper.specs.First.{firstOf}
 use Rattle.paper.specs.Telegrams.{telegramType, versionOf, carries, ok, forced, markWidth}
-use Rattle.paper.specs.SignalList.{Signal, SignalList}
+use Rattle.paper.specs.SignalList.{Signal, SignalList, Counts, judge, listOf}
 use Rattle.paper.specs.Extends.{knows, placeOf}
-use Rattle.paper.specs.Store.{Slot, slotOf, age, inTime}
-use Rattle.paper.specs.Reading.{heard, markOf, codeOf, hindrances, reasonOf, readingOf, readingAt}
+use Rattle.paper.specs.Store.{vehicles, storeOctets, Slot, slotOf, age, inTime}
+use Rattle.paper.specs.Reading.{Reading, heard, markOf, codeOf, hindrances, reasonOf, readingOf, readingAt, reading}
+use Rattle.paper.proofs.AnswerLaws.{not-refused, gives-one, and-then}
 use Rattle.paper.proofs.FieldLaws.{field-lt}
+use Rattle.paper.proofs.ListLaws.{both}
 
 -- ---- the first of numbered tests
 
@@ -162,3 +165,33 @@ module _ (l : SignalList) (slot : Slot) (now k : ℕ) where
 pub isolation : (l : SignalList) (store store′ : List ℕ) (now v k : ℕ) → slotOf store v ≡ slotOf store′ v → readingAt l store now v k ≡ readingAt l store′ now v k
 unfolding readingAt
 isolation l store store′ now v k e = ap (λ (s : Slot). readingOf l s now k) e
+
+-- ---- a reading as a call gives it
+
+-- what a reading that is not refused tells
+pub record Reads (xs store : List ℕ) (now v k : ℕ) (r : Reading) : Type 0 where
+  pub counts : Counts
+  pub accepted : judge xs ≡ gives counts
+  pub whole : length store ≡ storeOctets
+  pub first : 1 ≤ v
+  pub last : v ≤ vehicles
+  pub there : k < counts .signals
+  pub is : readingOf (listOf xs counts) (slotOf store v) now k ≡ r
+
+pub reads : (xs store : List ℕ) (now v k : ℕ) (r : Reading) → reading xs store now v k ≡ gives r → Reads xs store now v k r
+unfolding reading readingAt
+reads xs store now v k r e =
+    let o = and-then (judge xs) _ r e in
+    let a = not-refused _ _ _ _ _ (o .1 .1) in
+    let b = not-refused _ _ _ _ _ (a .1) in
+    let c = not-refused _ _ _ _ _ (b .1) in
+    let w = both _ _ (not-false _ (b .0)) in
+    record {
+      counts = o .0;
+      accepted = o .1 .0;
+      whole = eqb-true _ _ (not-false _ (a .0));
+      first = leb-true _ _ (w .0);
+      last = leb-true _ _ (w .1);
+      there = ltb-true _ _ (not-false _ (c .0));
+      is = gives-one _ _ _ refl (c .1);
+    }
