@@ -11,7 +11,7 @@ use Rattle.paper.specs.Telegrams.{carries, ok, forced}
 use Rattle.paper.specs.SignalList.{Counts, judge, listOf}
 use Rattle.paper.specs.Extends.{same}
 use Rattle.paper.specs.Store.{vehicles, storeOctets, taking, taken, turn, age, inTime}
-use Rattle.paper.specs.Reading.{reading}
+use Rattle.paper.specs.Reading.{Reading, reading}
 use Rattle.paper.specs.Composing.{composing}
 use Rattle.paper.specs.Demands.{Step, offer, run, NoneLater, Standing, givenMark, delivered, withheld}
 use Rattle.paper.proofs.StoreLaws.{takes}
@@ -127,6 +127,14 @@ module _ (xs : List ℕ) (type : ℕ) (values marks : List ℕ) (v stamp : ℕ) 
   only-reader m n writer reader related hk d within =
       c .read
       ∙ paper.only-reader xs type values marks (length (c .out)) (c .telegram) sent m writer ys n reader v stamp now k (c .store) hk (standing _ within) related d
+
+  -- DEMAND 3, whole: every signal of the reader's list comes with one of the readings that the demand names. Never another value
+  pub never-another : (m n : Counts) → judge xs ≡ gives m → judge ys ≡ gives n → Related (listOf xs m) (listOf ys n) → k < n .signals
+      → inTime (age now stamp) (listOf ys n .signal k .limit) ≡ true
+      → (given : Reading) × ((paper.Named (listOf xs m) (listOf ys n) type values marks k given) × (readAnswer r ≡ gives given))
+  never-another m n writer reader related hk within =
+      let t = paper.never-another xs type values marks (length (c .out)) (c .telegram) sent m writer ys n reader v stamp now k (c .store) hk (standing _ within) related in
+      (t .0, (t .1 .0, c .read ∙ t .1 .1))
 
 -- DEMAND 2, reading back under the list that it was composed with: a signal that the type carries, with a mark ok or forced, or no check,
 -- reads back within its time limit as given
