@@ -4,6 +4,7 @@ use Prim.Native.Nat.{ℕ, suc, _+_, _-_, _*_, _^_, _≤_, _<_, zero-le}
 use mathlib.Core.Path.{_≡_, refl, sym, ap, _∙_}
 use mathlib.Core.Logic.{_⊎_, inl, inr}
 use mathlib.Core.Bool.{Bool, true, false, not, _&&_, _||_, and-false, or-true}
+use mathlib.Core.List.{List}
 use native.Mathlib.Decide.{decLt, ℕ-discrete}
 use native.Mathlib.Omega.{arith}
 use lib.Dec.{ltb, leb, eqb}
@@ -12,12 +13,12 @@ use borrow.Author.Count.{below-none, below-more}
 use borrow.Author.Tests.{ltb-false, leb-true, eqb-true, lt-ltb, le-ltb, le-leb, lt-leb, eq-eqb, ne-eqb, not-false}
 use Rattle.paper.specs.Answer.{Answer, gives, refused}
 use Rattle.paper.specs.First.{firstBad, all, some}
-use Rattle.paper.specs.SignalList.{Signal, Code, SignalList}
-use Rattle.paper.specs.Extends.{Extending, extending, firstRefused, secondRefused, extendingBy, version, hasCodes, inRange, knownIn, knows, same, codesKept, keeps, stands, newer, extends}
+use Rattle.paper.specs.SignalList.{Signal, Code, SignalList, Counts, judge, listOf}
+use Rattle.paper.specs.Extends.{Extending, extending, firstRefused, secondRefused, extendingBy, version, hasCodes, inRange, knownIn, knows, same, codesKept, keeps, stands, newer, extends, extendsLists}
 use Rattle.paper.proofs.AnswerLaws.{one-answer}
 use Rattle.paper.proofs.FirstLaws.{first-fails, all-true, all-false, not-all, all-at, some-true, some-false, some-at}
 use Rattle.paper.proofs.ListLaws.{both, neither, other, Kept, types-rise, fields-rise}
-use Rattle.paper.proofs.ExtendsLaws.{same-of, same-true, keeps-of}
+use Rattle.paper.proofs.ExtendsLaws.{same-of, same-true, keeps-of, Related, yes-related}
 use Rattle.refusals.proofs.Laws.{numbered, numbered-of}
 use Rattle.known.specs.Known.{Ordered, codeKeys, Cut, Own}
 use Rattle.known.proofs.Laws.{Rising, ordered-of, in-range, in-none, is-within, cut-signal, reaches, outside}
@@ -369,6 +370,12 @@ module _ {A : Type 0} (x : Answer A) (refusal : ℕ → ℕ → Extending) (next
 
   pub by-given : (a : A) (y : Extending) → gives a ≡ x → y ≡ next a → y ≡ extendingBy x refusal next
   by-given a y e q = rw (← e) q
+
+-- ---- a call that answers yes has the premise of demand 3, whichever of the two lists writes
+
+pub answered-yes : (xs ys : List ℕ) → extendsAnswer Yes ≡ extendsLists xs ys → (m n : Counts) → judge xs ≡ gives m → judge ys ≡ gives n
+    → (Related (listOf xs m) (listOf ys n)) × (Related (listOf ys n) (listOf xs m))
+answered-yes xs ys e = yes-related xs ys (sym e)
 
 -- ---- the contract settles the answer
 
