@@ -1,0 +1,47 @@
+-- DEMAND 2 of the call `read`: when what it answers is live and which reason it gives otherwise, by nothing but what it ensures. Assumes nothing.
+use Prim.Native.Nat.{ℕ, _+_, _≤_, _<_}
+use mathlib.Core.Path.{_≡_, sym, ap, subst, _∙_}
+use mathlib.Core.Logic.{_↔_}
+use mathlib.Core.List.{List}
+use Rattle.paper.specs.Answer.{gives}
+use Rattle.paper.specs.SignalList.{Counts, judge, listOf}
+use Rattle.paper.specs.Store.{slotOf}
+use Rattle.paper.specs.Reading as paper
+use Rattle.paper.proofs.AnswerLaws.{gives-one}
+use Rattle.paper.proofs.ReadingLaws as laws
+use Rattle.reading.specs.declared.Reading.{Reading}
+use Rattle.reading.specs.declared.ReadOutcome.the-variants as R
+use Rattle.reading.specs.Reading.{asReading, readAnswer}
+
+module _ (xs store : List ℕ) (now v k : ℕ) (g : Reading) (read : readAnswer (R.Read g) ≡ paper.reading xs store now v k) where
+  -- the list was accepted, the store is whole, and the vehicle and the signal are there
+  pub read-tells : laws.Reads xs store now v k (asReading g)
+  read-tells = laws.reads xs store now v k (asReading g) (sym read)
+
+  module _ (n : Counts) (accepted : judge xs ≡ gives n) where
+    is : paper.readingOf (listOf xs n) (slotOf store v) now k ≡ asReading g
+    is =
+        let h = read-tells in
+        ap (λ (m : Counts). paper.readingOf (listOf xs m) (slotOf store v) now k) (gives-one (judge xs) n (h .counts) accepted (h .accepted)) ∙ h .is
+
+    -- "A value is live exactly when its telegram was heard, is within its time limit, carries the signal and is new enough, its mark .. is
+    -- ok or forced, and the code is known."
+    pub live-exactly : (g .reason ≤ 1) ↔ laws.Live (listOf xs n) (slotOf store v) now k
+    live-exactly = subst (λ (x : paper.Reading). (x .reason ≤ 1) ↔ laws.Live (listOf xs n) (slotOf store v) now k) is (laws.live-exactly (listOf xs n) (slotOf store v) now k)
+
+    -- "the first reason that applies": reason 2 + i exactly when test i is the first to hold
+    pub reason-exactly : (i : ℕ) → i < 7 → (g .reason ≡ 2 + i) ↔ laws.FirstAt (paper.hindrances (listOf xs n) (slotOf store v) now k) i
+    unfolding paper.readingOf
+    reason-exactly i lt =
+        subst (λ (x : paper.Reading). (x .reason ≡ 2 + i) ↔ laws.FirstAt (paper.hindrances (listOf xs n) (slotOf store v) now k) i) is
+        (laws.reason-exactly (listOf xs n) (slotOf store v) now k i lt)
+
+    -- a live value is the code in the signal's field, and any other the replacement
+    pub live-value : g .reason ≤ 1 → g .value ≡ paper.codeOf (listOf xs n .signal k) (slotOf store v .telegram)
+    live-value =
+        subst (λ (x : paper.Reading). x .reason ≤ 1 → x .value ≡ paper.codeOf (listOf xs n .signal k) (slotOf store v .telegram)) is
+        (laws.live-value (listOf xs n) (slotOf store v) now k)
+
+    pub replaced-value : 2 ≤ g .reason → g .value ≡ listOf xs n .signal k .replacement
+    replaced-value =
+        subst (λ (x : paper.Reading). 2 ≤ x .reason → x .value ≡ listOf xs n .signal k .replacement) is (laws.replaced-value (listOf xs n) (slotOf store v) now k)
