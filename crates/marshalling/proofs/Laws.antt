@@ -1,6 +1,6 @@
 -- The parts of marshalling are the paper's, and how its answer is put together. Assumes nothing.
 use Prim.Native.Nat.{ℕ, _+_, _-_, _*_, _/_, _≤_, _<_}
-use mathlib.Core.Path.{_≡_, refl, sym, ap, subst⁻¹, _∙_}
+use mathlib.Core.Path.{_≡_, refl, sym, ap, ap₂, subst⁻¹, _∙_}
 use mathlib.Core.Bool.{Bool, true, false, cond}
 use mathlib.Core.List.{List}
 use native.Mathlib.Omega.{arith}
@@ -10,13 +10,16 @@ use lib.ListN.{length, getD, set}
 use lib.Seq.{getD-set-same, getD-set-other}
 use lib.Dec.{ltb}
 use borrow.Author.Tests.{lt-ltb, le-ltb}
+use Rattle.paper.specs.Octets.{bit, field}
 use Rattle.paper.specs.Answer.{Answer, gives, refused, andThen}
 use Rattle.paper.specs.First.{some}
-use Rattle.paper.specs.SignalList.{SignalList, routeEnd, judge, listOf}
+use Rattle.paper.specs.SignalList.{SignalList, Counts, routeEnd, judge, listOf}
+use Rattle.paper.specs.Reading.{readingAt}
 use Rattle.paper.specs.Marshalling as paper
-use Rattle.paper.proofs.AnswerLaws.{one-answer}
+use Rattle.paper.proofs.AnswerLaws.{gives-one, one-answer}
 use Rattle.paper.proofs.FirstLaws.{some-true, some-false}
 use Rattle.paper.proofs.ListLaws.{Kept, routes-apart}
+use Rattle.paper.proofs.MarshallingLaws as laws
 use Rattle.known.specs.Known.{Starts}
 use Rattle.refusals.specs.declared.Refusal.{Refusal}
 use Rattle.refusals.specs.Refusal.{refusalOf}
@@ -86,6 +89,35 @@ under xs store now bus = refl
 pub delivered-on : {A : Type 0} (r : A) (a : Answer A) (k : A → Answer paper.Marshalled) (old : List ℕ) (o : Marshalled) (new : List ℕ)
     → gives r ≡ a → Delivered (k r) old o new → Delivered (andThen a k) old o new
 delivered-on r a k old o new e w = rw (← e) w
+
+-- ---- what a call that was not refused tells
+
+pub delivered-gives : (a : Answer paper.Marshalled) (old : List ℕ) (k : ℕ) (new : List ℕ) → Delivered a old (Live k) new
+    → a ≡ gives (record { octets = new; lives = k })
+delivered-gives (gives m) old k new d =
+    let e = d .lives in
+    let q : m .lives ≡ k = cc in
+    ap₂ (λ (o : List ℕ) (c : ℕ). gives (record { octets = o; lives = c })) (sym (d .octets)) q
+delivered-gives (refused n at) old k new d = let e = d .lives in let z : _≡_ {A = ℕ} 0 1 = cc in absurd (omega arith)
+
+module _ (xs store : List ℕ) (now : ℕ) (bus : List ℕ) (k : ℕ) (new : List ℕ) (d : Delivered (paper.marshalling xs store now bus) bus (Live k) new) where
+  -- the list was accepted, the store is whole, the data are long enough, and the count and the data afterwards are the definition's
+  pub marshal-tells : laws.Marshals xs store now bus (record { octets = new; lives = k })
+  marshal-tells = laws.marshals xs store now bus _ (delivered-gives _ bus k new d)
+
+  module _ (n : Counts) (accepted : judge xs ≡ gives n) where
+    is : marshal-tells .counts ≡ n
+    is = gives-one (judge xs) (marshal-tells .counts) n (marshal-tells .accepted) accepted
+
+    -- DEMAND 2 of the call: each destination field holds its reading
+    pub destination : let l = listOf xs n in (r : ℕ) → r < n .routes
+        → field new (l .route r .start) (l .signal (l .route r .signal) .width) ≡ readingAt l store now (l .route r .vehicle) (l .route r .signal) .value
+    destination = rw is at (laws.destination xs store now bus _ marshal-tells)
+
+    -- and every bit outside the routes is as before
+    pub other-bit : let l = listOf xs n in (a : ℕ) → ((r : ℕ) → r < n .routes → l .route r .start ≤ a → a < routeEnd (l .signal) (l .route r) → ⊥)
+        → bit new a ≡ bit bus a
+    other-bit = rw is at (laws.other-bit xs store now bus _ marshal-tells)
 
 -- ---- the contract settles the answer
 
