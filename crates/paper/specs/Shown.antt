@@ -76,16 +76,10 @@ abbrev pub SignedExactly : Bool → ℕ → Float → Type 0
 SignedExactly true raw x = Exactly x false (raw * 25) 4096
 SignedExactly false raw x = Exactly x true ((65536 - raw) * 25) 4096
 
-abbrev pub PercentExactly : Kind → ℕ → Float → Type 0
-PercentExactly signedPercentage raw x = SignedExactly (ltb raw 32768) raw x
-PercentExactly percentage raw x = Exactly x false (raw * 25) 4096
-PercentExactly code raw x = ⊥
-PercentExactly speed raw x = ⊥
-PercentExactly current raw x = ⊥
-
--- what a shown reading is worth, by the bits of its f32
+-- what a shown reading is worth: a code is the whole number as given; each scaled kind is an f32 in its own case, exact by its bits
 abbrev pub Exact : Kind → ℕ → Shown → Type 0
-Exact k raw (asCode c) = c ≡ raw
-Exact k raw (asSpeed x) = Exactly x false raw 64
-Exact k raw (asPercentage x) = PercentExactly k raw x
-Exact k raw (asCurrent x) = Exactly x false (raw * 125) 2048
+Exact code raw s = s ≡ asCode raw
+Exact speed raw s = (x : Float) × ((s ≡ asSpeed x) × Exactly x false raw 64)
+Exact percentage raw s = (x : Float) × ((s ≡ asPercentage x) × Exactly x false (raw * 25) 4096)
+Exact signedPercentage raw s = (x : Float) × ((s ≡ asPercentage x) × SignedExactly (ltb raw 32768) raw x)
+Exact current raw s = (x : Float) × ((s ≡ asCurrent x) × Exactly x false (raw * 125) 2048)

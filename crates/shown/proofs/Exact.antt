@@ -1,16 +1,17 @@
 -- "Each is an exact f32 (zero is +0)": of every reading that the paper's definition shows, by the bits of its f32. Assumes nothing.
 use mathlib.Core.Path.{_≡_, refl, sym, subst}
 use mathlib.Core.Bool.{Bool, true, false, not, cond, _&&_, true≢false}
-use Prim.Native.Nat.{ℕ, _-_, _*_, _<_}
+use Prim.Native.Nat.{ℕ, _-_, _*_, _^_, _<_, _≤_}
 use native.Mathlib.Omega.{arith}
-use lib.Dec.{eqb, leb, ltb, lit<}
+use lib.Dec.{eqb, leb, ltb}
+use lib.Pow.{pow-pos}
 use lib.Ieee.{binary32, toBits}
 use lib.Ieee.Bits.{toBits-lt}
 use lib.Ieee.Fits.{round-fits}
 use borrow.Author.Tests.{ltb-false, leb-true}
 use Rattle.paper.specs.Answer.{gives, refuseIf}
 use Rattle.paper.proofs.AnswerLaws.{never-both}
-use Rattle.paper.specs.Shown.{Kind, code, speed, percentage, signedPercentage, current, Shown, asCode, asSpeed, asPercentage, asCurrent, nearest, shownAs, scaled, showing, SignedExactly, Exactly, Exact}
+use Rattle.paper.specs.Shown.{Kind, code, speed, percentage, signedPercentage, current, Shown, asCode, asSpeed, asPercentage, asCurrent, nearest, signedPercent, shownAs, scaled, showing, SignedExactly, Exact}
 use Rattle.shown.proofs.Scales.{exact, zero-bits}
 
 -- each value on its scale is exact: one law, at each scale
@@ -21,13 +22,14 @@ signed-exact raw h false e = exact true ((65536 - raw) * 25) 12 (omega (arith, l
 
 pub exact-value : (k : Kind) (raw : ℕ) → raw < 65536 → Exact k raw (shownAs k raw)
 exact-value code raw h = refl
-exact-value speed raw h = exact false raw 6 (omega arith) (omega arith)
-exact-value percentage raw h = exact false (raw * 25) 12 (omega arith) (omega arith)
-exact-value signedPercentage raw h = signed-exact raw h (ltb raw 32768) refl
-exact-value current raw h = exact false (raw * 125) 11 (omega arith) (omega arith)
+exact-value speed raw h = (nearest false raw 64, (refl, exact false raw 6 (omega arith) (omega arith)))
+exact-value percentage raw h = (nearest false (raw * 25) 4096, (refl, exact false (raw * 25) 12 (omega arith) (omega arith)))
+exact-value signedPercentage raw h = (signedPercent raw, (refl, signed-exact raw h (ltb raw 32768) refl))
+exact-value current raw h = (nearest false (raw * 125) 2048, (refl, exact false (raw * 125) 11 (omega arith) (omega arith)))
 
-nought : (d : ℕ) → 0 < d → Exactly (nearest false 0 d) false 0 d → toBits binary32 (nearest false 0 d) ≡ 0
-nought d h e = zero-bits _ d (toBits-lt binary32 (nearest false 0 d) (round-fits binary32 false 0 d)) h e
+nought : (k : ℕ) → k ≤ 149 → toBits binary32 (nearest false 0 (2 ^ k)) ≡ 0
+nought k h =
+    zero-bits _ (2 ^ k) (toBits-lt binary32 (nearest false 0 (2 ^ k)) (round-fits binary32 false 0 (2 ^ k))) (pow-pos k) (exact false 0 k (pow-pos 24) h)
 
 -- a reading that is shown is the value on its scale, and a scaled one is below 65,536
 pub shown-is : (k : Kind) (width raw : ℕ) (s : Shown) → showing k width raw ≡ gives s → (shownAs k raw ≡ s) × (scaled k ≡ true → raw < 65536)
@@ -66,7 +68,7 @@ plus-zero k s e = subst PlusZero (shown-is k 16 0 s e .0) (at k)
   where
     at : (k : Kind) → PlusZero (shownAs k 0)
     at code = refl
-    at speed = nought 64 (lit< tt) (exact-value speed 0 (lit< tt))
-    at percentage = nought 4096 (lit< tt) (exact-value percentage 0 (lit< tt))
-    at signedPercentage = nought 4096 (lit< tt) (exact-value signedPercentage 0 (lit< tt))
-    at current = nought 2048 (lit< tt) (exact-value current 0 (lit< tt))
+    at speed = nought 6 (omega arith)
+    at percentage = nought 12 (omega arith)
+    at signedPercentage = nought 12 (omega arith)
+    at current = nought 11 (omega arith)
