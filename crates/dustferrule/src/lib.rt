@@ -373,7 +373,7 @@ pub extern "C" fn df_compose(
 // A code is shown as itself: nothing is refused.
 #[no_mangle]
 pub extern "C" fn df_show_code(raw: u64) -> u64
-    ensures { λ r. ⌜ gives (asCode r) ≡ showing code 0 raw ⌝ }
+    ensures { λ r. ⌜ (r ≡ raw) × (gives (asCode r) ≡ showing code 0 raw) ⌝ }
 {
     raw
 }
