@@ -19,6 +19,7 @@ EXPECTED = os.path.join(ROOT, "runs", "expected")
 CLOCK = "9000"
 MOST = "not a whole number from 0 to 4294967295"
 NO_FILE = "no such file or folder"
+TOO_LONG = "the path is too long"
 BUSY = "exists: another program is at work, or was cut short and left it"
 
 
@@ -96,6 +97,8 @@ def no_file(name, words, i):
     """The words with each name in place i under which no file can be read."""
     for file, why in (("none", NO_FILE), ("none/x", NO_FILE), ("", NO_FILE), ("folder", "is a folder"), ("r1/x", "not in a folder")):
         yield words[:i] + [file] + words[i + 1:], error(f"{name} '{file}': {why}")
+    for n in (4096, 5000):
+        yield words[:i] + ["a" * n] + words[i + 1:], error(f"{name} '{'a' * 100}..': {TOO_LONG}")
 
 
 def usage(program, words, text):
@@ -139,7 +142,9 @@ def take_table():
     yield ["take", "folder", "1", "1", "r1"], error("STORE 'folder': is a folder")
     yield ["take", "", "1", "1", "r1"], error("STORE '.new': " + NO_FILE)
     yield ["take", "locked", "1", "1", "r1"], error("STORE 'locked.new': " + BUSY)
-    yield ["take", "a" * 300, "1", "1", "r1"], error("STORE '" + "a" * 100 + "...new': cannot be used")
+    for n in (300, 4093, 5000):
+        yield ["take", "a" * n, "1", "1", "r1"], error("STORE '" + "a" * 100 + "...new': " + TOO_LONG)
+    yield ["take", "new", "a" * 5000], error("STORE '" + "a" * 100 + "..': " + TOO_LONG)
 
 
 def believe_table():

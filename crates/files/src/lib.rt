@@ -33,6 +33,9 @@ fn say_why(line: Line, error: i32) -> Line {
     if error == libc::ENOTDIR {
         return say(line, b"not in a folder");
     }
+    if error == libc::ENAMETOOLONG {
+        return say(line, b"the path is too long");
+    }
     if error == UNWRITTEN {
         return say(line, b"cannot be written");
     }
@@ -56,9 +59,20 @@ pub fn print_long(i: usize, name: &[u8], most: u64) {
     print(say(l, b" octets"));
 }
 
+// The path of argument i; all of the buffer, which is no path, where it is longer.
+fn path_of(i: usize, path: &mut [u8]) -> usize
+    ensures { λ r. ⌜ Counts r (now (path .exit)) ⌝ }
+{
+    let n = os::arg(i, path);
+    if os::errno() == libc::ENAMETOOLONG {
+        return path.len();
+    }
+    n
+}
+
 fn open(i: usize) -> i32 {
     let mut path = io::buffer();
-    let n = os::arg(i, &mut path);
+    let n = path_of(i, &mut path);
     os::open_read(&path[..n])
 }
 
@@ -81,7 +95,12 @@ pub fn read(i: usize, name: &[u8], buf: &mut [u8]) -> Input
         };
     }
     let octets = io::read_full(fd, buf);
-    let ok = (octets == buf.len()) | is_at_end(fd);
+    // Not where buf is full: a pipe that is held open would keep the read waiting.
+    let ok = if octets == buf.len() {
+        true
+    } else {
+        is_at_end(fd)
+    };
     if !ok {
         print_error(i, name, b"", os::errno());
     }
@@ -89,16 +108,16 @@ pub fn read(i: usize, name: &[u8], buf: &mut [u8]) -> Input
     Input { octets, ok }
 }
 
-// The path of argument i with `.new` behind it; empty where that is no path.
+// The path of argument i with `.new` behind it; empty where it is empty, and all of the buffer where it is longer.
 fn new_name(i: usize, path: &mut [u8]) -> usize
     ensures { λ r. ⌜ Counts r (now (path .exit)) ⌝ }
 {
-    let n = os::arg(i, path);
+    let n = path_of(i, path);
     if n == 0 {
         return 0;
     }
     if path.len() - n < 4 {
-        return 0;
+        return path.len();
     }
     path[n] = b'.';
     path[n + 1] = b'n';
@@ -123,19 +142,19 @@ fn rename_new(i: usize) -> bool {
     let mut new = io::buffer();
     let n = new_name(i, &mut new);
     let mut path = io::buffer();
-    let m = os::arg(i, &mut path);
+    let m = path_of(i, &mut path);
     os::rename(&new[..n], &path[..m]) == 0
 }
 
 fn create(i: usize) -> i32 {
     let mut path = io::buffer();
-    let n = os::arg(i, &mut path);
+    let n = path_of(i, &mut path);
     os::create(&path[..n])
 }
 
 fn remove(i: usize) {
     let mut path = io::buffer();
-    let n = os::arg(i, &mut path);
+    let n = path_of(i, &mut path);
     os::unlink(&path[..n]);
 }
 
