@@ -20,6 +20,7 @@ CLOCK = "9000"
 MOST = "not a whole number from 0 to 4294967295"
 NO_FILE = "no such file or folder"
 TOO_LONG = "the path is too long"
+NO_TELEGRAM = "exists and is no telegram"
 BUSY = "exists: another program is at work, or was cut short and left it"
 
 
@@ -243,7 +244,10 @@ def compose_table():
     yield ["compose", "help"], as_in("compose-help")
     yield from usage("compose", (4,), "compose LIST TYPE VALUES OUT")
     yield words, says("composed R1 version 3 octets 128", out=R1)
-    yield words[:2] + ["1", "values", "bus"], says("composed R1 version 3 octets 128", bus=R1)
+    yield words[:2] + ["1", "values", "r3"], says("composed R1 version 3 octets 128", r3=R1)
+    yield words[:4] + ["r2"], says("composed R1 version 3 octets 128", r2=R1)
+    for file in ("store", "next.list", "values", "bus", "empty", "r1-127", "r1-129"):
+        yield words[:4] + [file], error(f"OUT '{file}': {NO_TELEGRAM}")
     yield ["compose", "L.list", "R1", "v-L", "out"], says("composed R1 version 1 octets 128", out=forced)
     yield ["compose", "L.list", "R1", "v-last", "out"], says("composed R1 version 1 octets 128", out=forced)
     yield ["compose", "L.list", "R1", "empty", "out"], says("composed R1 version 1 octets 128", out=plain)
@@ -266,12 +270,12 @@ def compose_table():
     yield line("v-signal-word", 2, "no such signal")
     yield line("v-check", 1, "no such check")
     yield line("v-check-0", 1, "no such check")
-    yield line("v-mark-words", 1, "mark not error, ok, forced, undefined or 0 to 255")
-    yield line("v-mark-256", 1, "mark not error, ok, forced, undefined or 0 to 255")
+    yield line("v-mark-words", 1, "mark not error, ok, forced, undefined or 0 to 3")
+    yield line("v-mark-256", 1, "mark not error, ok, forced, undefined or 0 to 3")
     yield line("r1", 1, neither)
     yield ["compose", "L.list", "R1", "v-long", "out"], error("VALUES 'v-long': more than 65536 octets")
-    yield ["compose", "L.list", "R4", "v-word", "out"], error("TYPE 'R4': not R1, R2 or R3")
-    yield ["compose", "L.list", "", "v-word", "out"], error("TYPE '': not R1, R2 or R3")
+    yield ["compose", "L.list", "R4", "v-word", "out"], error("TYPE 'R4': not R1, R2 or R3, nor 1 to 3")
+    yield ["compose", "L.list", "", "v-word", "out"], error("TYPE '': not R1, R2 or R3, nor 1 to 3")
     yield words[:4] + ["locked"], error("OUT 'locked.new': " + BUSY)
     yield words[:4] + ["none/x"], error("OUT 'none/x.new': " + NO_FILE)
     yield words[:4] + ["folder"], error("OUT 'folder': is a folder")
@@ -355,7 +359,7 @@ def main():
             (["take", "new", "made"], error("STORE 'made': cannot be written")),
             (["marshal", "L.list", "train", CLOCK, "bus-4096"], error("DATA 'bus-4096.new': cannot be written")),
             (["compose", "L.list", "R1", "v-L", "out"], error("OUT 'out.new': cannot be written")),
-            (["compose", "L.list", "R1", "v-L", "bus"], error("OUT 'bus.new': cannot be written")),
+            (["compose", "L.list", "R1", "v-L", "r3"], error("OUT 'r3.new': cannot be written")),
         ]
         for words, expect, before in [(w, e, None) for w, e in tables] + [(w, e, small_files) for w, e in failing]:
             count += 1

@@ -21,13 +21,16 @@ fn help() {
 Composes an R-telegram under the signal list LIST and writes it to OUT.
 
 LIST      a signal list; `judge LIST` says what is wrong with one
-TYPE      R1, R2 or R3, or the type's number
+TYPE      R1, R2 or R3, or 1 to 3
 VALUES    a text file of lines, where # begins a comment:
             value SIGNAL VALUE    SIGNAL is counted from 0, as `believe` does
             mark CHECK MARK       CHECK is counted from 1, in the list's order;
                                   MARK is error, ok, forced, undefined or 0 to 3
+                                  (4 to 255 is refused, 14, where it is written)
           A value that is not given is the signal's replacement in LIST, a mark
           that is not given is ok. Of two lines for one entry the last counts.
+OUT       the telegram's file; what exists is replaced only where it has 40 or
+          128 octets, as a telegram has
 
 Prints `composed R1 version 3 octets 128`. Where nothing was composed it prints
 one line that begins with `refused` and the number of document 01, or with
@@ -56,10 +59,32 @@ fn print_composed(kind: usize, version: usize, octets: usize) {
     saying::print(l);
 }
 
+// Whether OUT is not there yet, or as long as a telegram: a store or a list that is given for it by mistake is not lost.
+fn is_free() -> bool {
+    if !files::is_there(4) {
+        return true;
+    }
+    let mut old = [0u8; 129];
+    let o = files::read(4, b"OUT", &mut old);
+    if !o.ok {
+        return false;
+    }
+    let n = o.octets;
+    if (n == 40) | (n == 128) {
+        return true;
+    }
+    saying::print_word(4, b"OUT", b"exists and is no telegram");
+    false
+}
+
 // The telegram takes the name of OUT once all of it is written.
 fn write_out(kind: usize, version: usize, out: &[u8]) {
     let fd = files::begin(4, b"OUT");
     if fd < 0 {
+        return;
+    }
+    if !is_free() {
+        files::drop_new(4, fd);
         return;
     }
     if files::commit(4, b"OUT", fd, out) {
@@ -163,7 +188,7 @@ fn read_files(kind: usize) {
     read_values(&list[..n], kind);
 }
 
-// R1, R2 or R3, or the type's number.
+// R1, R2 or R3, or the type's number. A number that is no type's is refused by the composing.
 fn type_argument() -> Number {
     if saying::is_word(2, b"R1") {
         return Number::Is(1);
@@ -176,7 +201,7 @@ fn type_argument() -> Number {
     }
     let n = saying::number_of(2, 4294967295);
     if let Number::Not = n {
-        saying::print_word(2, b"TYPE", b"not R1, R2 or R3");
+        saying::print_word(2, b"TYPE", b"not R1, R2 or R3, nor 1 to 3");
     }
     n
 }

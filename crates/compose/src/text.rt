@@ -24,10 +24,7 @@ fn print_fault(line: u64, fault: u8) {
         SIGNAL => saying::print(saying::say(l, b": no such signal")),
         CHECK => saying::print(saying::say(l, b": no such check")),
         VALUE => saying::print(saying::say(l, b": value not a whole number below 2^64")),
-        MARK => saying::print(saying::say(
-            l,
-            b": mark not error, ok, forced, undefined or 0 to 255",
-        )),
+        MARK => saying::print(saying::say(l, b": mark not error, ok, forced, undefined or 0 to 3")),
         _ => saying::print(saying::say(l, b": neither `value SIGNAL VALUE` nor `mark CHECK MARK`")),
     }
 }
@@ -100,6 +97,7 @@ fn word(line: &[u8], k: usize) -> &[u8] {
     &line[a..e]
 }
 
+// A number above 3 is refused by the composing, where the mark is written.
 fn mark_of(text: &[u8]) -> Number {
     if check::same(text, b"error") {
         return Number::Is(0);

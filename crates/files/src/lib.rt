@@ -76,6 +76,16 @@ fn open(i: usize) -> i32 {
     os::open_read(&path[..n])
 }
 
+// Whether argument i names something; what cannot be opened is there too.
+pub fn is_there(i: usize) -> bool {
+    let fd = open(i);
+    if fd < 0 {
+        return os::errno() != libc::ENOENT;
+    }
+    libc::close(fd);
+    true
+}
+
 // A short count leaves open whether the file ended or a read failed: one more read tells.
 fn is_at_end(fd: i32) -> bool {
     let mut one = [0u8; 1];
