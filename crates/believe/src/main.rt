@@ -33,8 +33,9 @@ STORE     a store; `take` makes one and fills it
 CLOCK     the millisecond counter now, 0 to 4294967295
 
 Prints for each vehicle a line with type, version and age of its telegram, then
-a line for each signal,  VEHICLE SIGNAL PLACE VALUE REASON,  and at the end the
-vehicles never heard, and how often each reason was given:
+a line for each signal,  VEHICLE SIGNAL PLACE VALUE REASON.  At the end stand,
+without VEHICLE, the vehicles never heard, and, without SIGNAL, how often each
+reason was given:
   0 live ok        3 too old                   6 mark error
   1 live forced    4 type does not carry it    7 mark undefined
   2 never heard    5 newer than the telegram   8 code not known
