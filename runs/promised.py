@@ -1,5 +1,6 @@
 #!/usr/bin/env python3
-"""Holds docs/PROMISES.md to the repository: every name, path and must-fail edit that it gives in `code` is there, and every edit is named."""
+"""Holds docs/PROMISES.md to the repository: every name, path and must-fail edit that it gives in `code` is there, and every edit is named.
+Of every page: the files that it links to are there."""
 import glob
 import os
 import re
@@ -33,6 +34,10 @@ def main():
                     continue
                 if name not in edits and name not in crates and not glob.glob(f"crates/**/{name}.antt", recursive=True):
                     bad.append(f"no such name: {name} in `{code}`")
+    for link_page in glob.glob("*.md") + glob.glob("docs/**/*.md", recursive=True) + glob.glob("data/**/*.md", recursive=True):
+        for target in re.findall(r"\]\(([^)#\s]+)", read(link_page)):
+            if "://" not in target and not os.path.exists(os.path.join(os.path.dirname(link_page), target)):
+                bad.append(f"{link_page}: no such file: {target}")
     named = set(re.findall(r"`([a-z][\w]*)`", page))
     bad += [f"an edit that is not named: {e}" for e in sorted(edits - named)]
     print("\n".join(bad + [f"promised: {len(edits)} kinds of edit named, {len(bad)} things amiss"]))

@@ -235,7 +235,7 @@ module _ (l : SignalList) (h : Kept l) (type : ℕ) (values marks : List ℕ) (f
   composed-version =
       sym (octet-field (composed l type values marks) 1 octets-composed) ∙ head-kept 8 8 (omega arith) ∙ octet-field (headed l type) 1 octets-headed
 
-  -- "a composed telegram's field at a carried signal is the value"
+  -- a composed telegram's field at a carried signal is the value given
   pub composed-signal : (k : ℕ) → k < l .signals → carries type (l .signal k .type) ≡ true
       → field (composed l type values marks) (l .signal k .start) (l .signal k .width) ≡ getD values k 0
   unfolding composed
@@ -245,7 +245,7 @@ module _ (l : SignalList) (h : Kept l) (type : ℕ) (values marks : List ℕ) (f
       ∙ field-puts (signalPut l type values) (headed l type) (l .signals) k lt w (rw length-headed (carried-within l h type k lt w .1)) (fit .value k lt w .0)
       (λ j a b wj. carried-apart l h type j k b lt wj w (λ e. omega arith))
 
-  -- "at a written check place the mark"
+  -- at a written check place, the mark given
   pub composed-check : (j : ℕ) → j < l .checks → writesCheck l type j ≡ true → field (composed l type values marks) (l .check j) markWidth ≡ getD marks j 0
   unfolding composed
   composed-check j lt w =
@@ -253,7 +253,7 @@ module _ (l : SignalList) (h : Kept l) (type : ℕ) (values marks : List ℕ) (f
       (rw (length-puts (signalPut l type values) (headed l type) (l .signals), length-headed) (leb-true _ _ w)) (fit .mark j lt w)
       (λ i a b _. inr (checks-apart l h j i a b))
 
-  -- "elsewhere 0"
+  -- "all other bits are 0"
   pub composed-elsewhere : (a : ℕ) → 16 ≤ a
       → ((k : ℕ) → k < l .signals → carries type (l .signal k .type) ≡ true → l .signal k .start ≤ a → a < fieldEnd (l .signal k) → ⊥)
       → ((j : ℕ) → j < l .checks → writesCheck l type j ≡ true → l .check j ≤ a → a < l .check j + markWidth → ⊥)

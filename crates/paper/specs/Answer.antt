@@ -19,7 +19,7 @@ abbrev pub andThen : {A B : Type 0} → Answer A → (A → Answer B) → Answer
 andThen (gives a) k = k a
 andThen (refused n at) k = refused n at
 
--- the answer of a part that starts b octets on: "offsets are always of the whole list"
+-- the answer of a part that starts b octets on: an offset is always of the whole list
 abbrev pub shift : {A : Type 0} → ℕ → Answer A → Answer A
 shift b (gives a) = gives a
 shift b (refused n at) = refused n (b + at)

@@ -55,7 +55,7 @@ pub fn parse(text: &[u8], most: u64) -> Number
     Number::Is(n)
 }
 
-// Argument i as a number. A word that is longer than any number is taken for none.
+// Argument i as a number. A word of more than 40 octets is taken for none, leading zeros or not.
 pub fn number_of(i: usize, most: u64) -> Number {
     let mut word = [0u8; 40];
     let n = os::arg(i, &mut word);
