@@ -278,7 +278,7 @@ def compose_table():
     yield ["compose", "L.list", "", "v-word", "out"], error("TYPE '': not R1, R2 or R3, nor 1 to 3")
     yield words[:4] + ["locked"], error("OUT 'locked.new': " + BUSY)
     yield words[:4] + ["none/x"], error("OUT 'none/x.new': " + NO_FILE)
-    yield words[:4] + ["folder"], error("OUT 'folder': is a folder")
+    yield words[:4] + ["folder"], error(f"OUT 'folder': {NO_TELEGRAM}")
     yield from no_list(["compose", "L.list", "R1", "v-word", "out"], 1)
     yield from no_file("VALUES", words, 3)
 

@@ -7,6 +7,7 @@ ghost use Rattle.lists.specs.Judged.{countsOf};
 
 mod text;
 
+use files::There;
 use libc::STDOUT_FILENO;
 use lists::Counts;
 use lists::Judged;
@@ -61,20 +62,15 @@ fn print_composed(kind: usize, version: usize, octets: usize) {
 
 // Whether OUT is not there yet, or as long as a telegram: a store or a list that is given for it by mistake is not lost.
 fn is_free() -> bool {
-    if !files::is_there(4) {
-        return true;
+    let ok = match files::look_at(4) {
+        There::Nothing => true,
+        There::Octets(n) => (n == 40) | (n == 128),
+        There::Other => false,
+    };
+    if !ok {
+        saying::print_word(4, b"OUT", b"exists and is no telegram");
     }
-    let mut old = [0u8; 129];
-    let o = files::read(4, b"OUT", &mut old);
-    if !o.ok {
-        return false;
-    }
-    let n = o.octets;
-    if (n == 40) | (n == 128) {
-        return true;
-    }
-    saying::print_word(4, b"OUT", b"exists and is no telegram");
-    false
+    ok
 }
 
 // The telegram takes the name of OUT once all of it is written.

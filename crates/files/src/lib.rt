@@ -17,6 +17,13 @@ pub struct Input {
     pub ok: bool,
 }
 
+// Nothing, something of so many octets, or what cannot be opened or has no length, as a pipe.
+pub enum There {
+    Nothing,
+    Octets(i64),
+    Other,
+}
+
 fn say_why(line: Line, error: i32) -> Line {
     if error == libc::ENOENT {
         return say(line, b"no such file or folder");
@@ -76,14 +83,25 @@ fn open(i: usize) -> i32 {
     os::open_read(&path[..n])
 }
 
-// Whether argument i names something; what cannot be opened is there too.
-pub fn is_there(i: usize) -> bool {
-    let fd = open(i);
+// What the path of argument i names. Nothing is read of it, and it is opened for writing too, so that a pipe keeps nobody waiting.
+pub fn look_at(i: usize) -> There {
+    let mut path = io::buffer();
+    let n = path_of(i, &mut path);
+    let fd = os::open_update(&path[..n]);
     if fd < 0 {
-        return os::errno() != libc::ENOENT;
+        return if os::errno() == libc::ENOENT {
+            There::Nothing
+        } else {
+            There::Other
+        };
     }
+    let end = libc::lseek(fd, 0, libc::SEEK_END);
     libc::close(fd);
-    true
+    if end < 0 {
+        There::Other
+    } else {
+        There::Octets(end)
+    }
 }
 
 // A short count leaves open whether the file ended or a read failed: one more read tells.
