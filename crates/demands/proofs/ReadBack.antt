@@ -13,7 +13,7 @@ use Rattle.paper.specs.Extends.{same}
 use Rattle.paper.specs.Store.{vehicles, storeOctets, taking, taken, turn, age, inTime}
 use Rattle.paper.specs.Reading.{Reading, reading}
 use Rattle.paper.specs.Composing.{composing}
-use Rattle.paper.specs.Demands.{Step, offer, run, NoneLater, Standing, givenMark, delivered, withheld}
+use Rattle.paper.specs.Demands.{Step, offer, run, NoneLater, Standing, givenMark, delivered, withheld, Named}
 use Rattle.paper.proofs.StoreLaws.{takes}
 use Rattle.paper.proofs.ExtendsLaws.{Related}
 use Rattle.paper.proofs.Demands as paper
@@ -131,7 +131,7 @@ module _ (xs : List ℕ) (type : ℕ) (values marks : List ℕ) (v stamp : ℕ) 
   -- DEMAND 3, whole: every signal of the reader's list comes with one of the readings that the demand names. Never another value
   pub never-another : (m n : Counts) → judge xs ≡ gives m → judge ys ≡ gives n → Related (listOf xs m) (listOf ys n) → k < n .signals
       → inTime (age now stamp) (listOf ys n .signal k .limit) ≡ true
-      → (given : Reading) × ((paper.Named (listOf xs m) (listOf ys n) type values marks k given) × (readAnswer r ≡ gives given))
+      → (given : Reading) × ((Named (listOf xs m) (listOf ys n) type values marks k given) × (readAnswer r ≡ gives given))
   never-another m n writer reader related hk within =
       let t = paper.never-another xs type values marks (length (c .out)) (c .telegram) sent m writer ys n reader v stamp now k (c .store) hk (standing _ within) related in
       (t .0, (t .1 .0, c .read ∙ t .1 .1))

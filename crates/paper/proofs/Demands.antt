@@ -19,7 +19,7 @@ use Rattle.paper.specs.Extends.{version, knows, placeOf, same}
 use Rattle.paper.specs.Store.{vehicles, storeOctets, Slot, slotOf, taken, taking, age, inTime}
 use Rattle.paper.specs.Reading.{Reading, heard, markOf, codeOf, hindrances, reasonOf, readingOf, readingAt, reading}
 use Rattle.paper.specs.Composing.{composed, composing}
-use Rattle.paper.specs.Demands.{Standing, givenMark, delivered, withheld}
+use Rattle.paper.specs.Demands.{Standing, givenMark, delivered, withheld, Shared, Named, live-ok, live-forced, not-carried, newer, mark-error, mark-undefined, code-unknown}
 use Rattle.paper.proofs.AnswerLaws.{goes-on, gives-one}
 use Rattle.paper.proofs.FirstLaws.{some-none, some-at}
 use Rattle.paper.proofs.FieldLaws.{field-ext}
@@ -57,31 +57,6 @@ as-given : (l : SignalList) (k mark value : ℕ) → (mark ≡ ok) ⊎ (mark ≡
     → delivered l k mark value ≡ record { value = value; reason = cond (eqb mark forced) 1 0 }
 as-given l k mark value (inl e) h = rw (e, h)
 as-given l k mark value (inr e) h = rw (e, h)
-
--- ---- what demand 3 names
-
--- signal i of the writer's list is signal j of the reader's, by type and start, and the type carries it
-pub record Shared (w r : SignalList) (type i j : ℕ) : Type 0 where
-  pub there : i < w .signals
-  pub one : same (w .signal i) (r .signal j) ≡ true
-  pub carried : carries type (r .signal j .type) ≡ true
-
--- what a reader may be given of its signal j, in the words of the demand: the written value with its mark (0, 1), its own replacement for a
--- bad mark (6, 7) or a code unknown to it (8), or for a signal that the type doesn't carry (4) or that only its own list has (5)
-pub data Named (w r : SignalList) (type : ℕ) (values marks : List ℕ) (j : ℕ) : Reading → Type 0 where
-  live-ok : (i : ℕ) → Shared w r type i j → givenMark marks (w .signal i) ≡ ok → knows r j (getD values i 0) ≡ true
-      → Named w r type values marks j (record { value = getD values i 0; reason = 0 })
-  live-forced : (i : ℕ) → Shared w r type i j → givenMark marks (w .signal i) ≡ forced → knows r j (getD values i 0) ≡ true
-      → Named w r type values marks j (record { value = getD values i 0; reason = 1 })
-  not-carried : carries type (r .signal j .type) ≡ false → Named w r type values marks j (record { value = r .signal j .replacement; reason = 4 })
-  newer : carries type (r .signal j .type) ≡ true → ((i : ℕ) → i < w .signals → same (w .signal i) (r .signal j) ≡ true → ⊥)
-      → Named w r type values marks j (record { value = r .signal j .replacement; reason = 5 })
-  mark-error : (i : ℕ) → Shared w r type i j → givenMark marks (w .signal i) ≡ error
-      → Named w r type values marks j (record { value = r .signal j .replacement; reason = 6 })
-  mark-undefined : (i : ℕ) → Shared w r type i j → givenMark marks (w .signal i) ≡ undefined
-      → Named w r type values marks j (record { value = r .signal j .replacement; reason = 7 })
-  code-unknown : (i : ℕ) → Shared w r type i j → (givenMark marks (w .signal i) ≡ ok) ⊎ (givenMark marks (w .signal i) ≡ forced)
-      → knows r j (getD values i 0) ≡ false → Named w r type values marks j (record { value = r .signal j .replacement; reason = 8 })
 
 -- what is delivered is named, by its mark and whether the reader knows the code
 delivered-named : (w r : SignalList) (type : ℕ) (values marks : List ℕ) (i j : ℕ) → Shared w r type i j → givenMark marks (w .signal i) < 4

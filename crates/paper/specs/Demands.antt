@@ -1,8 +1,8 @@
--- The premises of the demands, as one record over a sequence of steps. What a demand says is stated and proved in proofs/.
+-- The premises of the demands, as one record over a sequence of steps, and what they name. What a demand says is stated and proved in proofs/.
 use Prim.Native.Nat.{ℕ, _-_, _<_}
 use mathlib.Core.Path.{_≡_}
 use mathlib.Core.Logic.{_⊎_}
-use mathlib.Core.Bool.{true, not, cond}
+use mathlib.Core.Bool.{true, false, not, cond}
 use mathlib.Core.List.{List, [], _∷_}
 use lib.ListN.{getD}
 use lib.Dec.{leb, eqb}
@@ -10,7 +10,7 @@ use Rattle.paper.specs.Answer.{gives, refused, after}
 use Rattle.paper.specs.First.{firstOf}
 use Rattle.paper.specs.Telegrams.{carries, error, ok, forced, undefined}
 use Rattle.paper.specs.SignalList.{Signal, SignalList}
-use Rattle.paper.specs.Extends.{knows}
+use Rattle.paper.specs.Extends.{knows, same}
 use Rattle.paper.specs.Reading.{Reading}
 use Rattle.paper.specs.Store.{taking, taken, turn, age, inTime}
 
@@ -61,3 +61,26 @@ delivered reader k mark value =
 abbrev pub withheld : SignalList → ℕ → ℕ → Reading
 withheld reader type k =
     record { value = reader .signal k .replacement; reason = cond (carries type (reader .signal k .type)) 5 4 }
+
+-- signal i of the writer's list is signal j of the reader's, by type and start, and the type carries it
+pub record Shared (w r : SignalList) (type i j : ℕ) : Type 0 where
+  pub there : i < w .signals
+  pub one : same (w .signal i) (r .signal j) ≡ true
+  pub carried : carries type (r .signal j .type) ≡ true
+
+-- what a reader may be given of its signal j, in the words of the demand: the written value with its mark (0, 1), its own replacement for a
+-- bad mark (6, 7) or a code unknown to it (8), or for a signal that the type doesn't carry (4) or that only its own list has (5)
+pub data Named (w r : SignalList) (type : ℕ) (values marks : List ℕ) (j : ℕ) : Reading → Type 0 where
+  live-ok : (i : ℕ) → Shared w r type i j → givenMark marks (w .signal i) ≡ ok → knows r j (getD values i 0) ≡ true
+      → Named w r type values marks j (record { value = getD values i 0; reason = 0 })
+  live-forced : (i : ℕ) → Shared w r type i j → givenMark marks (w .signal i) ≡ forced → knows r j (getD values i 0) ≡ true
+      → Named w r type values marks j (record { value = getD values i 0; reason = 1 })
+  not-carried : carries type (r .signal j .type) ≡ false → Named w r type values marks j (record { value = r .signal j .replacement; reason = 4 })
+  newer : carries type (r .signal j .type) ≡ true → ((i : ℕ) → i < w .signals → same (w .signal i) (r .signal j) ≡ true → ⊥)
+      → Named w r type values marks j (record { value = r .signal j .replacement; reason = 5 })
+  mark-error : (i : ℕ) → Shared w r type i j → givenMark marks (w .signal i) ≡ error
+      → Named w r type values marks j (record { value = r .signal j .replacement; reason = 6 })
+  mark-undefined : (i : ℕ) → Shared w r type i j → givenMark marks (w .signal i) ≡ undefined
+      → Named w r type values marks j (record { value = r .signal j .replacement; reason = 7 })
+  code-unknown : (i : ℕ) → Shared w r type i j → (givenMark marks (w .signal i) ≡ ok) ⊎ (givenMark marks (w .signal i) ≡ forced)
+      → knows r j (getD values i 0) ≡ false → Named w r type values marks j (record { value = r .signal j .replacement; reason = 8 })
