@@ -18,6 +18,7 @@ mod octets;
 mod reading;
 mod refusal;
 mod shown;
+mod sizes;
 mod store;
 mod train;
 
@@ -31,5 +32,6 @@ pub use octets::{read_field, write_field};
 pub use reading::{read, Reading};
 pub use refusal::Refusal;
 pub use shown::{show, Kind, Shown};
+pub use sizes::{HEAD, HEARD, SIGNAL_SIZE, SLOT, STAMP, STORE, TELEGRAM, VEHICLES};
 pub use store::take;
 pub use train::{resolve, Members};

@@ -2,6 +2,7 @@
 //! last."
 
 use crate::refusal::Refusal;
+use crate::sizes::SIGNAL_SIZE;
 
 const MOST_CHECKS: usize = 64;
 pub(crate) const MOST_SIGNALS: usize = 256;
@@ -15,8 +16,8 @@ const TELEGRAM_END: u32 = 1024;
 
 /// A check entry as it stands: "2 octets each: a bit address".
 pub(crate) type CheckEntry = [u8; 2];
-/// A signal entry as it stands, 16 octets.
-pub(crate) type SignalEntry = [u8; 16];
+/// A signal entry as it stands.
+pub(crate) type SignalEntry = [u8; SIGNAL_SIZE];
 /// A known-code entry as it stands, 6 octets.
 pub(crate) type CodeEntry = [u8; 6];
 /// A route entry as it stands, 6 octets.

@@ -4,7 +4,8 @@
 use crate::list::{knows, CodeEntry, List, Signal};
 use crate::octets::{read_field, read_mark};
 use crate::refusal::Refusal;
-use crate::store::{slot_of, slots, Slot, TELEGRAM};
+use crate::sizes::{HEAD, HEARD};
+use crate::store::{slot_of, slots, stamp_of, Slot};
 
 /// A value and its reason.
 #[derive(Debug, Clone, Copy, PartialEq, Eq)]
@@ -68,16 +69,15 @@ fn live(
     slot: &Slot,
     now: u32,
 ) -> Result<Reading, u8> {
-    let [heard, s0, s1, s2, s3, telegram @ ..] = slot;
-    let telegram: &[u8; TELEGRAM] = telegram;
+    let telegram = &slot[HEAD..];
     let (head, telegram_type) = (telegram[0], telegram[0] & 15);
 
     // "2 never heard (also a stored head with application type other than 1 or type not 1-3)"
-    if *heard != 1 || !matches!(head, 0x11..=0x13) {
+    if slot[HEARD] != 1 || !matches!(head, 0x11..=0x13) {
         return Err(2);
     }
     // "The age is now less stamp, modulo 4,294,967,296. Within the limit means age ≤ limit, or limit 0."
-    let age = now.wrapping_sub(u32::from_be_bytes([*s0, *s1, *s2, *s3]));
+    let age = now.wrapping_sub(stamp_of(slot));
     if signal.limit() != 0 && age > signal.limit() {
         return Err(3);
     }

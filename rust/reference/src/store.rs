@@ -2,10 +2,7 @@
 //! else not), a 4-octet stamp and 128 telegram octets."
 
 use crate::refusal::Refusal;
-
-const VEHICLES: usize = 63;
-const SLOT: usize = 133;
-pub(crate) const TELEGRAM: usize = 128;
+use crate::sizes::{HEAD, HEARD, SLOT, STAMP, TELEGRAM, VEHICLES};
 
 /// A vehicle's slot as it stands.
 pub(crate) type Slot = [u8; SLOT];
@@ -40,6 +37,14 @@ pub(crate) fn slot_of(vehicle: u64) -> Result<usize, Refusal> {
     }
 }
 
+/// The clock value at which a slot's telegram was taken.
+#[inline]
+pub(crate) fn stamp_of(slot: &Slot) -> u32 {
+    let mut stamp = [0; 4];
+    stamp.copy_from_slice(&slot[STAMP]);
+    u32::from_be_bytes(stamp)
+}
+
 /// "R1 and R2 have 128 octets, R3 has 40." Refusal 9, "telegram type not 1-3".
 #[inline]
 pub(crate) fn length_of(telegram_type: u64) -> Result<usize, Refusal> {
@@ -64,9 +69,9 @@ pub fn take(store: &mut [u8], vehicle: u64, now: u32, telegram: &[u8]) -> Result
     if telegram.len() != length_of(u64::from(head & 15))? {
         return Err(Refusal::plain(10));
     }
-    slot[0] = 1;
-    slot[1..5].copy_from_slice(&now.to_be_bytes());
-    let (taken, behind) = slot[5..].split_at_mut(telegram.len());
+    slot[HEARD] = 1;
+    slot[STAMP].copy_from_slice(&now.to_be_bytes());
+    let (taken, behind) = slot[HEAD..].split_at_mut(telegram.len());
     taken.copy_from_slice(telegram);
     behind.fill(0);
     Ok(())

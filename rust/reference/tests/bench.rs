@@ -3,18 +3,9 @@
 mod support;
 
 use reference::{check_place, judge, marshal, read, show, take, Counts, Kind, Reading, Shown};
-use support::{refusal, L, STORE};
+use support::{r1, refusal, L, STORE};
 
 /// "Vehicle 1 sends R1, version 1", with octets 41 and 54 as given.
-fn r1(octet_41: u8, octet_54: u8) -> [u8; 128] {
-    let mut telegram = [0; 128];
-    telegram[0] = 0x11;
-    telegram[1] = 1;
-    telegram[40] = octet_41;
-    telegram[53] = octet_54;
-    telegram
-}
-
 fn heard(stamp: u32, octet_41: u8, octet_54: u8) -> Vec<u8> {
     let mut store = vec![0; STORE];
     take(&mut store, 1, stamp, &r1(octet_41, octet_54)).unwrap();
@@ -126,8 +117,10 @@ fn slips() {
         assert_eq!(reading(&heard(0, 0x10, code << 4), 0), expected);
     }
     // "An R1 signal read from an R2 telegram because the octet is there."
-    let mut store = heard(0, 0x10, 0x40);
-    store[5] = 0x12;
+    let mut r2 = r1(0x10, 0x40);
+    r2[0] = 0x12;
+    let mut store = vec![0; STORE];
+    take(&mut store, 1, 0, &r2).unwrap();
     assert_eq!(reading(&store, 0), (0, 4));
     // "Reading a newer signal out of an old telegram's blocked bits."
     let mut list = L;

@@ -2,7 +2,7 @@ mod support;
 
 use reference::{check_place, judge, Counts};
 use support::plain::{self, Code, List, Route, Signal};
-use support::{make, refusal, Random, EASE, L};
+use support::{make, refusal, Random, EASE, L, SIGNAL_SIZE};
 
 fn signal(start: u64, width: u64, kind: u64) -> Signal {
     Signal {
@@ -125,7 +125,8 @@ fn the_longest_list() {
         start: 4 * i,
     }));
     let octets = list.octets();
-    assert_eq!(octets.len(), 10_376);
+    let entries = 64 * 2 + 256 * SIGNAL_SIZE + 512 * 6 + 512 * 6;
+    assert_eq!(octets.len(), 4 * 2 + entries);
     let counts = Counts {
         checks: 64,
         signals: 256,
@@ -202,7 +203,8 @@ fn signal_order() {
         signal(328, 8, 1),
         signal(327, 8, 1),
     ]);
-    assert_eq!(judge(&list.octets()), Err(refusal(3, 2 + 2 + 3 * 16)));
+    let last = 2 + 2 + 3 * SIGNAL_SIZE as u64;
+    assert_eq!(judge(&list.octets()), Err(refusal(3, last)));
 }
 
 #[test]

@@ -1,7 +1,7 @@
 mod support;
 
 use reference::marshal;
-use support::{make, plain, refusal, Random, EASE, L, STORE};
+use support::{make, plain, plant, r1, refusal, Random, EASE, L, STORE};
 
 #[test]
 fn refusals_and_their_order() {
@@ -64,12 +64,7 @@ fn made_lists_and_stores() {
 #[test]
 fn no_other_slot_is_looked_at() {
     let mut store = vec![0xFF; STORE];
-    store[..133].fill(0);
-    store[0] = 1;
-    store[5] = 0x11;
-    store[6] = 1;
-    store[5 + 40] = 0x10;
-    store[5 + 53] = 0x60;
+    plant(&mut store, 1, 1, 0, &r1(0x10, 0x60));
     let mut data = [0xFF];
     assert_eq!(marshal(&L, &store, 0, &mut data), Ok(1));
     assert_eq!(data, [0x6F]);

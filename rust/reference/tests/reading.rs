@@ -1,7 +1,7 @@
 mod support;
 
 use reference::{read, Reading};
-use support::{make, plain, refusal, Random, EASE, L, STORE};
+use support::{make, plain, plant, r1, refusal, Random, EASE, L, STORE};
 
 #[test]
 fn refusals_and_their_order() {
@@ -27,13 +27,11 @@ fn refusals_and_their_order() {
 #[test]
 fn heard_and_head() {
     let mut store = vec![0; STORE];
+    let mut telegram = r1(0x10, 0x40);
     for heard in 0..=255u8 {
         for head in 0..=255u8 {
-            store[0] = heard;
-            store[5] = head;
-            store[6] = 1;
-            store[5 + 40] = 0x10;
-            store[5 + 53] = 0x40;
+            telegram[0] = head;
+            plant(&mut store, 1, heard, 0, &telegram);
             let reason = match (heard, head) {
                 (1, 0x11) => 0,
                 (1, 0x12 | 0x13) => 4,
@@ -47,14 +45,13 @@ fn heard_and_head() {
 #[test]
 fn version_0_is_read_as_1() {
     let mut store = vec![0; STORE];
-    store[0] = 1;
-    store[5] = 0x11;
-    store[5 + 40] = 0x10;
+    let mut telegram = r1(0x10, 0);
     let mut list = L;
     for since in 1..=255u8 {
         list[11] = since;
         for version in 0..=255u8 {
-            store[6] = version;
+            telegram[1] = version;
+            plant(&mut store, 1, 1, 0, &telegram);
             let reason = if since > version.max(1) { 5 } else { 0 };
             assert_eq!(read(&list, &store, 0, 1, 0).unwrap().reason, reason);
         }
@@ -66,9 +63,7 @@ fn limit_0_means_none() {
     let mut list = L;
     list[12..16].fill(0);
     let mut store = vec![0; STORE];
-    store[0] = 1;
-    store[5] = 0x11;
-    store[5 + 40] = 0x10;
+    plant(&mut store, 1, 1, 0, &r1(0x10, 0));
     assert_eq!(read(&list, &store, u32::MAX, 1, 0).unwrap().reason, 0);
 }
 

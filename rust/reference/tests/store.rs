@@ -1,7 +1,7 @@
 mod support;
 
 use reference::take;
-use support::{refusal, Random, STORE};
+use support::{plant, refusal, Random, SLOT, STORE};
 
 fn telegram(head: u8, length: usize) -> Vec<u8> {
     let mut telegram = vec![7; length];
@@ -19,14 +19,9 @@ fn a_whole_slot_and_no_other_octet() {
             sent[0] = head;
             let now = r.word() as u32;
             let mut store = before.clone();
-            assert_eq!(take(&mut store, vehicle, now, &sent), Ok(()));
-            let mut slot = vec![1];
-            slot.extend(now.to_be_bytes());
-            slot.extend(&sent);
-            slot.resize(133, 0);
-            let at = 133 * (vehicle as usize - 1);
+            assert_eq!(take(&mut store, vehicle as u64, now, &sent), Ok(()));
             let mut expected = before;
-            expected[at..at + 133].copy_from_slice(&slot);
+            plant(&mut expected, vehicle, 1, now, &sent);
             assert_eq!(store, expected);
         }
     }
@@ -43,7 +38,7 @@ fn refusals_and_their_order() {
         answer.map_or_else(|refusal| refusal, |()| refusal(0, 0))
     };
     assert_eq!(try_it(STORE, 1, &good), refusal(0, 0));
-    for size in [0, 133, STORE - 133, STORE - 1, STORE + 1, STORE + 133] {
+    for size in [0, SLOT, STORE - SLOT, STORE - 1, STORE + 1, STORE + SLOT] {
         assert_eq!(try_it(size, 1, &good), refusal(5, 0));
         assert_eq!(try_it(size, 0, &[]), refusal(5, 0));
     }

@@ -1,7 +1,7 @@
 //! Makers of lists, stores and values.
 
 use super::plain::{Code, List, Route, Signal};
-use super::{Random, STORE};
+use super::{Random, HEAD, HEARD, SIGNAL_SIZE, SLOT, STAMP, STORE};
 
 /// A good list. `full` asks for as many entries as fit.
 pub fn list(r: &mut Random, full: bool) -> List {
@@ -122,7 +122,7 @@ pub fn spoiled(r: &mut Random, list: &List) -> Vec<u8> {
                 let at = r.below(4) as usize;
                 let sizes = [
                     2 * list.checks.len(),
-                    16 * list.signals.len(),
+                    SIGNAL_SIZE * list.signals.len(),
                     6 * list.codes.len(),
                 ];
                 let count = 2 * at + sizes[..at].iter().sum::<usize>();
@@ -242,8 +242,8 @@ pub fn changed(r: &mut Random, list: &List) -> List {
 /// A store in which most vehicles were heard not long before `now`.
 pub fn store(r: &mut Random, now: u32) -> Vec<u8> {
     let mut store = r.octets(STORE);
-    for slot in store.chunks_mut(133) {
-        slot[0] = r.of(&[0, 1, 1, 1, 1, 1, 1, 2, 255]);
+    for slot in store.chunks_mut(SLOT) {
+        slot[HEARD] = r.of(&[0, 1, 1, 1, 1, 1, 1, 2, 255]);
         let age = r.of(&[
             0,
             1,
@@ -258,15 +258,16 @@ pub fn store(r: &mut Random, now: u32) -> Vec<u8> {
             600_001,
             u32::MAX,
         ]);
-        slot[1..5].copy_from_slice(&now.wrapping_sub(age).to_be_bytes());
-        slot[5] = r.of(&[
+        slot[STAMP].copy_from_slice(&now.wrapping_sub(age).to_be_bytes());
+        let telegram = &mut slot[HEAD..];
+        telegram[0] = r.of(&[
             0x11, 0x12, 0x13, 0x11, 0x12, 0x13, 0x11, 0x12, 0x13, 0x10, 0x14, 0x01, 0x21, 0xF1,
         ]);
-        slot[6] = r.of(&[0, 1, 2, 3, 5, 254, 255]);
+        telegram[1] = r.of(&[0, 1, 2, 3, 5, 254, 255]);
         if r.one_in(3) {
             // Small values, and marks all ok or all forced.
             let mark = r.of(&[0x55, 0xAA]);
-            slot[7..].fill(mark);
+            telegram[2..].fill(mark);
         }
     }
     store

@@ -4,6 +4,11 @@
 
 pub mod make;
 pub mod plain;
+// By its text, not by the library's names: the proved library, on which these tests run too, has none.
+#[path = "../../src/sizes.rs"]
+mod sizes;
+
+pub use sizes::*;
 
 /// The list L of the bench examples.
 pub const L: [u8; 44] = [
@@ -15,14 +20,31 @@ pub const L: [u8; 44] = [
     0x00, 0x01, 0x00, 0x00, 0x01, 0x00, 0x00, 0x00, // routes
 ];
 
-pub const STORE: usize = 8379;
-
 /// Rounds are divided by this, and the numbers of cases they must meet: an unoptimized build is slow.
 pub const EASE: usize = if cfg!(debug_assertions) { 10 } else { 1 };
 
 /// A refusal by its number and what it carries.
 pub fn refusal(number: u8, carried: u64) -> reference::Refusal {
     reference::Refusal { number, carried }
+}
+
+/// An R1 of version 1 with octets 41 and 54 as given: the check and the signal of L.
+pub fn r1(octet_41: u8, octet_54: u8) -> [u8; TELEGRAM] {
+    let mut telegram = [0; TELEGRAM];
+    telegram[0] = 0x11;
+    telegram[1] = 1;
+    telegram[40] = octet_41;
+    telegram[53] = octet_54;
+    telegram
+}
+
+/// Fills a vehicle's slot: the heard octet, the stamp, the telegram and zeros behind it.
+pub fn plant(store: &mut [u8], vehicle: usize, heard: u8, stamp: u32, telegram: &[u8]) {
+    let slot = &mut store[SLOT * (vehicle - 1)..SLOT * vehicle];
+    slot.fill(0);
+    slot[HEARD] = heard;
+    slot[STAMP].copy_from_slice(&stamp.to_be_bytes());
+    slot[HEAD..HEAD + telegram.len()].copy_from_slice(telegram);
 }
 
 /// xorshift64*.

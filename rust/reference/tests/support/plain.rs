@@ -1,5 +1,6 @@
 //! Document 01 in its plainest form.
 
+use super::{HEAD, HEARD, SIGNAL_SIZE, SLOT, STAMP};
 use reference::{Counts, Reading, Refusal};
 
 pub fn bit(octets: &[u8], address: usize) -> bool {
@@ -140,7 +141,7 @@ impl List {
             }
             good.checks.push(place);
         }
-        for (offset, e) in section(list, &mut at, 256, 16)? {
+        for (offset, e) in section(list, &mut at, 256, SIGNAL_SIZE)? {
             let s = Signal::of(&e);
             let rules = [
                 (1..=48).contains(&s.width),
@@ -306,9 +307,9 @@ pub fn extends(a: &List, b: &List) -> bool {
 
 pub fn read(list: &List, store: &[u8], now: u32, vehicle: u64, signal: u64) -> Reading {
     let s = &list.signals[signal as usize];
-    let slot = &store[133 * (vehicle as usize - 1)..133 * vehicle as usize];
-    let telegram = &slot[5..];
-    let age = (u64::from(now) + (1 << 32) - number(&slot[1..5])) % (1 << 32);
+    let slot = &store[SLOT * (vehicle as usize - 1)..SLOT * vehicle as usize];
+    let telegram = &slot[HEAD..];
+    let age = (u64::from(now) + (1 << 32) - number(&slot[STAMP])) % (1 << 32);
     let kind = get(telegram, 4, 4);
     let version = if telegram[1] == 0 {
         1
@@ -317,7 +318,7 @@ pub fn read(list: &List, store: &[u8], now: u32, vehicle: u64, signal: u64) -> R
     };
     let mark = list.place(s).map(|place| get(telegram, place as usize, 2));
     let value = get(telegram, s.start as usize, s.width as usize);
-    let reason = if slot[0] != 1 || get(telegram, 0, 4) != 1 || !(1..=3).contains(&kind) {
+    let reason = if slot[HEARD] != 1 || get(telegram, 0, 4) != 1 || !(1..=3).contains(&kind) {
         2
     } else if s.limit != 0 && age > s.limit {
         3

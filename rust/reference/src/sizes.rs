@@ -1,0 +1,23 @@
+//! The sizes that document 01 gives a store and a signal entry. Each is spelled here alone: the tests, the
+//! comparison and the bench take them from here.
+
+use std::ops::Range;
+
+/// "63 slots".
+pub const VEHICLES: usize = 63;
+
+/// Where the "heard octet" of a slot stands.
+pub const HEARD: usize = 0;
+/// Where the "4-octet stamp" of a slot stands.
+pub const STAMP: Range<usize> = 1..5;
+/// The octets of a slot before its telegram.
+pub const HEAD: usize = STAMP.end;
+/// "128 telegram octets".
+pub const TELEGRAM: usize = 128;
+/// The octets of a slot.
+pub const SLOT: usize = HEAD + TELEGRAM;
+/// The octets of a store.
+pub const STORE: usize = VEHICLES * SLOT;
+
+/// The octets of a signal entry.
+pub const SIGNAL_SIZE: usize = 16;
