@@ -185,7 +185,7 @@ fn take(name: &str, telegram: Vec<u8>) -> Case {
     let telegram = leak(telegram);
     said(
         name,
-        vec![0xA5; 63 * 133],
+        vec![0xA5; reference::STORE],
         move |store| proved::take(store, black_box(32), black_box(STAMP), black_box(telegram)),
         move |store| rust::take(store, black_box(32), black_box(STAMP), black_box(telegram)),
     )

@@ -119,7 +119,7 @@ pub fn telegram() -> Vec<u8> {
 
 /// All 63 vehicles heard, each with this telegram.
 pub fn store(telegram: &[u8]) -> Vec<u8> {
-    let mut store = vec![0; 63 * 133];
+    let mut store = vec![0; reference::STORE];
     for vehicle in 1..=63 {
         reference::take(&mut store, vehicle, STAMP, telegram)
             .expect("the telegram of the bench is taken");

@@ -4,8 +4,8 @@ use crate::case::{Call, Case};
 use crate::damage::{any_list, mostly_good};
 use crate::list::List;
 use crate::random::Random;
-use crate::store::{self, STORE};
-use crate::{make, pair};
+use crate::{make, pair, store};
+use reference::{SLOT, STORE};
 
 /// The request codes of document 01.
 pub const REQUESTS: [u16; 25] = [
@@ -70,7 +70,7 @@ fn resized(r: &Random, mut octets: Vec<u8>, len: usize) -> Vec<u8> {
 fn any_store(r: &Random, store: Vec<u8>) -> Vec<u8> {
     match r.below(24) {
         0 => {
-            let len = r.of(&[STORE - 1, STORE + 1, STORE - 133, STORE + 133, 0]);
+            let len = r.of(&[STORE - 1, STORE + 1, STORE - SLOT, STORE + SLOT, 0]);
             resized(r, store, len)
         }
         _ => store,

@@ -1,5 +1,7 @@
 //! A signal list as numbers, good or not, and its octets.
 
+use reference::SIGNAL_SIZE;
+
 #[derive(Debug, Clone, Copy, PartialEq)]
 pub struct Signal {
     pub start: u64,
@@ -38,9 +40,12 @@ pub struct List {
 
 /// The most entries of the four sections, and the octets of an entry.
 pub const MOST: [usize; 4] = [64, 256, 512, 512];
-pub const SIZE: [usize; 4] = [2, 16, 6, 6];
-/// "The longest list has 10,376 octets."
-pub const LONGEST: usize = 10_376;
+pub const SIZE: [usize; 4] = [2, SIGNAL_SIZE, 6, 6];
+/// The octets of the longest list: every section at its limit, each after a 2-octet count.
+pub const LONGEST: usize = {
+    let [checks, signals, codes, routes] = MOST;
+    4 * 2 + checks * SIZE[0] + signals * SIZE[1] + codes * SIZE[2] + routes * SIZE[3]
+};
 
 impl Signal {
     pub fn end(&self) -> u64 {

@@ -140,6 +140,7 @@ mod tests {
     use super::*;
     use crate::random::Random;
     use crate::{generate, make};
+    use reference::SIGNAL_SIZE;
 
     #[test]
     fn what_shows_the_difference_stays() {
@@ -162,7 +163,7 @@ mod tests {
             let case = Case::new(Call::Judge, vec![list], vec![]);
             if signals(&case) > 0 {
                 let small = shrunk(&case, |case| signals(case) > 0);
-                assert_eq!(small.areas[0].len(), 2 + 18 + 2 + 2);
+                assert_eq!(small.areas[0].len(), 4 * 2 + SIGNAL_SIZE);
             }
         }
     }

@@ -2,10 +2,10 @@
 
 use crate::list::{List, Signal};
 use crate::random::Random;
-use reference::write_field;
+use reference::{write_field, HEAD, HEARD, SLOT, STAMP, STORE};
 
-pub const STORE: usize = 8379;
-const SLOT: usize = 133;
+// The wrappers spell the store's length themselves, since they depend on nothing: they must not differ.
+const _: () = assert!(dustferrule::STORE_OCTETS == STORE);
 
 /// A clock value: anywhere, or around the wrap.
 pub fn clock(r: &Random) -> u32 {
@@ -80,8 +80,20 @@ fn kind(r: &Random, list: &List) -> u64 {
     }
 }
 
-fn slot(store: &mut [u8], vehicle: usize) -> &mut [u8] {
-    &mut store[SLOT * (vehicle - 1)..SLOT * vehicle]
+/// Fills a vehicle's slot: the heard octet, the stamp, the telegram and zeros behind it. Gives the slot.
+pub fn plant<'a>(
+    store: &'a mut [u8],
+    vehicle: usize,
+    heard: u8,
+    stamp: u32,
+    telegram: &[u8],
+) -> &'a mut [u8] {
+    let slot = &mut store[SLOT * (vehicle - 1)..SLOT * vehicle];
+    slot.fill(0);
+    slot[HEARD] = heard;
+    slot[STAMP].copy_from_slice(&stamp.to_be_bytes());
+    slot[HEAD..HEAD + telegram.len()].copy_from_slice(telegram);
+    slot
 }
 
 /// A store as read at a clock value: vehicles 1 to 3 were heard most of the time.
@@ -97,11 +109,7 @@ pub fn store(r: &Random, list: &List, now: u32) -> Vec<u8> {
         let kind = kind(r, list);
         let telegram = telegram(r, list, kind);
         let stamp = now.wrapping_sub(age(r, list));
-        let slot = slot(&mut store, vehicle);
-        slot.fill(0);
-        slot[0] = 1;
-        slot[1..5].copy_from_slice(&stamp.to_be_bytes());
-        slot[5..5 + telegram.len()].copy_from_slice(&telegram);
+        let slot = plant(&mut store, vehicle, 1, stamp, &telegram);
         if r.one_in(8) {
             unsettle(r, slot);
         }
@@ -112,23 +120,23 @@ pub fn store(r: &Random, list: &List, now: u32) -> Vec<u8> {
 /// What no taking leaves.
 fn unsettle(r: &Random, slot: &mut [u8]) {
     match r.below(4) {
-        0 => slot[0] = r.of(&[0, 2, 3, 128, 255]),
-        1 => slot[5] = r.octet(),
-        2 => slot[5] = r.of(&[0x10, 0x14, 0x1F, 0x01, 0x21, 0x31, 0x02, 0xF3]),
-        _ => slot[45..].fill(0x5A),
+        0 => slot[HEARD] = r.of(&[0, 2, 3, 128, 255]),
+        1 => slot[HEAD] = r.octet(),
+        2 => slot[HEAD] = r.of(&[0x10, 0x14, 0x1F, 0x01, 0x21, 0x31, 0x02, 0xF3]),
+        _ => slot[HEAD + 40..].fill(0x5A),
     }
 }
 
 fn strange(r: &Random, list: &List, now: u32) -> Vec<u8> {
     let mut store = r.octets(STORE);
     for slot in store.chunks_mut(SLOT) {
-        slot[0] = r.of(&[0, 1, 1, 1, 1, 2, 255]);
+        slot[HEARD] = r.of(&[0, 1, 1, 1, 1, 2, 255]);
         let stamp = now.wrapping_sub(age(r, list));
-        slot[1..5].copy_from_slice(&stamp.to_be_bytes());
-        slot[5] = r.of(&[
-            0x11, 0x12, 0x13, 0x11, 0x12, 0x13, 0x10, 0x14, 0x21, slot[5],
+        slot[STAMP].copy_from_slice(&stamp.to_be_bytes());
+        slot[HEAD] = r.of(&[
+            0x11, 0x12, 0x13, 0x11, 0x12, 0x13, 0x10, 0x14, 0x21, slot[HEAD],
         ]);
-        slot[6] = r.of(&[0, 1, 2, 255, slot[6]]);
+        slot[HEAD + 1] = r.of(&[0, 1, 2, 255, slot[HEAD + 1]]);
     }
     store
 }

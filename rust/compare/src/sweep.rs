@@ -2,7 +2,8 @@
 
 use crate::case::{Call, Case};
 use crate::generate::REQUESTS;
-use crate::store::STORE;
+use crate::store::plant;
+use reference::{STORE, TELEGRAM};
 
 /// The list L of the bench examples.
 const L: [u8; 44] = [
@@ -131,11 +132,12 @@ fn lists(try_one: &mut impl FnMut(Case)) {
 /// The list L read with every head, every version, every mark and every code, at the ages around its limit.
 fn readings(try_one: &mut impl FnMut(Case)) {
     let mut read = |heard: u8, octets: [(usize, u8); 4], clock: u64| {
-        let mut store = vec![0; STORE];
-        store[0] = heard;
+        let mut telegram = [0; TELEGRAM];
         octets
             .iter()
-            .for_each(|&(octet, value)| store[4 + octet] = value);
+            .for_each(|&(octet, value)| telegram[octet - 1] = value);
+        let mut store = vec![0; STORE];
+        plant(&mut store, 1, heard, 0, &telegram);
         try_one(Case::new(
             Call::Read,
             vec![L.to_vec(), store],

@@ -11,7 +11,8 @@ pub mod raw;
 
 pub use answers::{Counts, EReading, Extends, Kind, Members, Reading, Refusal, Shown};
 
-/// The length of a store: 63 slots of 133 octets, vehicle 1 first. A store of zeros has heard nobody.
+/// The length of a store: a slot for each of 63 vehicles, vehicle 1 first. A store of zeros has heard nobody.
+// Spelled here too, since a program that links the library needs no other crate; `compare` does not build where `reference` has another.
 pub const STORE_OCTETS: usize = 8379;
 
 /// The answer, or the refusal where its number is not 0.
