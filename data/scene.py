@@ -9,6 +9,7 @@ import os
 import sys
 
 from files import HERE, settle
+from slots import slot, store
 
 ERROR, OK, FORCED = 0, 1, 2
 LENGTHS = {"R1": 128, "R2": 128, "R3": 40}
@@ -86,11 +87,6 @@ def values_file(kind, values):
     return ("\n".join(lines) + "\n").encode()
 
 
-def slot(clock, octets):
-    """A slot of the store: heard, the stamp, the telegram and zeros up to 128 octets."""
-    return b"\1" + clock.to_bytes(4, "big") + octets + bytes(128 - len(octets))
-
-
 def main():
     r1 = telegram("R1", 3, LEADING, {326: FORCED}, True)
     r2 = telegram("R2", 2, LED, {324: FORCED, 330: ERROR})
@@ -100,7 +96,7 @@ def main():
         "scene/1-R1.values": values_file("R1", LEADING),
         "scene/2-R2.telegram": r2,
         "scene/3-R3.telegram": r3,
-        "scene/train.store": slot(6000, r1) + slot(7500, r2) + slot(1000, r3) + bytes(60 * 133),
+        "scene/train.store": store(slot(6000, r1), slot(7500, r2), slot(1000, r3)),
     }, "scene.py")
 
 

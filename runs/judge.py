@@ -8,6 +8,8 @@ import tempfile
 WORDS = {
     1: "list ends inside a count or a section", 2: "count above its limit", 3: "entry breaks its rule", 4: "octets after the routes",
 }
+# the octets of a check, a signal, a code range and a route
+SIZES = (2, 16, 6, 6)
 
 
 def n(value, octets):
@@ -40,6 +42,11 @@ def ok(checks, signals, codes, routes, version):
 
 def refused(number, offset):
     return f"refused {number} at {offset}: {WORDS[number]}"
+
+
+def behind(*entries):
+    """The offset behind so many checks, signals, code ranges and routes: that of the next entry, in the last section that is given."""
+    return sum(2 + size * count for size, count in zip(SIZES, entries))
 
 
 L = bytes.fromhex("0001 0142 0001 01A8 04 01 01 01 00001388 000000000000 0002 0000 0000 0006 0000 000F 000F 0001 0000 01 00 0000")
@@ -85,10 +92,10 @@ TABLE = [
     ("one octet", b"\0", refused(1, 0)),
     ("four empty sections", pack(), ok(0, 0, 0, 0, 1)),
     ("the longest list", LONGEST, ok(64, 256, 512, 512, 1)),
-    ("the longest list and an octet", LONGEST + b"\0", refused(4, 10376)),
+    ("the longest list and an octet", LONGEST + b"\0", refused(4, len(LONGEST))),
     ("100,000 octets of 0", bytes(100000), refused(4, 8)),
     ("100,000 octets of FF", b"\xff" * 100000, refused(2, 0)),
-    ("the longest list and 100,000 octets more", LONGEST + bytes(100000), refused(4, 10376)),
+    ("the longest list and 100,000 octets more", LONGEST + bytes(100000), refused(4, len(LONGEST))),
     ("ends inside the signals' count", n(0, 2) + b"\0", refused(1, 2)),
     ("ends inside a check", n(2, 2) + check(16) + b"\0", refused(1, 0)),
     ("65 checks", n(65, 2) + bytes(130), refused(2, 0)),
@@ -122,8 +129,8 @@ TABLE = [
     ("replacement 2^width - 1", one_signal(signal(424, 4, replacement=15)), ok(0, 1, 0, 0, 1)),
     ("replacement 2^width", one_signal(signal(424, 4, replacement=16)), refused(3, 4)),
     ("replacement 2^48 - 1", one_signal(signal(424, 48, replacement=2**48 - 1)), ok(0, 1, 0, 0, 1)),
-    ("types that fall", second_signal(signal(424, 4, 2), signal(500, 4, 1)), refused(3, 20)),
-    ("start before the end before", second_signal(signal(424, 4), signal(427, 4)), refused(3, 20)),
+    ("types that fall", second_signal(signal(424, 4, 2), signal(500, 4, 1)), refused(3, behind(0, 1))),
+    ("start before the end before", second_signal(signal(424, 4), signal(427, 4)), refused(3, behind(0, 1))),
     ("start at the end before", second_signal(signal(424, 4), signal(428, 4)), ok(0, 2, 0, 0, 1)),
     ("the same place in another type", second_signal(signal(424, 4, 1), signal(424, 4, 2)), ok(0, 2, 0, 0, 1)),
     ("field on a check nobody names", one_signal(S, [check(426)]), refused(3, SIGNALS)),
@@ -132,23 +139,23 @@ TABLE = [
     ("field that starts past a check", one_signal(S, [check(422)]), ok(1, 1, 0, 0, 1)),
     ("a shared bit before a later broken entry", pack([check(426)], [S, signal(500, 0)]), refused(3, SIGNALS)),
     ("a broken entry before a shared bit", pack([check(502)], [signal(424, 0), signal(500, 4)]), refused(3, SIGNALS)),
-    ("code of a signal that does not exist", one_code(code(1, 0, 1)), refused(3, 22)),
+    ("code of a signal that does not exist", one_code(code(1, 0, 1)), refused(3, behind(0, 1, 0))),
     ("code of a signal of width 16", one_code(code(0, 0, 65535), signal(424, 16)), ok(0, 1, 1, 0, 1)),
-    ("code of a signal of width 17", one_code(code(0, 0, 1), signal(424, 17)), refused(3, 22)),
-    ("low above high", one_code(code(0, 3, 2)), refused(3, 22)),
-    ("high 2^width", one_code(code(0, 0, 16)), refused(3, 22)),
-    ("signal numbers that fall", codes_of(code(1, 0, 0), code(0, 0, 0)), refused(3, 44)),
-    ("low exceeds the previous high by 1", codes_of(code(0, 0, 3), code(0, 4, 5)), refused(3, 44)),
+    ("code of a signal of width 17", one_code(code(0, 0, 1), signal(424, 17)), refused(3, behind(0, 1, 0))),
+    ("low above high", one_code(code(0, 3, 2)), refused(3, behind(0, 1, 0))),
+    ("high 2^width", one_code(code(0, 0, 16)), refused(3, behind(0, 1, 0))),
+    ("signal numbers that fall", codes_of(code(1, 0, 0), code(0, 0, 0)), refused(3, behind(0, 2, 1))),
+    ("low exceeds the previous high by 1", codes_of(code(0, 0, 3), code(0, 4, 5)), refused(3, behind(0, 2, 1))),
     ("low exceeds the previous high by 2", codes_of(code(0, 0, 3), code(0, 5, 5)), ok(0, 2, 2, 0, 1)),
-    ("a range after high 65,535", pack((), [signal(424, 16)], [code(0, 0, 65535), code(0, 1, 1)]), refused(3, 28)),
-    ("route of a signal that does not exist", routes_of(route(2, 1, 0)), refused(3, 40)),
-    ("vehicle 0", routes_of(route(0, 0, 0)), refused(3, 40)),
+    ("a range after high 65,535", pack((), [signal(424, 16)], [code(0, 0, 65535), code(0, 1, 1)]), refused(3, behind(0, 1, 1))),
+    ("route of a signal that does not exist", routes_of(route(2, 1, 0)), refused(3, behind(0, 2, 0, 0))),
+    ("vehicle 0", routes_of(route(0, 0, 0)), refused(3, behind(0, 2, 0, 0))),
     ("vehicle 63", routes_of(route(0, 63, 0)), ok(0, 2, 0, 1, 1)),
-    ("vehicle 64", routes_of(route(0, 64, 0)), refused(3, 40)),
-    ("a route's zero octet set", routes_of(route(0, 1, 0, 1)), refused(3, 40)),
+    ("vehicle 64", routes_of(route(0, 64, 0)), refused(3, behind(0, 2, 0, 0))),
+    ("a route's zero octet set", routes_of(route(0, 1, 0, 1)), refused(3, behind(0, 2, 0, 0))),
     ("a route to bit 2048", routes_of(route(0, 1, 2044)), ok(0, 2, 0, 1, 1)),
-    ("a route past bit 2048", routes_of(route(0, 1, 2045)), refused(3, 40)),
-    ("route before the end before", routes_of(route(1, 1, 0), route(0, 1, 7)), refused(3, 46)),
+    ("a route past bit 2048", routes_of(route(0, 1, 2045)), refused(3, behind(0, 2, 0, 0))),
+    ("route before the end before", routes_of(route(1, 1, 0), route(0, 1, 7)), refused(3, behind(0, 2, 0, 1))),
     ("route at the end before", routes_of(route(1, 1, 0), route(0, 1, 8)), ok(0, 2, 0, 2, 1)),
     ("an octet after the routes", pack() + b"\0", refused(4, 8)),
 ]
@@ -192,7 +199,7 @@ def main():
         if got != expected + "\n":
             print(f"judge, data/{name}.list: expected {expected!r}, got {got!r}")
             bad += 1
-    assert len(LONGEST) == 10376
+    assert len(LONGEST) == behind(64, 256, 512, 512)
     print(f"judge: {len(TABLE) + len(WORDS_WRONG) + 6} runs, {bad} wrong")
     return 1 if bad else 0
 

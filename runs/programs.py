@@ -15,6 +15,9 @@ import tempfile
 import judge as lists
 
 ROOT = os.path.dirname(os.path.dirname(os.path.abspath(__file__)))
+sys.path.append(os.path.join(ROOT, "data"))
+import slots  # from data/
+
 EXPECTED = os.path.join(ROOT, "runs", "expected")
 CLOCK = "9000"
 MOST = "not a whole number from 0 to 4294967295"
@@ -22,6 +25,7 @@ NO_FILE = "no such file or folder"
 TOO_LONG = "the path is too long"
 NO_TELEGRAM = "exists and is no telegram"
 BUSY = "exists: another program is at work, or was cut short and left it"
+NO_STORE = f"5: store not {slots.STORE:,} octets"
 
 
 def data(name):
@@ -29,14 +33,10 @@ def data(name):
         return f.read()
 
 
-def slot(clock, telegram):
-    return b"\1" + clock.to_bytes(4, "big") + telegram + bytes(128 - len(telegram))
-
-
 R1, R2, R3 = data("scene/1-R1.telegram"), data("scene/2-R2.telegram"), data("scene/3-R3.telegram")
-NEW = bytes(8379)
-TRAIN = slot(6000, R1) + slot(7500, R2) + slot(1000, R3) + bytes(60 * 133)
-FULL = slot(5000, R1) * 63
+NEW = slots.store()
+TRAIN = slots.store(slots.slot(6000, R1), slots.slot(7500, R2), slots.slot(1000, R3))
+FULL = slots.store(*[slots.slot(5000, R1)] * slots.VEHICLES)
 
 # a field across octets, one of a whole octet and one of two; and the same places with another width, another limit and one signal less
 ACROSS = lists.pack([], [lists.signal(372, 12), lists.signal(384, 8), lists.signal(400, 16)], [], [lists.route(0, 1, 4), lists.route(1, 1, 16)])
@@ -88,7 +88,7 @@ def no_list(words, i, name="LIST", of=""):
     for file, line in (
         ("ends.list", f"1 at 36{of}: list ends inside a count or a section"), ("empty", f"1 at 0{of}: list ends inside a count or a section"),
         ("above.list", f"2 at 0{of}: count above its limit"), ("broken.list", f"3 at 2{of}: entry breaks its rule"),
-        ("more.list", f"4 at 44{of}: octets after the routes"), ("huge.list", f"4 at 10376{of}: octets after the routes"),
+        ("more.list", f"4 at 44{of}: octets after the routes"), ("huge.list", f"4 at {len(lists.LONGEST)}{of}: octets after the routes"),
     ):
         yield words[:i] + [file] + words[i + 1:], refused(line)
     yield from no_file(name, words, i)
@@ -119,13 +119,13 @@ def take_table():
     yield ["take", "new", "folder"], error("STORE 'folder': exists already")
     yield ["take", "new", "none/x"], error("STORE 'none/x': " + NO_FILE)
     yield ["take", "new", ""], error("STORE '': " + NO_FILE)
-    yield words, says("taken R1 version 3 vehicle 1 at 5000", store=slot(5000, R1) + NEW[133:])
-    yield ["take", "store", "2", "0", "r2"], says("taken R2 version 2 vehicle 2 at 0", store=NEW[:133] + slot(0, R2) + NEW[266:])
-    yield ["take", "store", "63", "4294967295", "r3"], says("taken R3 version 1 vehicle 63 at 4294967295", store=NEW[:-133] + slot(4294967295, R3))
-    yield ["take", "full", "7", "7", "r3"], says("taken R3 version 1 vehicle 7 at 7", full=FULL[:798] + slot(7, R3) + FULL[931:])
-    yield ["take", "store", "007", "7", "r3"], says("taken R3 version 1 vehicle 7 at 7", store=NEW[:798] + slot(7, R3) + NEW[931:])
-    yield ["take", "store-1", "99", "1", "one"], refused("5: store not 8,379 octets")
-    yield ["take", "store+1", "1", "1", "r1"], refused("5: store not 8,379 octets")
+    yield words, says("taken R1 version 3 vehicle 1 at 5000", store=slots.taken(NEW, 1, 5000, R1))
+    yield ["take", "store", "2", "0", "r2"], says("taken R2 version 2 vehicle 2 at 0", store=slots.taken(NEW, 2, 0, R2))
+    yield ["take", "store", "63", "4294967295", "r3"], says("taken R3 version 1 vehicle 63 at 4294967295", store=slots.taken(NEW, 63, 4294967295, R3))
+    yield ["take", "full", "7", "7", "r3"], says("taken R3 version 1 vehicle 7 at 7", full=slots.taken(FULL, 7, 7, R3))
+    yield ["take", "store", "007", "7", "r3"], says("taken R3 version 1 vehicle 7 at 7", store=slots.taken(NEW, 7, 7, R3))
+    yield ["take", "store-1", "99", "1", "one"], refused(NO_STORE)
+    yield ["take", "store+1", "1", "1", "r1"], refused(NO_STORE)
     yield ["take", "store", "0", "1", "one"], refused("6: vehicle not 1-63")
     yield ["take", "store", "64", "1", "r1"], refused("6: vehicle not 1-63")
     yield ["take", "store", "4294967295", "1", "r1"], refused("6: vehicle not 1-63")
@@ -165,8 +165,8 @@ def believe_table():
     yield ["believe", "coach.list", "train", CLOCK, "0"], refused("6: vehicle not 1-63")
     yield ["believe", "coach.list", "train", CLOCK, "64", "999"], refused("6: vehicle not 1-63")
     yield ["believe", "coach.list", "train", CLOCK, "1", "165"], refused("11: no such signal")
-    yield ["believe", "coach.list", "store-1", CLOCK, "64", "999"], refused("5: store not 8,379 octets")
-    yield ["believe", "coach.list", "store+1", CLOCK], refused("5: store not 8,379 octets")
+    yield ["believe", "coach.list", "store-1", CLOCK, "64", "999"], refused(NO_STORE)
+    yield ["believe", "coach.list", "store+1", CLOCK], refused(NO_STORE)
     yield from no_list(["believe", "L.list", "store-1", CLOCK, "64"], 1)
     yield from no_file("STORE", words, 2)
     yield from no_number("CLOCK", words, 3)
@@ -184,7 +184,7 @@ def differ_table():
     yield ["differ", "across.list", "across-2.list", "train", "12000"], as_in("differ-widths")
     yield ["differ", "L.list", "L.list", "store", CLOCK, "63"], as_in("differ-never")
     yield ["differ", "coach.list", "next.list", "train", CLOCK, "64"], refused("6: vehicle not 1-63")
-    yield ["differ", "coach.list", "next.list", "store+1", CLOCK, "64"], refused("5: store not 8,379 octets")
+    yield ["differ", "coach.list", "next.list", "store+1", CLOCK, "64"], refused(NO_STORE)
     yield ["differ", "broken.list", "ends.list", "store+1", CLOCK], refused("3 at 2 (first list): entry breaks its rule")
     yield from no_list(["differ", "L.list", "L.list", "store-1", CLOCK], 1, "first LIST", " (first list)")
     yield from no_list(["differ", "L.list", "L.list", "store-1", CLOCK], 2, "second LIST", " (second list)")
@@ -209,7 +209,7 @@ def marshal_table():
     yield ["marshal", "longest.list", "full", CLOCK, "bus-4096"], says("marshalled 512 routes, 0 live", bus_4096=bytes(256) + b"\xff" * 3840)
     yield words[:4] + ["bus-17"], refused("12: data shorter than a route's end")
     yield words[:4] + ["empty"], refused("12: data shorter than a route's end")
-    yield ["marshal", "coach.list", "store-1", CLOCK, "empty"], refused("5: store not 8,379 octets")
+    yield ["marshal", "coach.list", "store-1", CLOCK, "empty"], refused(NO_STORE)
     yield words[:4] + ["bus-4097"], error("DATA 'bus-4097': more than 4096 octets")
     yield words[:4] + ["none"], error("DATA 'none': " + NO_FILE)
     yield words[:4] + ["folder"], error("DATA 'folder': is a folder")

@@ -1,0 +1,23 @@
+"""The layout of slots and store, spelled in Python here alone: for data/scene.py, which writes a store, and runs/programs.py, which expects them."""
+VEHICLES = 63
+TELEGRAM = 128
+
+
+def slot(clock, telegram):
+    """The slot of a vehicle that was heard: the heard octet, the stamp, the telegram and zeros behind it."""
+    return b"\1" + clock.to_bytes(4, "big") + telegram + bytes(TELEGRAM - len(telegram))
+
+
+SLOT = len(slot(0, b""))
+STORE = VEHICLES * SLOT
+
+
+def store(*slots):
+    """The store with these slots for the first vehicles; nobody else was heard."""
+    return b"".join(slots) + bytes(STORE - SLOT * len(slots))
+
+
+def taken(before, vehicle, clock, telegram):
+    """The store after a telegram was taken: the vehicle's slot is another, and no other octet."""
+    at = SLOT * (vehicle - 1)
+    return before[:at] + slot(clock, telegram) + before[at + SLOT:]
