@@ -15,7 +15,7 @@
  *    2 count above its limit                    11 no such signal                           20 nobody meets it
  *    3 entry breaks its rule                    12 data shorter than a route's end          21 E-telegram not 9 to 1,024 octets
  *    4 octets after the routes                  13 values or marks not one per entry        22 code neither request nor report
- *    5 store not 8,379 octets                   14 a written mark above 3                   23 answer to a report
+ *    5 store not DF_STORE_OCTETS octets         14 a written mark above 3                   23 answer to a report
  *    6 vehicle not 1-63                         15 a written value at or above 2^width,     24 head not 6 octets
  *    7 R-telegram under 2 octets                   or its code not known                    25 output under 9 octets
  *    8 application type not 1                   16 output length not the type's             26 scaled kind, width not 16 or raw above 65,535
@@ -36,7 +36,7 @@
 extern "C" {
 #endif
 
-/* The store: 63 slots of 133 octets, vehicle 1 first. A store of zeros has heard nobody. */
+/* The store: a slot for each of 63 vehicles, vehicle 1 first. A store of zeros has heard nobody. */
 #define DF_STORE_OCTETS 8379
 
 typedef struct { uint32_t refusal; uint64_t carried; } df_outcome;

@@ -34,7 +34,7 @@ static void lists(void)
 
 static void telegrams(void)
 {
-    static uint8_t store[DF_STORE_OCTETS];
+    static uint8_t store[DF_STORE_OCTETS], before[DF_STORE_OCTETS];
     uint8_t out[128], data[1] = {0xAB};
     uint64_t values[1] = {4};
     uint8_t marks[1] = {1};
@@ -43,12 +43,18 @@ static void telegrams(void)
     values[0] = 7;
     o = df_compose(L, sizeof L, 1, values, 1, marks, 1, out, sizeof out);
     expect("df_compose", o.refusal == 15 && o.carried == 0 && out[53] == 0x40);
-    o = df_take(store, sizeof store, 1, 1000, out, sizeof out);
-    expect("df_take", !o.refusal && !o.carried && store[0] == 1 && store[3] == 3 && store[4] == 0xE8 && store[5] == 0x11);
     df_reading r = df_read(L, sizeof L, store, sizeof store, 6000, 1, 0);
-    expect("df_read", !r.refusal && r.reason == 0 && !r.carried && r.value == 4);
+    expect("df_read", !r.refusal && r.reason == 2 && !r.carried && r.value == 0);
+    o = df_take(store, sizeof store, 1, 1000, out, sizeof out);
+    expect("df_take", !o.refusal && !o.carried && memcmp(store, before, sizeof store) != 0);
+    /* what was taken, and when: the value is live for 5,000 ms */
+    r = df_read(L, sizeof L, store, sizeof store, 6000, 1, 0);
+    expect("df_read after df_take", !r.refusal && r.reason == 0 && !r.carried && r.value == 4);
     r = df_read(L, sizeof L, store, sizeof store, 6001, 1, 0);
-    expect("df_read", !r.refusal && r.reason == 3 && !r.carried && r.value == 0);
+    expect("df_read after df_take", !r.refusal && r.reason == 3 && !r.carried && r.value == 0);
+    memcpy(before, store, sizeof store);
+    o = df_take(store, sizeof store - 1, 1, 2000, out, sizeof out);
+    expect("df_take", o.refusal == 5 && !o.carried && memcmp(store, before, sizeof store) == 0);
     df_marshalled m = df_marshal(L, sizeof L, store, sizeof store, 6000, data, sizeof data);
     expect("df_marshal", !m.refusal && !m.carried && m.lives == 1 && data[0] == 0x4B);
 }
