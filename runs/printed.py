@@ -5,8 +5,8 @@ A page shows commands in blocks fenced ```console: a line that begins with `$ ` 
 The blocks of a page are run in order, in a scratch folder in which everything of the repository is in its place. Code that is
 indented or fenced otherwise would escape, so it is an error; so is a command of NOT_RUN with an output under it.
 
-    runs/printed.py            all pages
-    runs/printed.py PAGE..     these
+    runs/printed.py [PAGE..]            all pages, or these
+    runs/printed.py --write [PAGE..]    also puts what comes into the pages, to be read before it is kept
 """
 import glob
 import os
@@ -59,10 +59,20 @@ def commands(block):
     return [(number, command, "".join(line + "\n" for line in lines)) for number, command, lines in out]
 
 
-def run_page(page):
+def rewritten(page, text, others):
+    """The page with what comes below each of these commands, by the command's line number, in place of what is printed there."""
+    lines = text.splitlines(keepends=True)
+    star = " * " if page.endswith(".h") else ""
+    for number, printed, comes in reversed(others):
+        lines[number : number + printed.count("\n")] = [star + line + "\n" for line in comes.splitlines()]
+    return "".join(lines)
+
+
+def run_page(page, write):
     """How many commands were run, and how many printed something else."""
-    ran = bad = 0
-    with open(os.path.join(ROOT, page)) as f:
+    ran, others = 0, []
+    path = os.path.join(ROOT, page)
+    with open(path) as f:
         text = f.read()
     with tempfile.TemporaryDirectory() as scratch:
         for name in os.listdir(ROOT):
@@ -76,17 +86,25 @@ def run_page(page):
                 done = subprocess.run(["bash", "-o", "pipefail", "-c", command], cwd=scratch, capture_output=True, text=True)
                 ran += 1
                 if done.stdout != printed:
-                    bad += 1
+                    others.append((number, printed, done.stdout))
                     print(f"{page}:{number}: $ {command}\n-- printed there --\n{printed}-- comes --\n{done.stdout}{done.stderr}", end="")
-    return ran, bad
+    if write and others:
+        with open(path, "w") as f:
+            f.write(rewritten(page, text, others))
+    return ran, len(others)
+
+
+def all_pages():
+    return sorted(set(os.path.relpath(p, ROOT) for g in PAGES for p in glob.glob(os.path.join(ROOT, g), recursive=True)))
 
 
 def main():
-    pages = sys.argv[1:] or sorted(set(os.path.relpath(p, ROOT) for g in PAGES for p in glob.glob(os.path.join(ROOT, g), recursive=True)))
-    results = [run_page(page) for page in pages]
+    write = "--write" in sys.argv
+    pages = [word for word in sys.argv[1:] if word != "--write"] or all_pages()
+    results = [run_page(page, write) for page in pages]
     ran, bad = sum(r for r, _ in results), sum(b for _, b in results)
-    print(f"printed: {ran} commands of {len(pages)} pages, {bad} print something else")
-    return bad != 0
+    print(f"printed: {ran} commands of {len(pages)} pages, {bad} print something else" + (", written" if write else ""))
+    return bad != 0 and not write
 
 
 if __name__ == "__main__":
