@@ -77,8 +77,8 @@ df_outcome df_take(uint8_t *store, size_t store_len, uint64_t vehicle, uint32_t 
 /* Reads one signal (number from 0) of one vehicle. Refusals 1-4, then 5, 6, 11. */
 df_reading df_read(const uint8_t *list, size_t list_len, const uint8_t *store, size_t store_len, uint32_t clock, uint64_t vehicle, uint64_t signal);
 
-/* Writes every route's value into its field of the data, and counts the live ones. Refusals 1-5, 12. */
-df_marshalled df_marshal(const uint8_t *list, size_t list_len, const uint8_t *store, size_t store_len, uint32_t clock, uint8_t *data, size_t data_len);
+/* Writes every route's value into its field of the vehicle bus data, and counts the live ones. Refusals 1-5, 12. */
+df_marshalled df_marshal(const uint8_t *list, size_t list_len, const uint8_t *store, size_t store_len, uint32_t clock, uint8_t *bus, size_t bus_len);
 
 /* Composes an R-telegram of type 1, 2 or 3: one value for each signal, one mark (0-3) for each check. Refusals 1-4, then 9, 13-16. */
 df_outcome df_compose(const uint8_t *list, size_t list_len, uint64_t type, const uint64_t *values, size_t values_len,

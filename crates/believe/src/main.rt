@@ -1,14 +1,15 @@
 // What a gateway believes: every signal of the vehicles heard, with place, value and reason.
-ghost use Prim.Native.Nat.{_<_};
-ghost use Rattle.paper.proofs.ListLaws.{Laid};
-ghost use Rattle.lists.specs.Judged.{countsOf};
-ghost use Rattle.words.specs.Ready.{Ready, IsVehicle};
-use entries::Signal;
+use gateway::Entry;
+use gateway::EntryOutcome;
+use gateway::HeldOutcome;
+use gateway::Judged;
+use gateway::LONGEST;
+use gateway::ReadOutcome;
+use gateway::Reading;
+use gateway::STORE;
+use gateway::Signal;
+use gateway::VEHICLES;
 use libc::STDOUT_FILENO;
-use lists::Counts;
-use lists::Judged;
-use reading::Reading;
-use refusals::Refusal;
 use saying::Clock;
 use saying::Number;
 use words::Totals;
@@ -56,49 +57,49 @@ fn print_signal(vehicle: usize, k: usize, s: Signal, r: Reading) {
 
 fn one_signal(
     list: &[u8],
-    n: Counts,
     store: &[u8],
     clock: u32,
     vehicle: usize,
     k: usize,
+    e: Entry,
     totals: Totals,
-) -> Totals
-    requires { ⌜ (Ready (now list) (countsOf n) (now store)) × (IsVehicle vehicle) × (k < n .signals) ⌝ }
-{
-    let s = lists::signal_in(list, n, k);
-    let r = reading::read_at(list, n, store, clock, vehicle, k);
+) -> Totals {
+    let read = gateway::read(list, store, clock, vehicle, k);
+    let ReadOutcome::Read(r) = read else {
+        return totals;
+    };
+    let s = e.signal;
     print_signal(vehicle, k, s, r);
     words::count_reason(totals, r.reason)
 }
 
 fn one_vehicle(
     list: &[u8],
-    n: Counts,
+    signals: usize,
     store: &[u8],
     clock: u32,
     vehicle: usize,
     totals: Totals,
-) -> Totals
-    requires { ⌜ (Ready (now list) (countsOf n) (now store)) × (IsVehicle vehicle) ⌝ }
-{
+) -> Totals {
     words::print_head(store, clock, vehicle);
     let mut t = totals;
     let mut k = 0;
-    while k < n.signals {
-        t = one_signal(list, n, store, clock, vehicle, k, t);
+    while k < signals {
+        let entry = gateway::signal_entry(list, k);
+        if let EntryOutcome::Entry(e) = entry {
+            t = one_signal(list, store, clock, vehicle, k, e, t);
+        }
         k += 1;
     }
     t
 }
 
-fn all_vehicles(list: &[u8], n: Counts, store: &[u8], clock: u32) -> Totals
-    requires { ⌜ Ready (now list) (countsOf n) (now store) ⌝ }
-{
+fn all_vehicles(list: &[u8], signals: usize, store: &[u8], clock: u32) -> Totals {
     let mut t = words::no_totals();
     let mut v = 1;
-    while v < 64 {
+    while v <= VEHICLES {
         if words::is_heard(store, v) {
-            t = one_vehicle(list, n, store, clock, v, t);
+            t = one_vehicle(list, signals, store, clock, v, t);
         }
         v += 1;
     }
@@ -106,63 +107,54 @@ fn all_vehicles(list: &[u8], n: Counts, store: &[u8], clock: u32) -> Totals
     t
 }
 
-fn print_one(list: &[u8], n: Counts, store: &[u8], clock: u32, vehicle: usize, k: usize)
-    requires { ⌜ (Ready (now list) (countsOf n) (now store)) × (IsVehicle vehicle) ⌝ }
-{
-    if n.signals <= k {
-        words::print_refused(Refusal::NoSuchSignal);
-        return;
+fn print_one(list: &[u8], store: &[u8], clock: u32, vehicle: usize, k: usize) {
+    let entry = gateway::signal_entry(list, k);
+    match entry {
+        EntryOutcome::Refused(f) => words::print_refused(f),
+        EntryOutcome::Entry(e) => {
+            words::print_head(store, clock, vehicle);
+            one_signal(list, store, clock, vehicle, k, e, words::no_totals());
+        }
     }
-    words::print_head(store, clock, vehicle);
-    one_signal(list, n, store, clock, vehicle, k, words::no_totals());
 }
 
-fn print_ready(list: &[u8], n: Counts, store: &[u8], clock: u32, vehicle: usize, asked: Asked)
-    requires { ⌜ (Ready (now list) (countsOf n) (now store)) × (IsVehicle vehicle) ⌝ }
-{
+fn print_asked(list: &[u8], signals: usize, store: &[u8], clock: u32, asked: Asked) {
     let words = asked.words;
     if words == 3 {
-        words::print_totals(all_vehicles(list, n, store, clock));
+        words::print_totals(all_vehicles(list, signals, store, clock));
         return;
     }
     if words == 4 {
-        words::print_totals(one_vehicle(list, n, store, clock, vehicle, words::no_totals()));
+        let none = words::no_totals();
+        words::print_totals(one_vehicle(list, signals, store, clock, asked.vehicle, none));
         return;
     }
-    print_one(list, n, store, clock, vehicle, asked.signal);
+    print_one(list, store, clock, asked.vehicle, asked.signal);
 }
 
 // Refused as a reading is: 1 to 4, then 5, 6 and 11.
-fn print_asked(list: &[u8], n: Counts, store: &[u8], clock: u32, asked: Asked)
-    requires { ⌜ Laid (now list) (countsOf n) ⌝ }
-{
-    let vehicle = asked.vehicle;
-    if !store::is_store(store) {
-        words::print_refused(Refusal::StoreLength);
-        return;
-    }
-    if !store::is_vehicle(vehicle) {
-        words::print_refused(Refusal::Vehicle);
-        return;
-    }
-    print_ready(list, n, store, clock, vehicle, asked);
-}
-
 fn judge(list: &[u8], store: &[u8], clock: u32, asked: Asked) {
-    let judged = lists::judge(list);
+    let judged = gateway::judge(list);
     match judged {
         Judged::Refused(f) => words::print_refused(f),
-        Judged::Accepted(n) => print_asked(list, n, store, clock, asked),
+        Judged::Accepted(n) => {
+            let held = gateway::holding(store, clock, asked.vehicle);
+            if let HeldOutcome::Refused(f) = held {
+                words::print_refused(f);
+                return;
+            }
+            print_asked(list, n.signals, store, clock, asked);
+        }
     }
 }
 
 fn read_files(clock: u32, asked: Asked) {
-    let mut list = [0u8; 10377];
+    let mut list = [0u8; LONGEST + 1];
     let l = files::read(1, b"LIST", &mut list);
     if !l.ok {
         return;
     }
-    let mut store = [0u8; 8380];
+    let mut store = [0u8; STORE + 1];
     let s = files::read(2, b"STORE", &mut store);
     if !s.ok {
         return;

@@ -2,16 +2,16 @@
 ghost use mathlib.Core.Path.{_≡_};
 ghost use Prim.Native.Nat.{_≤_};
 ghost use lib.ListN.{length};
-ghost use Rattle.paper.proofs.ListLaws.{Laid};
-ghost use Rattle.lists.specs.Judged.{countsOf};
 
 mod text;
 
 use files::There;
+use gateway::Counts;
+use gateway::EntryOutcome;
+use gateway::Judged;
+use gateway::LONGEST;
+use gateway::Outcome;
 use libc::STDOUT_FILENO;
-use lists::Counts;
-use lists::Judged;
-use refusals::Outcome;
 use saying::Number;
 
 fn help() {
@@ -41,14 +41,20 @@ takes the name of OUT.
     );
 }
 
+fn replacement_of(list: &[u8], k: usize) -> u64 {
+    let entry = gateway::signal_entry(list, k);
+    let EntryOutcome::Entry(e) = entry else {
+        return 0;
+    };
+    let s = e.signal;
+    s.replacement
+}
+
 // What is not given is the list's replacement: 0 need not be a known code.
-fn replacements(list: &[u8], n: Counts, values: &mut [u64])
-    requires { ⌜ (Laid (now list) (countsOf n)) × (length (now values) ≤ n .signals) ⌝ }
-{
+fn replacements(list: &[u8], values: &mut [u64]) {
     let mut k = 0;
     while k < values.len() {
-        let s = lists::signal_in(list, n, k);
-        values[k] = s.replacement;
+        values[k] = replacement_of(list, k);
         k += 1;
     }
 }
@@ -89,7 +95,7 @@ fn write_out(kind: usize, version: usize, out: &[u8]) {
 }
 
 fn compose_out(list: &[u8], n: Counts, kind: usize, values: &[u64], marks: &[u8], out: &mut [u8]) {
-    let outcome = composing::compose(list, kind, values, marks, out);
+    let outcome = gateway::compose(list, kind, values, marks, out);
     match outcome {
         Outcome::Refused(f) => words::print_refused(f),
         Outcome::Done => write_out(kind, n.version, out),
@@ -98,7 +104,7 @@ fn compose_out(list: &[u8], n: Counts, kind: usize, values: &[u64], marks: &[u8]
 
 // A telegram of the type's length; the type itself is tested by the composing.
 fn compose_kind(list: &[u8], n: Counts, kind: usize, values: &[u64], marks: &[u8]) {
-    if store::type_length(kind) == 40 {
+    if kind == 3 {
         let mut out = [0u8; 40];
         compose_out(list, n, kind, values, marks, &mut out);
     } else {
@@ -114,10 +120,8 @@ fn compose_given(
     given: &[u8],
     values: &mut [u64],
     marks: &mut [u8],
-)
-    requires { ⌜ (Laid (now list) (countsOf n)) × (length (now values) ≤ n .signals) ⌝ }
-{
-    replacements(list, n, values);
+) {
+    replacements(list, values);
     if text::read_lines(given, values, marks) {
         compose_kind(list, n, kind, values, marks);
     }
@@ -136,7 +140,7 @@ fn all_ok() -> [u8; 64]
 }
 
 fn compose_under(list: &[u8], n: Counts, kind: usize, given: &[u8])
-    requires { ⌜ Laid (now list) (countsOf n) ⌝ }
+    requires { ⌜ (n .signals ≤ 256) × (n .checks ≤ 64) ⌝ }
 {
     let signals = n.signals;
     let checks = n.checks;
@@ -153,7 +157,7 @@ fn compose_under(list: &[u8], n: Counts, kind: usize, given: &[u8])
 }
 
 fn judge(list: &[u8], kind: usize, given: &[u8]) {
-    let judged = lists::judge(list);
+    let judged = gateway::judge(list);
     match judged {
         Judged::Refused(f) => words::print_refused(f),
         Judged::Accepted(n) => compose_under(list, n, kind, given),
@@ -175,7 +179,7 @@ fn read_values(list: &[u8], kind: usize) {
 }
 
 fn read_files(kind: usize) {
-    let mut list = [0u8; 10377];
+    let mut list = [0u8; LONGEST + 1];
     let l = files::read(1, b"LIST", &mut list);
     if !l.ok {
         return;

@@ -1,5 +1,4 @@
 // The lines of a values file: `value K V`, `mark K M`, and comments behind #.
-ghost use mathlib.Core.Path.{_≡_};
 ghost use Prim.Native.Nat.{_≤_};
 ghost use lib.ListN.{length};
 use saying::Number;

@@ -10,11 +10,11 @@ use borrow.Author.Tests.{leb-true, eqb-true, not-false}
 use Rattle.paper.specs.Octets.{over}
 use Rattle.paper.specs.Answer.{gives, andThen}
 use Rattle.paper.specs.Telegrams.{typeLength, markWidth}
-use Rattle.paper.specs.SignalList.{SignalList, Counts, judge, listOf}
-use Rattle.paper.specs.Extends.{version}
+use Rattle.paper.specs.SignalList.{SignalList, Counts, judge, listOf, version}
 use Rattle.paper.specs.Composing.{writesSignal, writesCheck, headed, composing}
 use Rattle.paper.proofs.AnswerLaws.{not-refused, past, same-then}
-use Rattle.paper.proofs.ListLaws.{both, Laid, Kept}
+use Rattle.bools.proofs.Tests.{both}
+use Rattle.paper.specs.Accepted.{Laid, Kept}
 use Rattle.paper.proofs.ComposingLaws.{carried-within}
 use Rattle.octets.specs.Fields.{Within}
 use Rattle.composing.specs.Composing.{headOf, Values, Marks, Room, composingTests, composingUnder}

@@ -10,7 +10,7 @@ use Rattle.paper.specs.First.{firstBad}
 use Rattle.paper.specs.Telegrams.{isType, typeLength}
 use Rattle.paper.specs.SignalList.{SignalList, Counts}
 use Rattle.paper.specs.Composing.{markFits, valueFits, composed}
-use Rattle.paper.proofs.ListLaws.{Laid}
+use Rattle.paper.specs.Accepted.{Laid}
 
 -- the head of a type and a version, before anything else is written: the paper's `headed`
 abbrev pub headOf : ℕ → ℕ → List ℕ

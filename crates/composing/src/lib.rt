@@ -9,7 +9,7 @@ ghost use Rattle.paper.specs.First.{firstBad};
 ghost use Rattle.paper.specs.Telegrams.{typeLength, markWidth};
 ghost use Rattle.paper.specs.SignalList.{listOf};
 ghost use Rattle.paper.specs.Composing.{signalPut, checkPut, markFits, valueFits, composed, composing};
-ghost use Rattle.paper.proofs.ListLaws.{Laid};
+ghost use Rattle.paper.specs.Accepted.{Laid};
 ghost use Rattle.octets.specs.Fields.{Within};
 ghost use Rattle.refusals.specs.Outcome.{outcomeOf, Written};
 ghost use Rattle.lists.specs.Judged.{countsOf};
@@ -26,7 +26,7 @@ fn is_within(place: usize, kind: usize) -> bool
     requires { ⌜ place < 65536 ⌝ }
     ensures { λ r. ⌜ r ≡ leb (place + markWidth) (8 * typeLength kind) ⌝ }
 {
-    place + 2 <= 8 * store::type_length(kind)
+    place + 2 <= 8 * telegrams::type_length(kind)
 }
 
 // A mark that is not written is not tested.
@@ -44,7 +44,7 @@ fn value_fits(list: &[u8], n: Counts, kind: usize, values: &[u64], k: usize, own
 {
     let s = lists::signal_in(list, n, k);
     let v = values[k];
-    !store::is_carried(kind, s.kind)
+    !telegrams::is_carried(kind, s.kind)
         | (v < entries::pow2(s.width)) & known::knows(list, n, k, own, v)
 }
 
@@ -93,21 +93,21 @@ fn composing_tests(
     requires { ⌜ Laid (now list) (countsOf n) ⌝ }
     ensures { λ r. ⌜ outcomeOf r ≡ composingTests (listOf (now (list .entry)) (countsOf n)) kind (now (values .entry)) (now (marks .entry)) room ⌝ }
 {
-    if !store::is_type(kind) {
-        return Outcome::Refused(Refusal::TelegramType);
+    if !telegrams::is_type(kind) {
+        return Outcome::Refused(Refusal::TELEGRAM_TYPE);
     }
     if !((values.len() == n.signals) & (marks.len() == n.checks)) {
-        return Outcome::Refused(Refusal::ValuesOrMarks);
+        return Outcome::Refused(Refusal::VALUES_OR_MARKS);
     }
     if first_bad_mark(list, n, kind, marks) < n.checks {
-        return Outcome::Refused(Refusal::MarkAbove);
+        return Outcome::Refused(Refusal::MARK_ABOVE);
     }
     let k = first_bad_value(list, n, kind, values);
     if k < n.signals {
-        return Outcome::Refused(Refusal::ValueUnfit(k));
+        return Outcome::Refused(Refusal(Refusal::VALUE_UNFIT, k));
     }
-    if room != store::type_length(kind) {
-        return Outcome::Refused(Refusal::OutputLength);
+    if room != telegrams::type_length(kind) {
+        return Outcome::Refused(Refusal::OUTPUT_LENGTH);
     }
     Outcome::Done
 }
@@ -142,7 +142,7 @@ fn write_signals(list: &[u8], n: Counts, kind: usize, values: &[u64], out: &mut 
         let s = lists::signal_in(list, n, k);
         write_where(
             out,
-            store::is_carried(kind, s.kind),
+            telegrams::is_carried(kind, s.kind),
             s.start,
             s.width,
             values[k],

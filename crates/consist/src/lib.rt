@@ -61,7 +61,7 @@ fn finish(a: Octets, n: usize, address: u64) -> Resolved
     ensures { λ r. ⌜ resolvedAnswer r ≡ refuseIf (ltb 63 n) 17 0 (resolving (map vehicleOf (take n (a .at))) address) ⌝ }
 {
     if 63 < n {
-        return Resolved::Refused(Refusal::ConsistLength);
+        return Resolved::Refused(Refusal::CONSIST_LENGTH);
     }
     let at = a.at;
     train::resolve(&at[..n], address)

@@ -6,18 +6,16 @@ use mathlib.Core.Bool.{true, false, cond}
 use mathlib.Core.List.{List, [], _∷_}
 use lib.ListN.{length, getD}
 use lib.Dec.{eqb}
-use Rattle.paper.specs.Answer.{Answer, gives, after}
+use Rattle.paper.specs.Answer.{gives, after}
 use Rattle.paper.specs.Telegrams.{carries, ok, forced}
 use Rattle.paper.specs.SignalList.{Counts, judge, listOf}
-use Rattle.paper.specs.Extends.{same}
+use Rattle.paper.specs.Extends.{same, Related}
 use Rattle.paper.specs.Store.{vehicles, storeOctets, taking, taken, turn, age, inTime}
 use Rattle.paper.specs.Reading.{Reading, reading}
 use Rattle.paper.specs.Composing.{composing}
 use Rattle.paper.specs.Demands.{Step, offer, run, NoneLater, Standing, givenMark, delivered, withheld, Named}
 use Rattle.paper.proofs.StoreLaws.{takes}
-use Rattle.paper.proofs.ExtendsLaws.{Related}
 use Rattle.paper.proofs.Demands as paper
-use Rattle.refusals.specs.declared.Refusal.{Refusal}
 use Rattle.refusals.specs.declared.Outcome.{Outcome}
 use Rattle.refusals.specs.declared.Outcome.the-variants as O
 use Rattle.refusals.specs.Refusal.{numberOf, carriedOf}
@@ -25,52 +23,23 @@ use Rattle.refusals.specs.Outcome.{Written}
 use Rattle.refusals.proofs.WrittenLaws.{written-done, written-gives, written-not, one-written}
 use Rattle.reading.specs.declared.ReadOutcome.{ReadOutcome}
 use Rattle.reading.specs.Reading.{readAnswer}
+use Rattle.demands.specs.declared.Answers.{Answers}
 use Rattle.demands.specs.Told.{Told}
+use Rattle.demands.specs.Calls.{Later, none, another, rejected, Calls}
 
--- later calls of `take`, from one store to another: each is for another vehicle, or is refused
-pub data Later (v : ℕ) : List ℕ → List ℕ → Type 0 where
-  none : {store : List ℕ} → Later v store store
-  another : {store next last : List ℕ} (w now : ℕ) (telegram : List ℕ) (r : Outcome) → (w ≡ v → ⊥)
-      → Written (taking store w now telegram) store r next → Later v next last → Later v store last
-  rejected : {store next last : List ℕ} (w now : ℕ) (telegram : List ℕ) (f : Refusal)
-      → Written (taking store w now telegram) store (O.Refused f) next → Later v next last → Later v store last
-
--- The calls, each by what its contract ensures, at any octets that meet it.
-pub record Calls (xs : List ℕ) (type : ℕ) (values marks : List ℕ) (v stamp : ℕ) (ys : List ℕ) (now k : ℕ) (r : ReadOutcome) : Type 0 where
-  -- `compose` under the list xs is done: `out` then holds `telegram`
-  pub out : List ℕ
-  pub telegram : List ℕ
-  pub composed : Written (composing xs type values marks (length out)) out O.Done telegram
-  -- `take` of that telegram for vehicle v is done at the clock value `stamp`, a u32
-  pub before : List ℕ
-  pub after : List ℕ
-  pub clock : stamp < turn
-  pub took : Written (taking before v stamp telegram) before O.Done after
-  -- no later call of `take` takes a telegram of that vehicle
-  pub store : List ℕ
-  pub later : Later v after store
-  -- `read` of signal k under the list ys answers r at the clock value `now`
-  pub read : readAnswer r ≡ reading ys store now v k
-
--- a call that was done, by what the paper gives
-done : (a : Answer (List ℕ)) (old new sent : List ℕ) → a ≡ gives new → sent ≡ after old a → Written a old O.Done sent
-done a old new sent e q = record { outcome = rw e; octets = q }
-
--- `told` is such a run of calls, with none of `take` between: what it ensures it has from the contracts of the three, so they fit this record.
--- That `take` is done need not be asked, for a vehicle of the 63 and a store of the right length
-pub told-calls : (xs : List ℕ) (type : ℕ) (values marks out store : List ℕ) (v stamp : ℕ) (ys : List ℕ) (now k : ℕ) (sent held telegram : List ℕ) (r : ReadOutcome)
-    → Told xs type values marks out store v stamp ys now k sent held r → stamp < turn → length store ≡ storeOctets → 1 ≤ v → v ≤ vehicles
-    → composing xs type values marks (length out) ≡ gives telegram → Calls xs type values marks v stamp ys now k r
-told-calls xs type values marks out store v stamp ys now k sent held telegram r t clock whole first last c =
-    let is : sent ≡ telegram = t .composed ∙ ap (after out) c in
+-- `told` is such a run of calls, with none of `take` between: what it ensures it has from the contracts of the three, so they fit this record
+pub told-calls : (xs : List ℕ) (type : ℕ) (values marks out store : List ℕ) (v stamp : ℕ) (ys : List ℕ) (now k : ℕ) (sent held : List ℕ) (r : Answers)
+    → Told xs type values marks out store v stamp ys now k sent held r → stamp < turn → r .composed ≡ O.Done → r .taken ≡ O.Done
+    → Calls xs type values marks v stamp ys now k (r .read)
+told-calls xs type values marks out store v stamp ys now k sent held r t clock composed took =
     record {
       out = out;
       telegram = sent;
-      composed = done _ out telegram sent c (t .composed);
+      composed = rw composed at (t .composed);
       before = store;
       after = held;
       clock = clock;
-      took = done _ store _ held (paper.composed-taken xs type values marks (length out) sent (c ∙ ap gives (sym is)) store v stamp whole first last) (t .took);
+      took = rw took at (t .taken);
       store = held;
       later = none;
       read = t .read;

@@ -4,6 +4,7 @@ use mathlib.Core.Path.{_≡_, sym, ap, subst, _∙_}
 use mathlib.Core.Logic.{_↔_}
 use mathlib.Core.List.{List}
 use Rattle.paper.specs.Answer.{gives}
+use Rattle.paper.specs.First.{FirstAt}
 use Rattle.paper.specs.SignalList.{Counts, judge, listOf}
 use Rattle.paper.specs.Store.{slotOf}
 use Rattle.paper.specs.Reading as paper
@@ -15,7 +16,7 @@ use Rattle.reading.specs.Reading.{asReading, readAnswer}
 
 module _ (xs store : List ℕ) (now v k : ℕ) (g : Reading) (read : readAnswer (R.Read g) ≡ paper.reading xs store now v k) where
   -- the list was accepted, the store is whole, and the vehicle and the signal are there
-  pub read-tells : laws.Reads xs store now v k (asReading g)
+  pub read-tells : paper.Reads xs store now v k (asReading g)
   read-tells = laws.reads xs store now v k (asReading g) (sym read)
 
   module _ (n : Counts) (accepted : judge xs ≡ gives n) where
@@ -26,14 +27,14 @@ module _ (xs store : List ℕ) (now v k : ℕ) (g : Reading) (read : readAnswer 
 
     -- "A value is live exactly when its telegram was heard, is within its time limit, carries the signal and is new enough, its mark .. is
     -- ok or forced, and the code is known."
-    pub live-exactly : (g .reason ≤ 1) ↔ laws.Live (listOf xs n) (slotOf store v) now k
-    live-exactly = subst (λ (x : paper.Reading). (x .reason ≤ 1) ↔ laws.Live (listOf xs n) (slotOf store v) now k) is (laws.live-exactly (listOf xs n) (slotOf store v) now k)
+    pub live-exactly : (g .reason ≤ 1) ↔ paper.Live (listOf xs n) (slotOf store v) now k
+    live-exactly = subst (λ (x : paper.Reading). (x .reason ≤ 1) ↔ paper.Live (listOf xs n) (slotOf store v) now k) is (laws.live-exactly (listOf xs n) (slotOf store v) now k)
 
     -- "the first reason that applies": reason 2 + i exactly when test i is the first to hold
-    pub reason-exactly : (i : ℕ) → i < 7 → (g .reason ≡ 2 + i) ↔ laws.FirstAt (paper.hindrances (listOf xs n) (slotOf store v) now k) i
+    pub reason-exactly : (i : ℕ) → i < 7 → (g .reason ≡ 2 + i) ↔ FirstAt (paper.hindrances (listOf xs n) (slotOf store v) now k) i
     unfolding paper.readingOf
     reason-exactly i lt =
-        subst (λ (x : paper.Reading). (x .reason ≡ 2 + i) ↔ laws.FirstAt (paper.hindrances (listOf xs n) (slotOf store v) now k) i) is
+        subst (λ (x : paper.Reading). (x .reason ≡ 2 + i) ↔ FirstAt (paper.hindrances (listOf xs n) (slotOf store v) now k) i) is
         (laws.reason-exactly (listOf xs n) (slotOf store v) now k i lt)
 
     -- a live value is the code in the signal's field, and any other the replacement

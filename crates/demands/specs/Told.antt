@@ -3,15 +3,15 @@ use Prim.Native.Nat.{ℕ}
 use mathlib.Core.Path.{_≡_}
 use mathlib.Core.List.{List}
 use lib.ListN.{length}
-use Rattle.paper.specs.Answer.{after}
 use Rattle.paper.specs.Store.{taking}
 use Rattle.paper.specs.Reading.{reading}
 use Rattle.paper.specs.Composing.{composing}
-use Rattle.reading.specs.declared.ReadOutcome.{ReadOutcome}
+use Rattle.refusals.specs.Outcome.{Written}
 use Rattle.reading.specs.Reading.{readAnswer}
+use Rattle.demands.specs.declared.Answers.{Answers}
 
-pub record Told (writer : List ℕ) (type : ℕ) (values marks out store : List ℕ) (v stamp : ℕ) (reader : List ℕ) (now k : ℕ) (sent held : List ℕ) (r : ReadOutcome) : Type 0 where
+pub record Told (writer : List ℕ) (type : ℕ) (values marks out store : List ℕ) (v stamp : ℕ) (reader : List ℕ) (now k : ℕ) (sent held : List ℕ) (r : Answers) : Type 0 where
   -- the output after composing, and the store after that was taken
-  pub composed : sent ≡ after out (composing writer type values marks (length out))
-  pub took : held ≡ after store (taking store v stamp sent)
-  pub read : readAnswer r ≡ reading reader held now v k
+  pub composed : Written (composing writer type values marks (length out)) out (r .composed) sent
+  pub taken : Written (taking store v stamp sent) store (r .taken) held
+  pub read : readAnswer (r .read) ≡ reading reader held now v k

@@ -1,6 +1,14 @@
 // Demands 2 and 3 as a function: what is composed under one list, taken from a vehicle, and read under another.
 ghost use Rattle.demands.specs.Told.{Told};
 use reading::ReadOutcome;
+use refusals::Outcome;
+
+// What each of the three calls answers.
+pub struct Answers {
+    pub composed: Outcome,
+    pub taken: Outcome,
+    pub read: ReadOutcome,
+}
 
 // The telegram is left in `out` and in the vehicle's slot.
 pub fn told(
@@ -15,10 +23,15 @@ pub fn told(
     reader: &[u8],
     clock: u32,
     signal: usize,
-) -> ReadOutcome
+) -> Answers
     ensures { λ r. ⌜ Told (now (writer .entry)) kind (now (values .entry)) (now (marks .entry)) (now (out .entry)) (now (store .entry)) vehicle stamp (now (reader .entry)) clock signal (now (out .exit)) (now (store .exit)) r ⌝ }
 {
-    composing::compose(writer, kind, values, marks, out);
-    store::take(store, vehicle, stamp, out);
-    reading::read(reader, store, clock, vehicle, signal)
+    let composed = composing::compose(writer, kind, values, marks, out);
+    let taken = store::take(store, vehicle, stamp, out);
+    let read = reading::read(reader, store, clock, vehicle, signal);
+    Answers {
+        composed,
+        taken,
+        read,
+    }
 }

@@ -1,11 +1,15 @@
 // Which gateway believes what: one store read by two gateways' lists, side by side.
-ghost use Rattle.paper.proofs.ListLaws.{Laid};
-ghost use Rattle.lists.specs.Judged.{countsOf};
-ghost use Rattle.words.specs.Ready.{Ready, IsVehicle};
+use gateway::Counts;
+use gateway::EntryOutcome;
+use gateway::HeldOutcome;
+use gateway::Judged;
+use gateway::LONGEST;
+use gateway::PAST_KEYS;
+use gateway::Pairing;
+use gateway::ReadOutcome;
+use gateway::STORE;
+use gateway::VEHICLES;
 use libc::STDOUT_FILENO;
-use lists::Counts;
-use lists::Judged;
-use refusals::Refusal;
 use saying::Clock;
 use saying::Line;
 use saying::Number;
@@ -20,10 +24,14 @@ struct Side {
     reason: u8,
 }
 
-// The next signal of each list, and what was counted on the way.
-struct At {
-    first: usize,
-    second: usize,
+// What judging a list gives the program to go on with.
+enum Accepted {
+    With(Counts),
+    Not,
+}
+
+// The lines, and how many of them differ.
+struct Count {
     lines: u64,
     differ: u64,
 }
@@ -62,14 +70,17 @@ fn missing() -> Side {
     }
 }
 
-fn side_at(list: &[u8], n: Counts, store: &[u8], clock: u32, vehicle: usize, k: usize) -> Side
-    requires { ⌜ (Ready (now list) (countsOf n) (now store)) × (IsVehicle vehicle) ⌝ }
-{
-    if n.signals <= k {
+// What a gateway makes of its list's signal k; a signal that the list has not is refused.
+fn side_at(list: &[u8], store: &[u8], clock: u32, vehicle: usize, k: usize) -> Side {
+    let entry = gateway::signal_entry(list, k);
+    let EntryOutcome::Entry(e) = entry else {
         return missing();
-    }
-    let s = lists::signal_in(list, n, k);
-    let r = reading::read_at(list, n, store, clock, vehicle, k);
+    };
+    let read = gateway::read(list, store, clock, vehicle, k);
+    let ReadOutcome::Read(r) = read else {
+        return missing();
+    };
+    let s = e.signal;
     Side {
         there: true,
         kind: s.kind,
@@ -78,11 +89,6 @@ fn side_at(list: &[u8], n: Counts, store: &[u8], clock: u32, vehicle: usize, k: 
         value: r.value,
         reason: r.reason,
     }
-}
-
-// Both lists are in the order of type and start. A list that has come to its end comes after all.
-fn is_before(a: Side, b: Side) -> bool {
-    a.there & (!b.there | (a.kind < b.kind) | (a.kind == b.kind) & (a.start < b.start))
 }
 
 fn are_same(a: Side, b: Side) -> bool {
@@ -108,143 +114,76 @@ fn say_widths(line: Line, a: Side, b: Side) -> Line {
 }
 
 // The place, which either side may have, and what each side says there.
-fn print_pair(mark: &[u8], vehicle: usize, place: Side, a: Side, b: Side) {
-    let l = saying::say_right(saying::say(saying::empty(), mark), 4, vehicle as u64);
+fn print_pair(mark: u8, vehicle: usize, place: Side, a: Side, b: Side) {
+    let l = saying::say_right(saying::put(saying::empty(), mark), 4, vehicle as u64);
     let l = words::say_place(saying::say(l, b"  "), place.kind, place.start, place.width);
     let l = saying::say(saying::pad(say_side(l, 45, a), 73), b"|");
     saying::print(say_widths(say_side(l, 90, b), a, b));
-}
-
-fn next(i: usize) -> usize {
-    std::num::wrapping_add_usize(i, 1)
 }
 
 fn more(n: u64) -> u64 {
     std::num::wrapping_add_u64(n, 1)
 }
 
-fn print_differing(vehicle: usize, place: Side, a: Side, b: Side, at: At) -> At {
-    print_pair(b"*", vehicle, place, a, b);
-    At {
-        first: at.first,
-        second: at.second,
-        lines: more(at.lines),
-        differ: more(at.differ),
-    }
-}
-
-fn past_first(at: At) -> At {
-    At {
-        first: next(at.first),
-        second: at.second,
-        lines: at.lines,
-        differ: at.differ,
-    }
-}
-
-fn past_second(at: At) -> At {
-    At {
-        first: at.first,
-        second: next(at.second),
-        lines: at.lines,
-        differ: at.differ,
-    }
-}
-
-fn print_same(vehicle: usize, a: Side, b: Side, at: At) -> At {
-    print_pair(b" ", vehicle, a, a, b);
-    At {
-        first: at.first,
-        second: at.second,
-        lines: more(at.lines),
-        differ: at.differ,
-    }
-}
-
-// The line of the next signal in order.
-fn print_next(vehicle: usize, a: Side, b: Side, at: At) -> At {
-    if is_before(a, b) {
-        return past_first(print_differing(vehicle, a, a, missing(), at));
-    }
-    if is_before(b, a) {
-        return past_second(print_differing(vehicle, b, missing(), b, at));
-    }
-    if !a.there {
-        return at;
-    }
+// The line of a pair: of a signal that both lists have, or one of them.
+fn print_sides(vehicle: usize, a: Side, b: Side, so_far: Count) -> Count {
+    let lines = more(so_far.lines);
     if are_same(a, b) {
-        return past_first(past_second(print_same(vehicle, a, b, at)));
+        print_pair(b' ', vehicle, a, a, b);
+        return Count {
+            lines,
+            differ: so_far.differ,
+        };
     }
-    past_first(past_second(print_differing(vehicle, a, a, b, at)))
+    print_pair(b'*', vehicle, if a.there { a } else { b }, a, b);
+    Count {
+        lines,
+        differ: more(so_far.differ),
+    }
 }
 
-fn compare_at(
-    first: &[u8],
-    n: Counts,
-    second: &[u8],
-    m: Counts,
-    store: &[u8],
-    clock: u32,
-    vehicle: usize,
-    at: At,
-) -> At
-    requires { ⌜ (Ready (now first) (countsOf n) (now store)) × (Ready (now second) (countsOf m) (now store)) × (IsVehicle vehicle) ⌝ }
-{
-    let a = side_at(first, n, store, clock, vehicle, at.first);
-    let b = side_at(second, m, store, clock, vehicle, at.second);
-    print_next(vehicle, a, b, at)
-}
-
-// Each turn takes a signal of one list or of both, so there are at most 512 lines.
 fn one_vehicle(
     first: &[u8],
-    n: Counts,
     second: &[u8],
-    m: Counts,
     store: &[u8],
     clock: u32,
     vehicle: usize,
-    from: At,
-) -> At
-    requires { ⌜ (Ready (now first) (countsOf n) (now store)) × (Ready (now second) (countsOf m) (now store)) × (IsVehicle vehicle) ⌝ }
-{
+    so_far: Count,
+) -> Count {
     words::print_head(store, clock, vehicle);
-    let mut at = At {
-        first: 0,
-        second: 0,
-        lines: from.lines,
-        differ: from.differ,
-    };
-    let mut turns: usize = 512;
-    while 0 < turns {
-        at = compare_at(first, n, second, m, store, clock, vehicle, at);
-        turns -= 1;
+    let mut count = so_far;
+    let mut key = 0;
+    while key < PAST_KEYS {
+        let pairing = gateway::pair_from(first, second, key);
+        let Pairing::Pair(p) = pairing else {
+            return count;
+        };
+        let a = side_at(first, store, clock, vehicle, p.first);
+        let b = side_at(second, store, clock, vehicle, p.second);
+        count = print_sides(vehicle, a, b, count);
+        key = p.key + 1;
     }
-    at
+    count
 }
 
-fn start() -> At {
-    At {
-        first: 0,
-        second: 0,
-        lines: 0,
-        differ: 0,
-    }
-}
-
-fn all_vehicles(first: &[u8], n: Counts, second: &[u8], m: Counts, store: &[u8], clock: u32) -> At
-    requires { ⌜ (Ready (now first) (countsOf n) (now store)) × (Ready (now second) (countsOf m) (now store)) ⌝ }
-{
-    let mut at = start();
+fn all_vehicles(first: &[u8], second: &[u8], store: &[u8], clock: u32) -> Count {
+    let mut count = none();
     let mut v = 1;
-    while v < 64 {
+    while v <= VEHICLES {
         if words::is_heard(store, v) {
-            at = one_vehicle(first, n, second, m, store, clock, v, at);
+            count = one_vehicle(first, second, store, clock, v, count);
         }
         v += 1;
     }
     words::print_never(store);
-    at
+    count
+}
+
+fn none() -> Count {
+    Count {
+        lines: 0,
+        differ: 0,
+    }
 }
 
 fn print_list(name: &[u8], i: usize, n: Counts) {
@@ -253,101 +192,68 @@ fn print_list(name: &[u8], i: usize, n: Counts) {
     saying::print(saying::say_number(saying::say(l, b" version "), n.version as u64));
 }
 
-fn print_count(at: At) {
-    let l = saying::say_number(saying::say(saying::empty(), b"differ: "), at.differ);
-    let l = saying::say_number(saying::say(l, b" of "), at.lines);
+fn print_count(count: Count) {
+    let l = saying::say_number(saying::say(saying::empty(), b"differ: "), count.differ);
+    let l = saying::say_number(saying::say(l, b" of "), count.lines);
     saying::print(saying::say(l, b" lines"));
 }
 
-fn print_ready(
-    first: &[u8],
-    n: Counts,
-    second: &[u8],
-    m: Counts,
-    store: &[u8],
-    clock: u32,
-    vehicle: usize,
-    all: bool,
-)
-    requires { ⌜ (Ready (now first) (countsOf n) (now store)) × (Ready (now second) (countsOf m) (now store)) × (IsVehicle vehicle) ⌝ }
-{
-    print_list(b"first  ", 1, n);
-    print_list(b"second ", 2, m);
+fn print_asked(first: &[u8], second: &[u8], store: &[u8], clock: u32, vehicle: usize, all: bool) {
     if all {
-        print_count(all_vehicles(first, n, second, m, store, clock));
+        print_count(all_vehicles(first, second, store, clock));
         return;
     }
-    print_count(one_vehicle(first, n, second, m, store, clock, vehicle, start()));
+    print_count(one_vehicle(first, second, store, clock, vehicle, none()));
+}
+
+// The counts of a list; a list that is not accepted is said to be refused.
+fn judge(list: &[u8], of: &[u8]) -> Accepted {
+    let judged = gateway::judge(list);
+    match judged {
+        Judged::Refused(f) => {
+            words::print_refused_of(f, of);
+            Accepted::Not
+        }
+        Judged::Accepted(n) => Accepted::With(n),
+    }
 }
 
 // Refused as a reading is: 1 to 4 of either list, then 5 and 6.
-fn print_asked(
-    first: &[u8],
-    n: Counts,
-    second: &[u8],
-    m: Counts,
-    store: &[u8],
-    clock: u32,
-    vehicle: usize,
-    all: bool,
-)
-    requires { ⌜ (Laid (now first) (countsOf n)) × (Laid (now second) (countsOf m)) ⌝ }
-{
-    if !store::is_store(store) {
-        words::print_refused(Refusal::StoreLength);
+fn compare(first: &[u8], second: &[u8], store: &[u8], clock: u32, vehicle: usize, all: bool) {
+    let Accepted::With(m) = judge(first, b" (first list)") else {
+        return;
+    };
+    let Accepted::With(n) = judge(second, b" (second list)") else {
+        return;
+    };
+    let held = gateway::holding(store, clock, vehicle);
+    if let HeldOutcome::Refused(f) = held {
+        words::print_refused(f);
         return;
     }
-    if !store::is_vehicle(vehicle) {
-        words::print_refused(Refusal::Vehicle);
-        return;
-    }
-    print_ready(first, n, second, m, store, clock, vehicle, all);
-}
-
-fn judge_second(
-    first: &[u8],
-    n: Counts,
-    second: &[u8],
-    store: &[u8],
-    clock: u32,
-    vehicle: usize,
-    all: bool,
-)
-    requires { ⌜ Laid (now first) (countsOf n) ⌝ }
-{
-    let judged = lists::judge(second);
-    match judged {
-        Judged::Refused(f) => words::print_refused_of(f, b" (second list)"),
-        Judged::Accepted(m) => print_asked(first, n, second, m, store, clock, vehicle, all),
-    }
-}
-
-fn judge_first(first: &[u8], second: &[u8], store: &[u8], clock: u32, vehicle: usize, all: bool) {
-    let judged = lists::judge(first);
-    match judged {
-        Judged::Refused(f) => words::print_refused_of(f, b" (first list)"),
-        Judged::Accepted(n) => judge_second(first, n, second, store, clock, vehicle, all),
-    }
+    print_list(b"first  ", 1, m);
+    print_list(b"second ", 2, n);
+    print_asked(first, second, store, clock, vehicle, all);
 }
 
 fn read_others(first: &[u8], clock: u32, vehicle: usize, all: bool) {
-    let mut second = [0u8; 10377];
+    let mut second = [0u8; LONGEST + 1];
     let l = files::read(2, b"second LIST", &mut second);
     if !l.ok {
         return;
     }
-    let mut store = [0u8; 8380];
+    let mut store = [0u8; STORE + 1];
     let s = files::read(3, b"STORE", &mut store);
     if !s.ok {
         return;
     }
     let n = l.octets;
     let m = s.octets;
-    judge_first(first, &second[..n], &store[..m], clock, vehicle, all);
+    compare(first, &second[..n], &store[..m], clock, vehicle, all);
 }
 
 fn read_files(clock: u32, vehicle: usize, all: bool) {
-    let mut first = [0u8; 10377];
+    let mut first = [0u8; LONGEST + 1];
     let l = files::read(1, b"first LIST", &mut first);
     if !l.ok {
         return;

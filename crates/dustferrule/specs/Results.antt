@@ -5,8 +5,7 @@ use mathlib.Core.Bool.{Bool, true, false}
 use mathlib.Core.List.{List}
 use lib.Ieee.{Float, binary32, ofBits}
 use Rattle.paper.specs.Answer.{Answer, gives, refused, after, forget, mapAnswer}
-use Rattle.paper.specs.SignalList.{Counts}
-use Rattle.paper.specs.Extends.{Extending, extending, firstRefused, secondRefused}
+use Rattle.paper.specs.SignalList.{Counts, OfTwo, ofBoth, firstRefused, secondRefused}
 use Rattle.paper.specs.Reading.{Reading}
 use Rattle.paper.specs.Marshalling.{Marshalled}
 use Rattle.paper.specs.Shown.{Shown, asCode, asSpeed, asPercentage, asCurrent}
@@ -35,8 +34,8 @@ judgedC (gives n) =
     record { refusal = 0; carried = 0; checks = n .checks; signals = n .signals; codes = n .codes; routes = n .routes; version = n .version }
 judgedC (refused n at) = record { refusal = n; carried = at; checks = 0; signals = 0; codes = 0; routes = 0; version = 0 }
 
-abbrev pub extendingC : Extending → DfExtending
-extendingC (extending b) = record { refusal = 0; which = 0; carried = 0; extends = yesNo b }
+abbrev pub extendingC : OfTwo Bool → DfExtending
+extendingC (ofBoth b) = record { refusal = 0; which = 0; carried = 0; extends = yesNo b }
 extendingC (firstRefused n at) = record { refusal = n; which = 1; carried = at; extends = 0 }
 extendingC (secondRefused n at) = record { refusal = n; which = 2; carried = at; extends = 0 }
 

@@ -25,18 +25,18 @@ ghost use Rattle.shown.specs.Show.{kindOf, shownOf, showingAnswer};
 ghost use Rattle.train.specs.Marks.{vehicleOf, resolvedAnswer};
 ghost use Rattle.etelegrams.specs.Answers.{eReadAnswer};
 ghost use Rattle.dustferrule.specs.Results.{yesNo, floatOf, outcomeC, judgedC, extendingC, livesC, placeC, readingC, shownC, membersC, eReadC, WrittenC, DeliveredC};
-use etelegrams::ERead;
-use extending::ExtendsOutcome;
-use grouping::Place;
-use lists::Judged;
-use marshalling::Marshalled;
-use reading::ReadOutcome;
-use refusals::Outcome;
-use refusals::Refusal;
-use shown::Kind;
-use shown::Showing;
-use shown::Shown;
-use train::Resolved;
+use gateway::ERead;
+use gateway::ExtendsOutcome;
+use gateway::Judged;
+use gateway::Kind;
+use gateway::Marshalled;
+use gateway::Outcome;
+use gateway::Place;
+use gateway::ReadOutcome;
+use gateway::Refusal;
+use gateway::Resolved;
+use gateway::Showing;
+use gateway::Shown;
 
 // A call that only writes.
 #[repr(C)]
@@ -110,13 +110,13 @@ pub struct DfERead {
 fn number(f: Refusal) -> u32
     ensures { λ r. ⌜ r ≡ numberOf f ⌝ }
 {
-    refusals::number(f) as u32
+    gateway::number(f) as u32
 }
 
 fn carried(f: Refusal) -> u64
     ensures { λ r. ⌜ r ≡ carriedOf f ⌝ }
 {
-    refusals::carried(f) as u64
+    gateway::carried(f) as u64
 }
 
 fn outcome_c(o: Outcome) -> DfOutcome
@@ -313,28 +313,28 @@ fn e_read_c(o: ERead) -> DfERead
 pub extern "C" fn df_judge(list: &[u8]) -> DfJudged
     ensures { λ r. ⌜ r ≡ judgedC (judging (now (list .entry))) ⌝ }
 {
-    judged_c(lists::judge(list))
+    judged_c(gateway::judge(list))
 }
 
 #[no_mangle]
 pub extern "C" fn df_extends(a: &[u8], b: &[u8]) -> DfExtending
     ensures { λ r. ⌜ r ≡ extendingC (extendsLists (now (a .entry)) (now (b .entry))) ⌝ }
 {
-    extending_c(extending::extends(a, b))
+    extending_c(gateway::extends(a, b))
 }
 
 #[no_mangle]
 pub extern "C" fn df_check_place(bit: u64) -> DfPlace
     ensures { λ r. ⌜ r ≡ placeC (checkPlace bit) ⌝ }
 {
-    place_c(grouping::check_place(bit))
+    place_c(gateway::check_place(bit))
 }
 
 #[no_mangle]
 pub extern "C" fn df_take(store: &mut [u8], vehicle: u64, clock: u32, telegram: &[u8]) -> DfOutcome
     ensures { λ r. ⌜ WrittenC (taking (now (store .entry)) vehicle clock (now (telegram .entry))) (now (store .entry)) r (now (store .exit)) ⌝ }
 {
-    outcome_c(store::take(store, vehicle as usize, clock, telegram))
+    outcome_c(gateway::take(store, vehicle as usize, clock, telegram))
 }
 
 #[no_mangle]
@@ -347,14 +347,14 @@ pub extern "C" fn df_read(
 ) -> DfReading
     ensures { λ r. ⌜ r ≡ readingC (reading (now (list .entry)) (now (store .entry)) clock vehicle signal) ⌝ }
 {
-    reading_c(reading::read(list, store, clock, vehicle as usize, signal as usize))
+    reading_c(gateway::read(list, store, clock, vehicle as usize, signal as usize))
 }
 
 #[no_mangle]
 pub extern "C" fn df_marshal(list: &[u8], store: &[u8], clock: u32, bus: &mut [u8]) -> DfMarshalled
     ensures { λ r. ⌜ DeliveredC (marshalling (now (list .entry)) (now (store .entry)) clock (now (bus .entry))) (now (bus .entry)) r (now (bus .exit)) ⌝ }
 {
-    lives_c(marshalling::marshal(list, store, clock, bus))
+    lives_c(gateway::marshal(list, store, clock, bus))
 }
 
 #[no_mangle]
@@ -367,7 +367,7 @@ pub extern "C" fn df_compose(
 ) -> DfOutcome
     ensures { λ r. ⌜ WrittenC (composing (now (list .entry)) kind (now (values .entry)) (now (marks .entry)) (length (now (out .entry)))) (now (out .entry)) r (now (out .exit)) ⌝ }
 {
-    outcome_c(composing::compose(list, kind as usize, values, marks, out))
+    outcome_c(gateway::compose(list, kind as usize, values, marks, out))
 }
 
 // A code is shown as itself: nothing is refused.
@@ -381,7 +381,7 @@ pub extern "C" fn df_show_code(raw: u64) -> u64
 fn scaled_c(kind: Kind, width: u64, raw: u64) -> DfShown
     ensures { λ r. ⌜ r ≡ shownC (showing (kindOf kind) width raw) ⌝ }
 {
-    shown_c(shown::show(kind, width, raw))
+    shown_c(gateway::show(kind, width, raw))
 }
 
 #[no_mangle]
@@ -416,19 +416,19 @@ pub extern "C" fn df_show_current(width: u64, raw: u64) -> DfShown
 pub extern "C" fn df_resolve(marks: &[u8], address: u64) -> DfMembers
     ensures { λ r. ⌜ r ≡ membersC (resolving (map vehicleOf (now (marks .entry))) address) ⌝ }
 {
-    members_c(train::resolve(marks, address))
+    members_c(gateway::resolve(marks, address))
 }
 
 #[no_mangle]
 pub extern "C" fn df_e_read(telegram: &[u8]) -> DfERead
     ensures { λ r. ⌜ r ≡ eReadC (eReading (now (telegram .entry))) ⌝ }
 {
-    e_read_c(etelegrams::e_read(telegram))
+    e_read_c(gateway::e_read(telegram))
 }
 
 #[no_mangle]
 pub extern "C" fn df_e_answer(telegram: &[u8], head: &[u8], status: u8, out: &mut [u8]) -> DfOutcome
     ensures { λ r. ⌜ WrittenC (answering (now (telegram .entry)) (now (head .entry)) status (now (out .entry))) (now (out .entry)) r (now (out .exit)) ⌝ }
 {
-    outcome_c(etelegrams::e_answer(telegram, head, status, out))
+    outcome_c(gateway::e_answer(telegram, head, status, out))
 }

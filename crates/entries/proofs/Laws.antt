@@ -7,7 +7,7 @@ use native.Mathlib.Omega.{arith}
 use lib.Dec.{leb, eqb}
 use borrow.Author.Tests.{lt-ltb, le-leb, ne-eqb}
 use Rattle.paper.specs.SignalList.{Signal, Code, Route, fieldEnd, clearRule, signalRule, codeRule, routeEnd, routeRule}
-use Rattle.paper.proofs.ListLaws.{stops-short, asks-on}
+use Rattle.bools.proofs.Tests.{stops-short, asks-on}
 use Rattle.entries.specs.Entries.{inOrder, ownRule, codeKeeps, routeKeeps}
 
 -- a loop at entry k carries as p what f gives of the entry before, 0 at the first

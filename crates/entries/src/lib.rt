@@ -4,8 +4,20 @@ ghost use Prim.Native.Nat.{_+_, _-_, _^_, _<_, _≤_};
 ghost use mathlib.Core.Bool.{_&&_};
 ghost use lib.ListN.{length, getD};
 ghost use lib.Dec.{ltb};
-ghost use Rattle.paper.specs.SignalList.{entry, checkSize, signalSize, codeSize, routeSize, widest, checkAt, signalAt, codeAt, routeAt, checkRule, placeRule, namedRule, valueRule, routeEnd};
+ghost use Rattle.paper.specs.SignalList.{entry, checkSize, signalSize, codeSize, routeSize, widest, checkAt, signalAt, checkRule, placeRule, namedRule, valueRule, routeEnd};
 ghost use Rattle.entries.specs.Entries.{signalOf, codeOf, routeOf, CheckRead, SignalRead, CodeRead, RouteRead, OctetRead, Placeable, inOrder, ownRule, codeKeeps, routeKeeps};
+
+// The octets of an entry of each section.
+pub const CHECK_SIZE: usize = 2;
+
+pub const SIGNAL_SIZE: usize = 16;
+
+pub const CODE_SIZE: usize = 6;
+
+pub const ROUTE_SIZE: usize = 6;
+
+// The greatest width of a field.
+const WIDEST: usize = 48;
 
 pub struct Signal {
     pub start: usize,
@@ -38,7 +50,7 @@ pub fn before(k: usize) -> usize
     if 0 < k { k - 1 } else { 0 }
 }
 
-// Inner: no field is wider than 48 bits.
+// Inner: every field is narrow enough.
 pub fn pow2(w: usize) -> u64
     requires { ⌜ w < 64 ⌝ }
     ensures { λ r. ⌜ r ≡ 2 ^ w ⌝ }
@@ -58,7 +70,7 @@ pub fn check_at(list: &[u8], k: usize) -> usize
     requires { ⌜ entry checkSize (k + 1) ≤ length (now list) ⌝ }
     ensures { λ r. ⌜ CheckRead (now (list .entry)) k r ⌝ }
 {
-    octets::read16(list, 2 + 2 * k)
+    octets::read16(list, 2 + CHECK_SIZE * k)
 }
 
 // Inner: signal k, from the signals' count on.
@@ -66,7 +78,7 @@ pub fn signal_at(tail: &[u8], k: usize) -> Signal
     requires { ⌜ entry signalSize (k + 1) ≤ length (now tail) ⌝ }
     ensures { λ r. ⌜ SignalRead (now (tail .entry)) k r ⌝ }
 {
-    let at = 2 + 16 * k;
+    let at = 2 + SIGNAL_SIZE * k;
     Signal {
         start: octets::read16(tail, at),
         width: octets::wide(tail[at + 2]),
@@ -83,7 +95,7 @@ pub fn code_at(tail: &[u8], k: usize) -> Code
     requires { ⌜ entry codeSize (k + 1) ≤ length (now tail) ⌝ }
     ensures { λ r. ⌜ CodeRead (now (tail .entry)) k r ⌝ }
 {
-    let at = 2 + 6 * k;
+    let at = 2 + CODE_SIZE * k;
     Code {
         signal: octets::read16(tail, at),
         low: octets::read16(tail, at + 2),
@@ -96,7 +108,7 @@ pub fn route_at(tail: &[u8], k: usize) -> Route
     requires { ⌜ entry routeSize (k + 1) ≤ length (now tail) ⌝ }
     ensures { λ r. ⌜ RouteRead (now (tail .entry)) k r ⌝ }
 {
-    let at = 2 + 6 * k;
+    let at = 2 + ROUTE_SIZE * k;
     Route {
         signal: octets::read16(tail, at),
         vehicle: octets::wide(tail[at + 2]),
@@ -110,7 +122,7 @@ pub fn width_at(tail: &[u8], k: usize) -> usize
     requires { ⌜ k < 65536 ⌝ }
     ensures { λ r. ⌜ OctetRead (signalAt (now (tail .entry)) k .width) r ⌝ }
 {
-    octet_at(tail, 2 + 16 * k + 2)
+    octet_at(tail, 2 + SIGNAL_SIZE * k + 2)
 }
 
 // Inner: the since-version of signal k.
@@ -118,7 +130,7 @@ pub fn since_at(tail: &[u8], k: usize) -> usize
     requires { ⌜ entry signalSize (k + 1) ≤ length (now tail) ⌝ }
     ensures { λ r. ⌜ OctetRead (signalAt (now (tail .entry)) k .since) r ⌝ }
 {
-    octets::wide(tail[2 + 16 * k + 5])
+    octets::wide(tail[2 + SIGNAL_SIZE * k + 5])
 }
 
 // Inner: check k keeps its rule.
@@ -180,11 +192,10 @@ pub fn signal_own(list: &[u8], checks: usize, kind: usize, past: usize, s: Signa
     ensures { λ r. ⌜ r ≡ ownRule checks (checkAt (now (list .entry))) kind past (signalOf s) ⌝ }
 {
     let w = s.width;
-    if 48 < w {
+    if WIDEST < w {
         return false;
     }
     (1 <= w)
-        & (w <= 48)
         & (s.kind <= 2)
         & place_rule(s)
         & named_rule(list, checks, s)
@@ -209,7 +220,7 @@ fn width_of(tail: &[u8], k: usize) -> usize
     requires { ⌜ entry signalSize (k + 1) ≤ length (now tail) ⌝ }
     ensures { λ r. ⌜ OctetRead (signalAt (now (tail .entry)) k .width) r ⌝ }
 {
-    octets::wide(tail[2 + 16 * k + 2])
+    octets::wide(tail[2 + SIGNAL_SIZE * k + 2])
 }
 
 // Inner: c, behind a code entry of the signal `last` and with `least` as its least code, keeps its rule; sig starts at the signals' count.
@@ -224,10 +235,7 @@ pub fn code_rule(sig: &[u8], signals: usize, last: usize, least: usize, c: Code)
     if 16 < w {
         return false;
     }
-    (w <= 16)
-        & (c.low <= c.high)
-        & ((c.high as u64) < pow2(w))
-        & in_order(last, least, c.signal, c.low)
+    (c.low <= c.high) & ((c.high as u64) < pow2(w)) & in_order(last, least, c.signal, c.low)
 }
 
 // Inner: r, behind a route that ends at `past`, keeps its rule.

@@ -12,11 +12,11 @@ use Rattle.etelegrams.specs.declared.EReading.{EReading}
 use Rattle.etelegrams.specs.declared.ERead.{ERead}
 use Rattle.etelegrams.specs.declared.ERead.the-variants as E
 
-abbrev pub readingOf : EReading → paper.EReading
-readingOf r = record { code = r .code; report = r .report; status = r .status }
+abbrev pub eReadingOf : EReading → paper.EReading
+eReadingOf r = record { code = r .code; report = r .report; status = r .status }
 
 abbrev pub eReadAnswer : ERead → Answer paper.EReading
-eReadAnswer (E.Read r) = gives (readingOf r)
+eReadAnswer (E.Read r) = gives (eReadingOf r)
 eReadAnswer (E.Refused f) = refusalOf f
 
 -- the paper's `answering` from what was read on

@@ -1,7 +1,7 @@
 // E-telegrams: reading the code of one, and composing the short answer to a request.
 ghost use mathlib.Core.Path.{_≡_};
 ghost use Rattle.paper.specs.ETelegrams.{isRequest, isReport, eLimit, eReading, answering};
-ghost use Rattle.etelegrams.specs.Answers.{readingOf, eReadAnswer, answerOn};
+ghost use Rattle.etelegrams.specs.Answers.{eReadingOf, eReadAnswer, answerOn};
 ghost use Rattle.refusals.specs.Outcome.{Written};
 use refusals::Outcome;
 use refusals::Refusal;
@@ -71,11 +71,11 @@ pub fn e_read(telegram: &[u8]) -> ERead
     ensures { λ r. ⌜ eReadAnswer r ≡ eReading (now (telegram .entry)) ⌝ }
 {
     if telegram.len() < 9 {
-        return ERead::Refused(Refusal::ELength);
+        return ERead::Refused(Refusal::E_LENGTH);
     }
     let code = octets::read16(telegram, 6) as u16;
     if e_limit(code) < telegram.len() {
-        return ERead::Refused(Refusal::ELength);
+        return ERead::Refused(Refusal::E_LENGTH);
     }
     let status = telegram[8];
     if is_request(code) {
@@ -86,7 +86,7 @@ pub fn e_read(telegram: &[u8]) -> ERead
         });
     }
     if !is_report(code) {
-        return ERead::Refused(Refusal::ECode);
+        return ERead::Refused(Refusal::E_CODE);
     }
     ERead::Read(EReading {
         code,
@@ -97,16 +97,16 @@ pub fn e_read(telegram: &[u8]) -> ERead
 
 // The answer to what was read: head, report code and status, 9 octets.
 fn answer(read: EReading, head: &[u8], status: u8, out: &mut [u8]) -> Outcome
-    ensures { λ r. ⌜ Written (answerOn (readingOf read) (now (head .entry)) status (now (out .entry))) (now (out .entry)) r (now (out .exit)) ⌝ }
+    ensures { λ r. ⌜ Written (answerOn (eReadingOf read) (now (head .entry)) status (now (out .entry))) (now (out .entry)) r (now (out .exit)) ⌝ }
 {
     if read.report {
-        return Outcome::Refused(Refusal::AnswerToReport);
+        return Outcome::Refused(Refusal::ANSWER_TO_REPORT);
     }
     if head.len() != 6 {
-        return Outcome::Refused(Refusal::HeadLength);
+        return Outcome::Refused(Refusal::HEAD_LENGTH);
     }
     if out.len() < 9 {
-        return Outcome::Refused(Refusal::OutputShort);
+        return Outcome::Refused(Refusal::OUTPUT_SHORT);
     }
     octets::copy_over(out, 0, head);
     octets::write16(out, 6, read.code as u32 + 0x0A00);

@@ -1,6 +1,6 @@
 -- What the order of two accepted lists tells: which signal of one is one of the other, which range holds a code, and which code is lost if none does.
 -- Assumes nothing.
-use Prim.Native.Nat.{ℕ, suc, _+_, _-_, _*_, _^_, _≤_, _<_, zero-le}
+use Prim.Native.Nat.{ℕ, _+_, _-_, _*_, _^_, _≤_, _<_, zero-le}
 use mathlib.Core.Path.{_≡_, refl, sym, ap, _∙_}
 use mathlib.Core.Logic.{_⊎_, inl, inr}
 use mathlib.Core.Bool.{Bool, true, false, not, _&&_, _||_, and-false, or-true}
@@ -11,44 +11,24 @@ use lib.Dec.{ltb, leb, eqb}
 use lib.Pow.{pow-pos}
 use borrow.Author.Count.{below-none, below-more}
 use borrow.Author.Tests.{ltb-false, leb-true, eqb-true, lt-ltb, le-ltb, le-leb, lt-leb, eq-eqb, ne-eqb, not-false}
-use Rattle.paper.specs.Answer.{Answer, gives, refused}
+use Rattle.paper.specs.Answer.{gives}
 use Rattle.paper.specs.First.{firstBad, all, some}
-use Rattle.paper.specs.SignalList.{Signal, Code, SignalList, Counts, judge, listOf}
-use Rattle.paper.specs.Extends.{Extending, extending, firstRefused, secondRefused, extendingBy, version, hasCodes, inRange, knownIn, knows, same, codesKept, keeps, stands, newer, extends, extendsLists}
+use Rattle.paper.specs.SignalList.{Signal, Code, SignalList, Counts, judge, listOf, OfTwo, ofBoth, firstRefused, secondRefused, version, hasCodes, inRange, knownIn, knows}
+use Rattle.paper.specs.Extends.{same, codesKept, keeps, stands, newer, extends, extendsLists, Related}
 use Rattle.paper.proofs.AnswerLaws.{one-answer}
 use Rattle.paper.proofs.FirstLaws.{first-fails, all-true, all-false, not-all, all-at, some-true, some-false, some-at}
-use Rattle.paper.proofs.ListLaws.{both, neither, other, Kept, types-rise, fields-rise}
-use Rattle.paper.proofs.ExtendsLaws.{same-of, same-true, keeps-of, Related, yes-related}
+use Rattle.bools.proofs.Tests.{both, neither, other}
+use Rattle.paper.specs.Accepted.{Kept}
+use Rattle.paper.specs.Pairs.{signalKey, signalKeys}
+use Rattle.paper.proofs.PairLaws.{signals-rise}
+use Rattle.paper.proofs.ExtendsLaws.{same-of, same-true, keeps-of, yes-related}
+use Rattle.paper.specs.Search.{Cut}
 use Rattle.refusals.proofs.Laws.{numbered, numbered-of}
-use Rattle.known.specs.Known.{Ordered, codeKeys, Cut, Own}
-use Rattle.known.proofs.Laws.{Rising, ordered-of, in-range, in-none, is-within, cut-signal, reaches, outside}
+use Rattle.known.specs.Known.{Ordered, codeKeys, Own}
+use Rattle.known.proofs.Laws.{ordered-of, in-range, in-none, is-within, cut-signal, reaches, outside}
 use Rattle.extending.specs.declared.ExtendsOutcome.{ExtendsOutcome}
 use Rattle.extending.specs.declared.ExtendsOutcome.the-variants.{Yes, No, FirstRefused, SecondRefused}
-use Rattle.extending.specs.Extending.{extendsAnswer, signalKey, signalKeys, lastKey, Newer, rangeKept, entryKept, rangesKept}
-
--- ---- the order of signals
-
-module _ (l : SignalList) (h : Kept l) where
-  start-small : (k : ℕ) → k < l .signals → l .signal k .start < 65536
-  start-small k lt =
-      elim (ℕ-discrete (l .signal k .type) 0) [
-        | yes e ↦ omega (arith, h .signal k lt .placed .common e .1)
-        | no ne ↦ omega (arith, h .signal k lt .placed .own ne .1)
-      ]
-
-  last-key : (k : ℕ) → k < l .signals → signalKeys l k < lastKey
-  last-key k lt = omega (arith, start-small k lt, h .signal k lt .typed)
-
-  signals-rise : Rising (signalKeys l) (l .signals)
-  signals-rise i j lt hj =
-      let z : i + suc (j - suc i) ≡ j = omega arith in
-      let t = rw z at (types-rise l h (suc (j - suc i)) i (rw z hj)) in
-      elim (decLt (l .signal i .type) (l .signal j .type)) [
-        | yes less ↦ omega (arith, start-small i (omega arith))
-        | no ge ↦
-            let e : l .signal i .type ≡ l .signal j .type = omega arith in
-            omega (arith, rw z at (fields-rise l h (j - suc i) i (rw z hj) (rw z e)), h .signal i (omega arith) .some)
-      ]
+use Rattle.extending.specs.Extending.{extendsAnswer, Newer, rangeKept, entryKept, rangesKept}
 
 -- ---- the ranges of a signal
 
@@ -136,8 +116,8 @@ pub record Along (a b : SignalList) (i j : ℕ) : Type 0 where
   pub second : j ≤ b .signals
   pub stood : (k : ℕ) → k < i → stands a b k ≡ true
   pub passed : (k : ℕ) → k < j → newer a b k ≡ true
-  pub behind : i < a .signals → (k : ℕ) → k < j → signalKeys b k < signalKeys a i
-  pub ahead : j < b .signals → (k : ℕ) → k < i → signalKeys a k < signalKeys b j
+  pub behind : i < a .signals → (k : ℕ) → k < j → signalKey (b .signal k) < signalKey (a .signal i)
+  pub ahead : j < b .signals → (k : ℕ) → k < i → signalKey (a .signal k) < signalKey (b .signal j)
 
 pub along-none : (a b : SignalList) → Along a b 0 0
 along-none a b = record {
@@ -151,7 +131,7 @@ along-none a b = record {
 
 module _ (a b : SignalList) (ha : Kept a) (hb : Kept b) (i j : ℕ) (at : Along a b i j) where
   -- past signals that are only in B
-  module _ (key r : ℕ) (n : Newer b j key (version a) r) (next : i < a .signals → key ≤ signalKeys a i) where
+  module _ (key r : ℕ) (n : Newer b j key (version a) r) (next : i < a .signals → key ≤ signalKey (a .signal i)) where
     pub along-newer : Along a b i r
     unfolding newer
     along-newer = record {
@@ -170,7 +150,7 @@ module _ (a b : SignalList) (ha : Kept a) (hb : Kept b) (i j : ℕ) (at : Along 
           ];
       ahead = λ hr k lt.
           elim (decLt j r) [
-            | yes less ↦ omega (arith, at .ahead (omega arith) k lt, signals-rise b hb j r less hr)
+            | yes less ↦ omega (arith, at .ahead (omega arith) k lt, signals-rise b hb .rise j r less hr)
             | no ge ↦ let z : j ≡ r = omega (arith, n .from) in rw z at (at .ahead (rw z hr) k lt)
           ];
     }
@@ -180,12 +160,13 @@ module _ (a b : SignalList) (ha : Kept a) (hb : Kept b) (i j : ℕ) (at : Along 
   unfolding extends stands
   not-stands hi none = simp (all-false (stands a b) (a .signals) i hi (some-false (keeps a b i) (b .signals) none))
 
-  not-kept : (k : ℕ) → (signalKeys a i ≡ signalKeys b k → ⊥) → keeps a b i k ≡ false
+  not-kept : (k : ℕ) → (signalKey (a .signal i) ≡ signalKey (b .signal k) → ⊥) → keeps a b i k ≡ false
   unfolding keeps
   not-kept k ne = simp (not-same (a .signal i) (b .signal k) ne)
 
   -- signal j of B is only in B, and not newer
-  not-newer : j < b .signals → ((k : ℕ) → i ≤ k → k < a .signals → signalKeys b j < signalKeys a k) → ltb (version a) (b .signal j .since) ≡ false → false ≡ extends a b
+  not-newer : j < b .signals → ((k : ℕ) → i ≤ k → k < a .signals → signalKey (b .signal j) < signalKey (a .signal k))
+      → ltb (version a) (b .signal j .since) ≡ false → false ≡ extends a b
   unfolding extends newer
   not-newer hj rest old =
       simp (all-false (newer a b) (b .signals) j hj (simp (some-false (λ k. same (a .signal k) (b .signal j)) (a .signals) none, old)), and-false)
@@ -207,7 +188,7 @@ module _ (a b : SignalList) (ha : Kept a) (hb : Kept b) (i j : ℕ) (at : Along 
       along-kept e =
           let g = keeps-of a b i j e .agrees in
           let same-ij : same (a .signal i) (b .signal j) ≡ true = same-true (a .signal i) (b .signal j) (g .type) (g .start) in
-          let key : signalKeys a i ≡ signalKeys b j = same-key (a .signal i) (b .signal j) same-ij in
+          let key : signalKey (a .signal i) ≡ signalKey (b .signal j) = same-key (a .signal i) (b .signal j) same-ij in
           record {
             first = omega arith;
             second = omega arith;
@@ -215,45 +196,46 @@ module _ (a b : SignalList) (ha : Kept a) (hb : Kept b) (i j : ℕ) (at : Along 
             passed = below-more _ _ (at .passed) (simp (some-true (λ k. same (a .signal k) (b .signal j)) (a .signals) i hi same-ij));
             behind = λ h k lt.
                 elim (decLt k j) [
-                  | yes less ↦ omega (arith, at .behind hi k less, signals-rise a ha i (i + 1) (omega arith) h)
-                  | no ge ↦ let z : k ≡ j = omega arith in rw z (omega (arith, key, signals-rise a ha i (i + 1) (omega arith) h))
+                  | yes less ↦ omega (arith, at .behind hi k less, signals-rise a ha .rise i (i + 1) (omega arith) h)
+                  | no ge ↦ let z : k ≡ j = omega arith in rw z (omega (arith, key, signals-rise a ha .rise i (i + 1) (omega arith) h))
                 ];
             ahead = λ h k lt.
                 elim (decLt k i) [
-                  | yes less ↦ omega (arith, at .ahead hj k less, signals-rise b hb j (j + 1) (omega arith) h)
-                  | no ge ↦ let z : k ≡ i = omega arith in rw z (omega (arith, key, signals-rise b hb j (j + 1) (omega arith) h))
+                  | yes less ↦ omega (arith, at .ahead hj k less, signals-rise b hb .rise j (j + 1) (omega arith) h)
+                  | no ge ↦ let z : k ≡ i = omega arith in rw z (omega (arith, key, signals-rise b hb .rise j (j + 1) (omega arith) h))
                 ];
           }
 
       -- where B is stopped at, A's signal is not kept
-      pub not-along : (ltb (signalKeys b j) (signalKeys a i) && ltb (version a) (b .signal j .since)) ≡ false → keeps a b i j ≡ false → false ≡ extends a b
+      pub not-along : (ltb (signalKey (b .signal j)) (signalKey (a .signal i)) && ltb (version a) (b .signal j .since)) ≡ false
+          → keeps a b i j ≡ false → false ≡ extends a b
       not-along stop e =
-          elim (decLt (signalKeys b j) (signalKeys a i)) [
+          elim (decLt (signalKey (b .signal j)) (signalKey (a .signal i))) [
             | yes less ↦ not-newer hj (λ k ge hk. rest k ge hk less) (simp (lt-ltb _ _ less) at stop)
             | no past ↦ not-stands hi (λ k hk. elsewhere k hk past)
           ]
         where
-          rest : (k : ℕ) → i ≤ k → k < a .signals → signalKeys b j < signalKeys a i → signalKeys b j < signalKeys a k
+          rest : (k : ℕ) → i ≤ k → k < a .signals → signalKey (b .signal j) < signalKey (a .signal i) → signalKey (b .signal j) < signalKey (a .signal k)
           rest k ge hk less =
               elim (decLt i k) [
-                | yes lt ↦ omega (arith, signals-rise a ha i k lt hk)
+                | yes lt ↦ omega (arith, signals-rise a ha .rise i k lt hk)
                 | no le ↦ let z : k ≡ i = omega arith in rw z less
               ]
 
-          elsewhere : (k : ℕ) → k < b .signals → (signalKeys b j < signalKeys a i → ⊥) → keeps a b i k ≡ false
+          elsewhere : (k : ℕ) → k < b .signals → (signalKey (b .signal j) < signalKey (a .signal i) → ⊥) → keeps a b i k ≡ false
           elsewhere k hk past =
               elim (decLt k j) [
                 | yes less ↦ not-kept k (λ q. omega (arith, at .behind hi k less))
                 | no ge ↦ elim (ℕ-discrete k j) [
                   | yes z ↦ rw z e
-                  | no more ↦ not-kept k (λ q. past (omega (arith, signals-rise b hb j k (omega arith) hk)))
+                  | no more ↦ not-kept k (λ q. past (omega (arith, signals-rise b hb .rise j k (omega arith) hk)))
                 ]
               ]
 
 -- past all of A: the rest of B has to be newer
-module _ (a b : SignalList) (ha : Kept a) (hb : Kept b) (i j r : ℕ) (at : Along a b i j) (le : a .signals ≤ i) (n : Newer b j lastKey (version a) r) where
+module _ (a b : SignalList) (ha : Kept a) (hb : Kept b) (i j r : ℕ) (at : Along a b i j) (le : a .signals ≤ i) (n : Newer b j signalKeys (version a) r) where
   end : Along a b i r
-  end = along-newer a b ha hb i j at lastKey r n (λ hi. absurd (omega arith))
+  end = along-newer a b ha hb i j at signalKeys r n (λ hi. absurd (omega arith))
 
   pub all-along : eqb r (b .signals) ≡ extends a b
   unfolding extends
@@ -269,7 +251,7 @@ module _ (a b : SignalList) (ha : Kept a) (hb : Kept b) (i j r : ℕ) (at : Alon
       ]
     where
       stopped : r < b .signals → false ≡ extends a b
-      stopped lt = not-newer a b ha hb i r end lt (λ k ge hk. absurd (omega arith)) (simp (lt-ltb _ _ (last-key b hb r lt)) at (n .stops lt))
+      stopped lt = not-newer a b ha hb i r end lt (λ k ge hk. absurd (omega arith)) (simp (lt-ltb _ _ (signals-rise b hb .small r lt)) at (n .stops lt))
 
 -- ---- the codes of a signal of A that are known under B
 
@@ -362,15 +344,6 @@ module _ (a b : SignalList) (i j from to : ℕ) (own : Own (a .codes) (a .code) 
   pub entry-within : (g : ℕ) → from ≤ g → g < to → rangeKept b j (a .code g .low) (a .code g .high) ≡ entryKept a b i j g
   entry-within g le lt = simp (eq-eqb _ _ (own .within g le lt))
 
--- ---- two lists: the refusal of the one that is judged, or what goes on from it
-
-module _ {A : Type 0} (x : Answer A) (refusal : ℕ → ℕ → Extending) (next : A → Extending) where
-  pub by-refusal : (n at : ℕ) → refused n at ≡ x → refusal n at ≡ extendingBy x refusal next
-  by-refusal n at e = rw (← e)
-
-  pub by-given : (a : A) (y : Extending) → gives a ≡ x → y ≡ next a → y ≡ extendingBy x refusal next
-  by-given a y e q = rw (← e) q
-
 -- ---- a call that answers yes has the premise of demand 3, whichever of the two lists writes
 
 pub answered-yes : (xs ys : List ℕ) → extendsAnswer Yes ≡ extendsLists xs ys → (m n : Counts) → judge xs ≡ gives m → judge ys ≡ gives n
@@ -379,9 +352,9 @@ answered-yes xs ys e = yes-related xs ys (sym e)
 
 -- ---- the contract settles the answer
 
-told : Extending → ExtendsOutcome
-told (extending true) = Yes
-told (extending false) = No
+told : OfTwo Bool → ExtendsOutcome
+told (ofBoth true) = Yes
+told (ofBoth false) = No
 told (firstRefused n at) = FirstRefused (numbered n at)
 told (secondRefused n at) = SecondRefused (numbered n at)
 
@@ -392,5 +365,5 @@ told-of No = refl
 told-of (FirstRefused f) = ap FirstRefused (numbered-of f)
 told-of (SecondRefused f) = ap SecondRefused (numbered-of f)
 
-pub one-extends : (a : Extending) (v w : ExtendsOutcome) → extendsAnswer v ≡ a → extendsAnswer w ≡ a → v ≡ w
+pub one-extends : (a : OfTwo Bool) (v w : ExtendsOutcome) → extendsAnswer v ≡ a → extendsAnswer w ≡ a → v ≡ w
 one-extends = one-answer extendsAnswer told told-of

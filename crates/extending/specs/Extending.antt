@@ -1,49 +1,39 @@
 -- The paper's answer for each case of the code's, and what the parts of the comparison answer.
-use Prim.Native.Nat.{ℕ, _+_, _*_, _≤_, _<_}
+use Prim.Native.Nat.{ℕ, _+_, _≤_, _<_}
 use mathlib.Core.Path.{_≡_}
 use mathlib.Core.Bool.{Bool, true, false, not, _&&_, _||_}
 use mathlib.Core.List.{List}
 use lib.Dec.{ltb, eqb}
 use Rattle.paper.specs.First.{all}
-use Rattle.paper.specs.SignalList.{Signal, SignalList, judge, listOf}
-use Rattle.paper.specs.Extends.{Extending, extending, firstRefused, secondRefused, extendingBy, same, inRange, extends}
+use Rattle.paper.specs.SignalList.{Signal, SignalList, judge, listOf, OfTwo, ofBoth, firstRefused, secondRefused, ofTwo, inRange}
+use Rattle.paper.specs.Extends.{same, extends}
+use Rattle.paper.specs.Pairs.{signalKey}
 use Rattle.refusals.specs.Refusal.{numberOf, carriedOf}
 use Rattle.lists.specs.declared.Counts.{Counts}
 use Rattle.lists.specs.Judged.{countsOf}
 use Rattle.extending.specs.declared.ExtendsOutcome.{ExtendsOutcome}
 use Rattle.extending.specs.declared.ExtendsOutcome.the-variants.{Yes, No, FirstRefused, SecondRefused}
 
-abbrev pub extendsAnswer : ExtendsOutcome → Extending
-extendsAnswer Yes = extending true
-extendsAnswer No = extending false
+abbrev pub extendsAnswer : ExtendsOutcome → OfTwo Bool
+extendsAnswer Yes = ofBoth true
+extendsAnswer No = ofBoth false
 extendsAnswer (FirstRefused f) = firstRefused (numberOf f) (carriedOf f)
 extendsAnswer (SecondRefused f) = secondRefused (numberOf f) (carriedOf f)
 
 -- what is answered once the first list is accepted
-abbrev pub extendsUnder : SignalList → List ℕ → Extending
-extendsUnder a ys = extendingBy (judge ys) secondRefused (λ n. extending (extends a (listOf ys n)))
+abbrev pub extendsUnder : SignalList → List ℕ → OfTwo Bool
+extendsUnder a ys = ofTwo (judge ys) secondRefused (λ n. ofBoth (extends a (listOf ys n)))
 
 -- the list with the counts that it was accepted with
 abbrev pub listed : List ℕ → Counts → SignalList
 listed xs n = listOf xs (countsOf n)
 
--- what the signals of an accepted list rise by
-abbrev pub signalKey : Signal → ℕ
-signalKey s = s .type * 65536 + s .start
-
-abbrev pub signalKeys : SignalList → ℕ → ℕ
-signalKeys l k = signalKey (l .signal k)
-
--- past every signal
-abbrev pub lastKey : ℕ
-lastKey = 16777216
-
 -- r is the first signal from j on that is not below the key, or not newer than the version
 pub record Newer (l : SignalList) (j key version r : ℕ) : Type 0 where
   pub from : j ≤ r
   pub most : r ≤ l .signals
-  pub each : (k : ℕ) → j ≤ k → k < r → (signalKeys l k < key) × (version < l .signal k .since)
-  pub stops : r < l .signals → (ltb (signalKeys l r) key && ltb version (l .signal r .since)) ≡ false
+  pub each : (k : ℕ) → j ≤ k → k < r → (signalKey (l .signal k) < key) × (version < l .signal k .since)
+  pub stops : r < l .signals → (ltb (signalKey (l .signal r)) key && ltb version (l .signal r .since)) ≡ false
 
 -- every code from low to high is in a range of signal k
 unfoldable pub rangeKept : SignalList → ℕ → ℕ → ℕ → Bool

@@ -2,19 +2,16 @@
 ghost use mathlib.Core.Path.{_≡_};
 ghost use Prim.Native.Nat.{_<_, _≤_};
 ghost use Rattle.paper.specs.Extends.{same, codesKept, keeps, extends as extendsList, extendsLists};
-ghost use Rattle.paper.proofs.ListLaws.{Laid};
+ghost use Rattle.paper.specs.Accepted.{Laid};
 ghost use Rattle.entries.specs.Entries.{signalOf};
 ghost use Rattle.lists.specs.Judged.{countsOf};
 ghost use Rattle.known.specs.Known.{Entries};
-ghost use Rattle.extending.specs.Extending.{extendsAnswer, extendsUnder, listed, signalKey, Newer, rangeKept, rangesKept, agreed};
+ghost use Rattle.extending.specs.Extending.{extendsAnswer, extendsUnder, listed, Newer, rangeKept, rangesKept, agreed};
 use entries::Signal;
 use known::Span;
 use lists::Counts;
 use lists::Judged;
 use refusals::Refusal;
-
-// Past the key of every signal.
-const LAST_KEY: usize = 16777216;
 
 // Whether B extends A, or the refusal of the first of the two that is refused.
 pub enum ExtendsOutcome {
@@ -22,14 +19,6 @@ pub enum ExtendsOutcome {
     No,
     FirstRefused(Refusal),
     SecondRefused(Refusal),
-}
-
-// What the signals of a list rise by.
-fn signal_key(s: Signal) -> usize
-    requires { ⌜ (s .kind < 256) × (s .start < 65536) ⌝ }
-    ensures { λ r. ⌜ r ≡ signalKey (signalOf s) ⌝ }
-{
-    s.kind * 65536 + s.start
 }
 
 // The first signal from j on that is not below the key, or not newer than the version: those passed are only in B, and may be.
@@ -40,7 +29,7 @@ fn past_newer(list: &[u8], n: Counts, j: usize, key: usize, version: usize) -> u
     let mut k = j;
     while k < n.signals {
         let t = lists::signal_in(list, n, k);
-        if !((signal_key(t) < key) & (version < t.since)) {
+        if !((finding::signal_key(t) < key) & (version < t.since)) {
             return k;
         }
         k += 1;
@@ -160,7 +149,7 @@ fn compared(a: &[u8], m: Counts, b: &[u8], n: Counts) -> bool
     let mut g = 0;
     while i < m.signals {
         let s = lists::signal_in(a, m, i);
-        j = past_newer(b, n, j, signal_key(s), m.version);
+        j = past_newer(b, n, j, finding::signal_key(s), m.version);
         if n.signals <= j {
             return false;
         }
@@ -174,7 +163,7 @@ fn compared(a: &[u8], m: Counts, b: &[u8], n: Counts) -> bool
         i += 1;
         j += 1;
     }
-    past_newer(b, n, j, LAST_KEY, m.version) == n.signals
+    past_newer(b, n, j, finding::PAST_KEYS, m.version) == n.signals
 }
 
 // An accepted list A, and B yet to be judged.

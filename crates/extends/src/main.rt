@@ -1,5 +1,6 @@
 // Says in one line whether the signal list at its second path extends the one at its first.
-use extending::ExtendsOutcome;
+use gateway::ExtendsOutcome;
+use gateway::LONGEST;
 use libc::STDOUT_FILENO;
 
 fn help() {
@@ -27,19 +28,19 @@ fn show(found: ExtendsOutcome) {
 
 // One octet more than the longest list: what follows cannot change the answer.
 fn compare() {
-    let mut a = [0u8; 10377];
+    let mut a = [0u8; LONGEST + 1];
     let first = files::read(1, b"FIRST", &mut a);
     if !first.ok {
         return;
     }
-    let mut b = [0u8; 10377];
+    let mut b = [0u8; LONGEST + 1];
     let second = files::read(2, b"SECOND", &mut b);
     if !second.ok {
         return;
     }
     let m = first.octets;
     let n = second.octets;
-    show(extending::extends(&a[..m], &b[..n]));
+    show(gateway::extends(&a[..m], &b[..n]));
 }
 
 fn main() {

@@ -17,5 +17,5 @@ unfolding told
 told-of (At place) = refl
 told-of (Refused f) = ap Refused (numbered-of f)
 
-pub one-place : (a : Answer ℕ) (v w : Place) → placeAnswer v ≡ a → placeAnswer w ≡ a → v ≡ w
-one-place = one-answer placeAnswer told told-of
+pub one-check-place : (a : Answer ℕ) (v w : Place) → placeAnswer v ≡ a → placeAnswer w ≡ a → v ≡ w
+one-check-place = one-answer placeAnswer told told-of

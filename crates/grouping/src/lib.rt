@@ -118,5 +118,5 @@ pub fn check_place(bit: u64) -> Place
             }
         }
     }
-    Place::Refused(Refusal::NoCheckPlace)
+    Place::Refused(Refusal::NO_CHECK_PLACE)
 }

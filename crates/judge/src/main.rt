@@ -1,7 +1,8 @@
 // Judges the signal list whose path is its argument, and says in one line what was found.
+use gateway::Counts;
+use gateway::Judged;
+use gateway::LONGEST;
 use libc::STDOUT_FILENO;
-use lists::Counts;
-use lists::Judged;
 use saying::Line;
 
 fn help() {
@@ -34,13 +35,13 @@ fn print_accepted(n: Counts) {
 
 // One octet more than the longest list: what follows cannot change the answer.
 fn judge() {
-    let mut list = [0u8; 10377];
+    let mut list = [0u8; LONGEST + 1];
     let input = files::read(1, b"LIST", &mut list);
     if !input.ok {
         return;
     }
     let n = input.octets;
-    match lists::judge(&list[..n]) {
+    match gateway::judge(&list[..n]) {
         Judged::Accepted(n) => print_accepted(n),
         Judged::Refused(f) => words::print_refused(f),
     }

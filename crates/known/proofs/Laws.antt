@@ -12,53 +12,13 @@ use lib.Pow.{pow-mono}
 use borrow.Author.Count.{below-none, below-more}
 use borrow.Author.Tests.{le-leb, lt-leb, eq-eqb, ne-eqb}
 use Rattle.paper.specs.First.{some}
-use Rattle.paper.specs.SignalList.{Code, SignalList, Counts, listOf, codeAt, codesPart}
-use Rattle.paper.specs.Extends.{hasCodes, inRange, knownIn}
+use Rattle.paper.specs.Search.{Rises, Between, Cut}
+use Rattle.paper.proofs.SearchLaws.{onward}
+use Rattle.paper.specs.SignalList.{Code, SignalList, Counts, listOf, codeAt, codesPart, hasCodes, inRange, knownIn}
 use Rattle.paper.proofs.FirstLaws.{some-true, some-false}
-use Rattle.paper.proofs.ListLaws.{Laid, Kept, kept-of, CodeFollows}
-use Rattle.known.specs.Known.{Ordered, codeKeys, codeSignals, Between, Cut, Own, From}
-
--- ---- the first of rising numbers that is not below a key
-
-abbrev pub Rising : (ℕ → ℕ) → ℕ → Type 0
-Rising f n = (i j : ℕ) → i < j → j < n → f i < f j
-
-module _ (f : ℕ → ℕ) (n key : ℕ) where
-  -- nothing is known past what is below
-  onward : (low : ℕ) → low ≤ n → ((k : ℕ) → k < low → f k < key) → Between f n key low n
-  onward low le below = record { ordered = le; most = le-refl n; below = below; above = λ k ge lt. absurd (omega arith) }
-
-  pub none-between : (low high : ℕ) → Between f n key low high → high ≤ low → Cut f n key low
-  none-between low high h le =
-      record { ordered = le-refl low; most = omega (arith, h .ordered, h .most); below = h .below; above = λ k ge lt. h .above k (omega arith) lt }
-
-  module _ (rise : Rising f n) where
-    -- one test settles every number on its side
-    pub low-raised : (low mid high : ℕ) → Between f n key low high → mid < high → f mid < key → Between f n key (mid + 1) high
-    low-raised low mid high h lt t =
-        record {
-          ordered = omega arith;
-          most = h .most;
-          below = λ k l.
-              elim (decLt k mid) [
-                | yes less ↦ omega (arith, rise k mid less (omega (arith, h .most)))
-                | no ge ↦ let e : k ≡ mid = omega arith in omega (arith, ap f e)
-              ];
-          above = h .above;
-        }
-
-    pub high-lowered : (low mid high : ℕ) → Between f n key low high → low ≤ mid → mid < high → key ≤ f mid → Between f n key low mid
-    high-lowered low mid high h le lt t =
-        record {
-          ordered = le;
-          most = omega (arith, h .most);
-          below = h .below;
-          above = λ k l hk.
-              elim (decLt mid k) [
-                | yes less ↦ omega (arith, rise mid k less hk)
-                | no ge ↦ let e : k ≡ mid = omega arith in omega (arith, ap f e)
-              ];
-        }
+use Rattle.paper.specs.Accepted.{Laid, Kept, CodeFollows}
+use Rattle.paper.proofs.ListLaws.{kept-of}
+use Rattle.known.specs.Known.{Ordered, codeKeys, codeSignals, Own, From}
 
 -- ---- the order of code entries
 
@@ -71,7 +31,8 @@ module _ (l : SignalList) (h : Kept l) where
   codes-follow (suc d) e lt =
       let z : e + suc (suc d) ≡ suc (e + suc d) = omega arith in
       let y : suc (e + suc d) - 1 ≡ e + suc d = omega arith in
-      rw z (by (l .code e) (l .code (e + suc d)) (l .code (suc (e + suc d))) (codes-follow d e (omega arith)) (h .code (e + suc d) (omega arith) .range) (rw y at (h .code (suc (e + suc d)) (omega arith) .follows (omega arith))))
+      rw z
+      (by (l .code e) (l .code (e + suc d)) (l .code (suc (e + suc d))) (codes-follow d e (omega arith)) (h .code (e + suc d) (omega arith) .range) (rw y at (h .code (suc (e + suc d)) (omega arith) .follows (omega arith))))
     where
       by : (p c q : Code) → CodeFollows p c → c .low ≤ c .high → CodeFollows c q → CodeFollows p q
       by p c q (inl a) r (inl b) = inl (omega arith)
@@ -128,10 +89,11 @@ module _ (codes : ℕ) (code : ℕ → Code) (k : ℕ) where
         by : (e : ℕ) → e < codes → Dec (code e .signal ≡ k) → holds e ≡ false
         by e lt (no ne) = simp (ne-eqb _ _ ne)
         by e lt (yes q) =
-            ⊎-elim (λ a. simp (eq-eqb _ _ q, lt-leb (code e .low) c a)) (λ a. simp (lt-leb c (code e .high) a) (and-false (eqb (code e .signal) k && leb (code e .low) c))) (out e lt q)
+            ⊎-elim (λ a. simp (eq-eqb _ _ q, lt-leb (code e .low) c a))
+            (λ a. simp (lt-leb c (code e .high) a) (and-false (eqb (code e .signal) k && leb (code e .low) c))) (out e lt q)
 
 module _ (codes : ℕ) (code : ℕ → Code) (h : Ordered codes code) where
-  pub codes-rise : Rising (codeKeys code) codes
+  pub codes-rise : Rises (codeKeys code) codes
   codes-rise e g lt hg =
       ⊎-elim (λ a. omega (arith, h .small e (omega arith))) (λ a. omega (arith, a .0, a .1, h .range g hg)) (h .follows e g lt hg)
 

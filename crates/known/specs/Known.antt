@@ -1,8 +1,9 @@
--- The code entries of an accepted list in their order, what halving keeps, and which entries are a signal's.
+-- The code entries of an accepted list in their order, and which of them are a signal's.
 use Prim.Native.Nat.{ℕ, _+_, _*_, _≤_, _<_}
 use mathlib.Core.Path.{_≡_}
 use Rattle.paper.specs.SignalList.{Code, SignalList}
-use Rattle.paper.proofs.ListLaws.{CodeFollows}
+use Rattle.paper.specs.Search.{Between, Cut}
+use Rattle.paper.specs.Accepted.{CodeFollows}
 use Rattle.known.specs.declared.Span.{Span}
 
 -- of two entries the later is of a later signal, or past a gap
@@ -20,17 +21,6 @@ codeKeys code e = codeKey (code e)
 
 abbrev pub codeSignals : (ℕ → Code) → ℕ → ℕ
 codeSignals code e = code e .signal
-
--- what a search keeps: the numbers before `low` are below the key, those from `high` on are not
-pub record Between (f : ℕ → ℕ) (n key low high : ℕ) : Type 0 where
-  pub ordered : low ≤ high
-  pub most : high ≤ n
-  pub below : (k : ℕ) → k < low → f k < key
-  pub above : (k : ℕ) → high ≤ k → k < n → key ≤ f k
-
--- nothing is left between: r parts the numbers
-abbrev pub Cut : (ℕ → ℕ) → ℕ → ℕ → ℕ → Type 0
-Cut f n key r = Between f n key r r
 
 -- the entries of signal k are those from `from` to before `to`
 pub record Own (codes : ℕ) (code : ℕ → Code) (k from to : ℕ) : Type 0 where

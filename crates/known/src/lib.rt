@@ -2,12 +2,12 @@
 // halving, or by going on from those of a signal before. What has a `requires` is inner: its caller in the library shows it.
 ghost use mathlib.Core.Path.{_≡_};
 ghost use Prim.Native.Nat.{_<_};
-ghost use Rattle.paper.specs.SignalList.{listOf};
-ghost use Rattle.paper.specs.Extends.{knows as listKnows};
-ghost use Rattle.paper.proofs.ListLaws.{Laid};
+ghost use Rattle.paper.specs.SignalList.{listOf, knows as listKnows};
+ghost use Rattle.paper.specs.Accepted.{Laid};
+ghost use Rattle.paper.specs.Search.{Between, Cut};
 ghost use Rattle.entries.specs.Entries.{codeOf};
 ghost use Rattle.lists.specs.Judged.{countsOf};
-ghost use Rattle.known.specs.Known.{codeKey, codeKeys, Between, Cut, Entries, From, Starts};
+ghost use Rattle.known.specs.Known.{codeKey, codeKeys, Entries, From, Starts};
 use entries::Code;
 use lists::Counts;
 

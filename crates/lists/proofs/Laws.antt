@@ -15,7 +15,9 @@ use Rattle.paper.specs.First.{firstBad, all}
 use Rattle.paper.specs.SignalList.{Signal, Counts as PaperCounts, fieldEnd, entry, rest, checkRule, apart, clearRule, opening, judgeEntries, judgeSection, judge}
 use Rattle.paper.proofs.AnswerLaws.{one-answer}
 use Rattle.paper.proofs.FirstLaws.{first-most, first-passed, all-true, all-false, all-at}
-use Rattle.paper.proofs.ListLaws.{both, check-kept, opened-of, Laid, laid, RefusedWithin, within-rest}
+use Rattle.bools.proofs.Tests.{both}
+use Rattle.paper.proofs.ListLaws.{check-kept, opened-of, laid, within-rest}
+use Rattle.paper.specs.Accepted.{Laid, RefusedWithin}
 use Rattle.refusals.specs.declared.Refusal.{Refusal}
 use Rattle.refusals.specs.Refusal.{refusalOf}
 use Rattle.refusals.proofs.Laws.{numbered, numbered-of}

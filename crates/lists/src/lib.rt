@@ -7,13 +7,16 @@ ghost use lib.ListN.{length};
 ghost use lib.Dec.{leb};
 ghost use Rattle.paper.specs.Answer.{shift};
 ghost use Rattle.paper.specs.First.{firstBad, all};
-ghost use Rattle.paper.specs.SignalList.{entry, checkSize, signalSize, codeSize, routeSize, checkAt, signalAt, codeAt, routeAt, checkRule, signalRule, codeRule, routeRule, opening, greatestSince, fromRoutes, fromCodes, fromSignals, judge as judgedList, rest as restOf, listOf, signalsPart, codesPart, routesPart};
-ghost use Rattle.paper.specs.Extends.{placeOf};
-ghost use Rattle.paper.proofs.ListLaws.{RefusedWithin, Laid};
+ghost use Rattle.paper.specs.SignalList.{entry, checkSize, signalSize, codeSize, routeSize, checkAt, signalAt, codeAt, routeAt, checkRule, signalRule, codeRule, routeRule, opening, greatestSince, fromRoutes, fromCodes, fromSignals, judge as judgedList, rest as restOf, listOf, signalsPart, codesPart, routesPart, placeOf};
+ghost use Rattle.paper.specs.Accepted.{RefusedWithin, Laid};
 ghost use Rattle.entries.specs.Entries.{signalOf, SignalRead, CodeRead, RouteRead, OctetRead};
 ghost use Rattle.lists.specs.Judged.{countsOf, sectionAnswer, judgedAnswer};
+use entries::CHECK_SIZE;
+use entries::CODE_SIZE;
 use entries::Code;
+use entries::ROUTE_SIZE;
 use entries::Route;
+use entries::SIGNAL_SIZE;
 use entries::Signal;
 use refusals::Refusal;
 
@@ -24,6 +27,13 @@ const MOST_SIGNALS: usize = 256;
 const MOST_CODES: usize = 512;
 
 const MOST_ROUTES: usize = 512;
+
+// The four counts, and every entry that a list may have.
+pub const LONGEST: usize = 8
+    + CHECK_SIZE * MOST_CHECKS
+    + SIGNAL_SIZE * MOST_SIGNALS
+    + CODE_SIZE * MOST_CODES
+    + ROUTE_SIZE * MOST_ROUTES;
 
 // What an accepted list is reported with.
 pub struct Counts {
@@ -48,18 +58,18 @@ pub enum Section {
 
 // The count readable, within its limit, and its entries of `size` octets all present.
 fn open(tail: &[u8], limit: usize, size: usize) -> Section
-    requires { ⌜ size ≤ 16 ⌝ }
+    requires { ⌜ size ≤ signalSize ⌝ }
     ensures { λ r. ⌜ sectionAnswer r ≡ opening limit size (now (tail .entry)) ⌝ }
 {
     if tail.len() < 2 {
-        return Section::Refused(Refusal::ListEnds(0));
+        return Section::Refused(Refusal(Refusal::LIST_ENDS, 0));
     }
     let n = octets::read16(tail, 0);
     if limit < n {
-        return Section::Refused(Refusal::CountAbove(0));
+        return Section::Refused(Refusal(Refusal::COUNT_ABOVE, 0));
     }
     if tail.len() < 2 + size * n {
-        return Section::Refused(Refusal::ListEnds(0));
+        return Section::Refused(Refusal(Refusal::LIST_ENDS, 0));
     }
     Section::Entries(n)
 }
@@ -108,17 +118,17 @@ fn first_bad_signal(list: &[u8], checks: usize, tail: &[u8], n: usize) -> usize
     let mut k = 0;
     'signals: loop {
         if n <= k {
-            break 'signals 2 + 16 * n;
+            break 'signals 2 + SIGNAL_SIZE * n;
         }
         let s = entries::signal_at(tail, k);
         if !entries::signal_own(list, checks, kind, past, s) {
-            break 'signals 2 + 16 * k;
+            break 'signals 2 + SIGNAL_SIZE * k;
         }
         let end = s.start + s.width;
         let mut j = resumed(past, s, from);
         while entries::check_before(list, checks, j, end) {
             if s.start < entries::check_at(list, j) + 2 {
-                break 'signals 2 + 16 * k;
+                break 'signals 2 + SIGNAL_SIZE * k;
             }
             j += 1;
         }
@@ -205,17 +215,17 @@ fn from_routes(sig: &[u8], signals: usize, checks: usize, codes: usize, tail: &[
     requires { ⌜ entry signalSize signals ≤ length (now sig) ⌝ }
     ensures { λ r. ⌜ judgedAnswer r ≡ fromRoutes signals (signalAt (now (sig .entry))) checks codes (now (tail .entry)) ⌝ }
 {
-    let opened = open(tail, MOST_ROUTES, 6);
+    let opened = open(tail, MOST_ROUTES, ROUTE_SIZE);
     match opened {
         Section::Refused(f) => Judged::Refused(f),
         Section::Entries(routes) => {
-            let at = 2 + 6 * first_bad_route(sig, signals, tail, routes);
-            let end = 2 + 6 * routes;
+            let at = 2 + ROUTE_SIZE * first_bad_route(sig, signals, tail, routes);
+            let end = 2 + ROUTE_SIZE * routes;
             if at < end {
-                return Judged::Refused(Refusal::EntryBroken(at));
+                return Judged::Refused(Refusal(Refusal::ENTRY_BROKEN, at));
             }
             if end < tail.len() {
-                return Judged::Refused(Refusal::OctetsAfter(end));
+                return Judged::Refused(Refusal(Refusal::OCTETS_AFTER, end));
             }
             let version = version_of(sig, signals);
             Judged::Accepted(Counts {
@@ -234,17 +244,17 @@ fn from_codes(sig: &[u8], signals: usize, checks: usize, tail: &[u8]) -> Judged
     requires { ⌜ entry signalSize signals ≤ length (now sig) ⌝ }
     ensures { λ r. ⌜ judgedAnswer r ≡ fromCodes signals (signalAt (now (sig .entry))) checks (now (tail .entry)) ⌝ }
 {
-    let opened = open(tail, MOST_CODES, 6);
+    let opened = open(tail, MOST_CODES, CODE_SIZE);
     match opened {
         Section::Refused(f) => Judged::Refused(f),
         Section::Entries(codes) => {
-            let at = 2 + 6 * first_bad_code(sig, signals, tail, codes);
-            let end = 2 + 6 * codes;
+            let at = 2 + CODE_SIZE * first_bad_code(sig, signals, tail, codes);
+            let end = 2 + CODE_SIZE * codes;
             if at < end {
-                return Judged::Refused(Refusal::EntryBroken(at));
+                return Judged::Refused(Refusal(Refusal::ENTRY_BROKEN, at));
             }
             moved(
-                from_routes(sig, signals, checks, codes, rest(tail, 6, codes)),
+                from_routes(sig, signals, checks, codes, rest(tail, CODE_SIZE, codes)),
                 end,
             )
         }
@@ -256,17 +266,17 @@ fn from_signals(list: &[u8], checks: usize, tail: &[u8]) -> Judged
     requires { ⌜ (entry checkSize checks ≤ length (now list)) × (all (checkRule (checkAt (now list))) checks ≡ true) ⌝ }
     ensures { λ r. ⌜ judgedAnswer r ≡ fromSignals checks (checkAt (now (list .entry))) (now (tail .entry)) ⌝ }
 {
-    let opened = open(tail, MOST_SIGNALS, 16);
+    let opened = open(tail, MOST_SIGNALS, SIGNAL_SIZE);
     match opened {
         Section::Refused(f) => Judged::Refused(f),
         Section::Entries(signals) => {
             let at = first_bad_signal(list, checks, tail, signals);
-            let end = 2 + 16 * signals;
+            let end = 2 + SIGNAL_SIZE * signals;
             if at < end {
-                return Judged::Refused(Refusal::EntryBroken(at));
+                return Judged::Refused(Refusal(Refusal::ENTRY_BROKEN, at));
             }
             moved(
-                from_codes(tail, signals, checks, rest(tail, 16, signals)),
+                from_codes(tail, signals, checks, rest(tail, SIGNAL_SIZE, signals)),
                 end,
             )
         }
@@ -277,16 +287,19 @@ fn from_signals(list: &[u8], checks: usize, tail: &[u8]) -> Judged
 pub fn judge(list: &[u8]) -> Judged
     ensures { λ r. ⌜ judgedAnswer r ≡ judgedList (now (list .entry)) ⌝ }
 {
-    let opened = open(list, MOST_CHECKS, 2);
+    let opened = open(list, MOST_CHECKS, CHECK_SIZE);
     match opened {
         Section::Refused(f) => Judged::Refused(f),
         Section::Entries(checks) => {
-            let at = 2 + 2 * first_bad_check(list, checks);
-            let end = 2 + 2 * checks;
+            let at = 2 + CHECK_SIZE * first_bad_check(list, checks);
+            let end = 2 + CHECK_SIZE * checks;
             if at < end {
-                return Judged::Refused(Refusal::EntryBroken(at));
+                return Judged::Refused(Refusal(Refusal::ENTRY_BROKEN, at));
             }
-            moved(from_signals(list, checks, rest(list, 2, checks)), end)
+            moved(
+                from_signals(list, checks, rest(list, CHECK_SIZE, checks)),
+                end,
+            )
         }
     }
 }
@@ -296,7 +309,7 @@ pub fn signals_part(list: &[u8], n: Counts) -> &[u8]
     requires { ⌜ Laid (now list) (countsOf n) ⌝ }
     ensures { λ r. ⌜ now r ≡ signalsPart (now (list .entry)) (countsOf n) ⌝ }
 {
-    rest(list, 2, n.checks)
+    rest(list, CHECK_SIZE, n.checks)
 }
 
 // Inner: from its codes' count on.
@@ -304,7 +317,7 @@ pub fn codes_part(list: &[u8], n: Counts) -> &[u8]
     requires { ⌜ Laid (now list) (countsOf n) ⌝ }
     ensures { λ r. ⌜ now r ≡ codesPart (now (list .entry)) (countsOf n) ⌝ }
 {
-    rest(signals_part(list, n), 16, n.signals)
+    rest(signals_part(list, n), SIGNAL_SIZE, n.signals)
 }
 
 // Inner: from its routes' count on.
@@ -312,7 +325,7 @@ pub fn routes_part(list: &[u8], n: Counts) -> &[u8]
     requires { ⌜ Laid (now list) (countsOf n) ⌝ }
     ensures { λ r. ⌜ now r ≡ routesPart (now (list .entry)) (countsOf n) ⌝ }
 {
-    rest(codes_part(list, n), 6, n.codes)
+    rest(codes_part(list, n), CODE_SIZE, n.codes)
 }
 
 // Inner: signal k of an accepted list.

@@ -1,15 +1,16 @@
 // Marshals routed signals out of a store into a file of vehicle bus data, and shows each route.
-ghost use Prim.Native.Nat.{_<_};
-ghost use Rattle.paper.proofs.ListLaws.{Laid};
-ghost use Rattle.lists.specs.Judged.{countsOf};
-ghost use Rattle.words.specs.Ready.{Ready};
-use entries::Route;
-use entries::Signal;
+use gateway::Counts;
+use gateway::EntryOutcome;
+use gateway::Judged;
+use gateway::LONGEST;
+use gateway::Marshalled;
+use gateway::ReadOutcome;
+use gateway::Reading;
+use gateway::Route;
+use gateway::RouteOutcome;
+use gateway::STORE;
+use gateway::Signal;
 use libc::STDOUT_FILENO;
-use lists::Counts;
-use lists::Judged;
-use marshalling::Marshalled;
-use reading::Reading;
 use saying::Clock;
 
 fn help() {
@@ -44,30 +45,27 @@ fn print_route(r: usize, t: Route, s: Signal, x: Reading) {
     saying::print(words::say_reason(l, x.reason));
 }
 
-fn one_route(list: &[u8], n: Counts, store: &[u8], clock: u32, r: usize)
-    requires { ⌜ (Ready (now list) (countsOf n) (now store)) × (r < n .routes) ⌝ }
-{
-    let t = lists::route_in(list, n, r);
-    let s = lists::signal_in(list, n, t.signal);
-    let x = reading::read_at(list, n, store, clock, t.vehicle, t.signal);
+fn one_route(list: &[u8], store: &[u8], clock: u32, r: usize, t: Route) {
+    let entry = gateway::signal_entry(list, t.signal);
+    let EntryOutcome::Entry(e) = entry else {
+        return;
+    };
+    let read = gateway::read(list, store, clock, t.vehicle, t.signal);
+    let ReadOutcome::Read(x) = read else {
+        return;
+    };
+    let s = e.signal;
     print_route(r, t, s, x);
 }
 
-fn all_routes(list: &[u8], n: Counts, store: &[u8], clock: u32)
-    requires { ⌜ Ready (now list) (countsOf n) (now store) ⌝ }
-{
+fn print_routes(list: &[u8], routes: usize, store: &[u8], clock: u32) {
     let mut r = 0;
-    while r < n.routes {
-        one_route(list, n, store, clock, r);
+    while r < routes {
+        let route = gateway::route_entry(list, r);
+        if let RouteOutcome::Route(t) = route {
+            one_route(list, store, clock, r, t);
+        }
         r += 1;
-    }
-}
-
-fn print_routes(list: &[u8], n: Counts, store: &[u8], clock: u32)
-    requires { ⌜ Laid (now list) (countsOf n) ⌝ }
-{
-    if store::is_store(store) {
-        all_routes(list, n, store, clock);
     }
 }
 
@@ -88,10 +86,8 @@ fn marshal_bus(
     clock: u32,
     routes: bool,
     bus: &mut [u8],
-)
-    requires { ⌜ Laid (now list) (countsOf n) ⌝ }
-{
-    let outcome = marshalling::marshal(list, store, clock, bus);
+) {
+    let outcome = gateway::marshal(list, store, clock, bus);
     match outcome {
         Marshalled::Refused(f) => {
             files::drop_new(4, fd);
@@ -100,7 +96,7 @@ fn marshal_bus(
         Marshalled::Live(live) => {
             if files::commit(4, b"DATA", fd, bus) {
                 if routes {
-                    print_routes(list, n, store, clock);
+                    print_routes(list, n.routes, store, clock);
                 }
                 print_count(n, live);
             }
@@ -109,9 +105,7 @@ fn marshal_bus(
 }
 
 // The data are read and replaced while DATA.new, open as fd, keeps other programs away.
-fn marshal_into(fd: i32, list: &[u8], n: Counts, store: &[u8], clock: u32, routes: bool)
-    requires { ⌜ Laid (now list) (countsOf n) ⌝ }
-{
+fn marshal_into(fd: i32, list: &[u8], n: Counts, store: &[u8], clock: u32, routes: bool) {
     let mut bus = [0u8; 4097];
     let d = files::read(4, b"DATA", &mut bus);
     if !d.ok {
@@ -127,9 +121,7 @@ fn marshal_into(fd: i32, list: &[u8], n: Counts, store: &[u8], clock: u32, route
     marshal_bus(fd, list, n, store, clock, routes, &mut bus[..k]);
 }
 
-fn marshal_under(list: &[u8], n: Counts, store: &[u8], clock: u32, routes: bool)
-    requires { ⌜ Laid (now list) (countsOf n) ⌝ }
-{
+fn marshal_under(list: &[u8], n: Counts, store: &[u8], clock: u32, routes: bool) {
     let fd = files::begin(4, b"DATA");
     if fd >= 0 {
         marshal_into(fd, list, n, store, clock, routes);
@@ -137,7 +129,7 @@ fn marshal_under(list: &[u8], n: Counts, store: &[u8], clock: u32, routes: bool)
 }
 
 fn judge(list: &[u8], store: &[u8], clock: u32, routes: bool) {
-    let judged = lists::judge(list);
+    let judged = gateway::judge(list);
     match judged {
         Judged::Refused(f) => words::print_refused(f),
         Judged::Accepted(n) => marshal_under(list, n, store, clock, routes),
@@ -145,12 +137,12 @@ fn judge(list: &[u8], store: &[u8], clock: u32, routes: bool) {
 }
 
 fn read_files(clock: u32, routes: bool) {
-    let mut list = [0u8; 10377];
+    let mut list = [0u8; LONGEST + 1];
     let l = files::read(1, b"LIST", &mut list);
     if !l.ok {
         return;
     }
-    let mut store = [0u8; 8380];
+    let mut store = [0u8; STORE + 1];
     let s = files::read(2, b"STORE", &mut store);
     if !s.ok {
         return;

@@ -18,7 +18,8 @@ use Rattle.paper.specs.Reading.{readingAt}
 use Rattle.paper.specs.Marshalling as paper
 use Rattle.paper.proofs.AnswerLaws.{gives-one, one-answer}
 use Rattle.paper.proofs.FirstLaws.{some-true, some-false}
-use Rattle.paper.proofs.ListLaws.{Kept, routes-apart}
+use Rattle.paper.specs.Accepted.{Kept}
+use Rattle.paper.proofs.ListLaws.{routes-apart}
 use Rattle.paper.proofs.MarshallingLaws as laws
 use Rattle.known.specs.Known.{Starts}
 use Rattle.refusals.specs.declared.Refusal.{Refusal}
@@ -102,7 +103,7 @@ delivered-gives (refused n at) old k new d = let e = d .lives in let z : _≡_ {
 
 module _ (xs store : List ℕ) (now : ℕ) (bus : List ℕ) (k : ℕ) (new : List ℕ) (d : Delivered (paper.marshalling xs store now bus) bus (Live k) new) where
   -- the list was accepted, the store is whole, the data are long enough, and the count and the data afterwards are the definition's
-  pub marshal-tells : laws.Marshals xs store now bus (record { octets = new; lives = k })
+  pub marshal-tells : paper.Marshals xs store now bus (record { octets = new; lives = k })
   marshal-tells = laws.marshals xs store now bus _ (delivered-gives _ bus k new d)
 
   module _ (n : Counts) (accepted : judge xs ≡ gives n) where

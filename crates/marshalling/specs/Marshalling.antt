@@ -11,7 +11,7 @@ use Rattle.paper.specs.First.{some, count}
 use Rattle.paper.specs.SignalList.{SignalList, Counts, routeEnd, listOf}
 use Rattle.paper.specs.Store.{storeOctets, isStore}
 use Rattle.paper.specs.Marshalling as paper
-use Rattle.paper.proofs.ListLaws.{Laid}
+use Rattle.paper.specs.Accepted.{Laid}
 use Rattle.refusals.specs.Refusal.{refusalOf}
 use Rattle.known.specs.Known.{Starts}
 use Rattle.marshalling.specs.declared.Marshalled.{Marshalled}

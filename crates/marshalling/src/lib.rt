@@ -7,7 +7,7 @@ ghost use lib.Dec.{leb};
 ghost use Rattle.paper.specs.First.{some};
 ghost use Rattle.paper.specs.SignalList.{listOf};
 ghost use Rattle.paper.specs.Marshalling.{marshalling};
-ghost use Rattle.paper.proofs.ListLaws.{Laid};
+ghost use Rattle.paper.specs.Accepted.{Laid};
 ghost use Rattle.lists.specs.Judged.{countsOf};
 ghost use Rattle.known.specs.Known.{Entries};
 ghost use Rattle.marshalling.specs.Marshalling.{isShort, Indexed, Served, RouteWritten, RoutesWritten, Delivered, marshallingUnder};
@@ -127,10 +127,10 @@ fn marshal_under(list: &[u8], n: Counts, store: &[u8], clock: u32, bus: &mut [u8
     ensures { λ m. ⌜ Delivered (marshallingUnder (listOf (now (list .entry)) (countsOf n)) (now (store .entry)) clock (now (bus .entry))) (now (bus .entry)) m (now (bus .exit)) ⌝ }
 {
     if !store::is_store(store) {
-        return Marshalled::Refused(Refusal::StoreLength);
+        return Marshalled::Refused(Refusal::STORE_LENGTH);
     }
     if some_short(list, n, bus.len()) {
-        return Marshalled::Refused(Refusal::DataShort);
+        return Marshalled::Refused(Refusal::DATA_SHORT);
     }
     let mut first = [0u16; 257];
     index(list, n, &mut first);

@@ -12,9 +12,9 @@ use lib.Arith.{digits-lt}
 use lib.Bits.{bitAnd, and-mask, and-high}
 use lib.Pow.{pow-pos, pow-add, pow-mono, high, low, split, shr-shr, shr-lt, shl-shr, shl-exact, ones-lt, ones-split, high-ones}
 use lib.Pow as pow
-use Rattle.paper.specs.Octets.{bit, field, put, number, octetsOf, over, Octets}
+use Rattle.paper.specs.Octets.{bit, field, put, number, octetsOf, over, Octets, fieldOf, withField}
 use Rattle.octets.specs.Fields.{FieldRead, merged}
-use Rattle.paper.proofs.FieldLaws.{fieldOf, withField, field-lt, field-split, field-octet, field-bits, put-split, put-octet, put-unique}
+use Rattle.paper.proofs.FieldLaws.{field-lt, field-split, field-octet, field-bits, put-split, put-octet, put-unique}
 use Rattle.paper.proofs.NumberLaws.{number-lt, number-field, number-octetsOf, octetsOf-number, length-octetsOf, octets-octetsOf, length-over, octets-over, over-other, number-over}
 
 -- the b bits above, the w bits and the k bits below of a number of 64 bits

@@ -2,8 +2,7 @@
 ghost use mathlib.Core.Path.{_≡_};
 ghost use Prim.Native.Nat.{_+_, _*_, _%_, _^_, _<_, _≤_, min};
 ghost use lib.ListN.{length, replicate};
-ghost use Rattle.paper.specs.Octets.{field, put, octetsOf, over};
-ghost use Rattle.paper.proofs.FieldLaws.{fieldOf, withField};
+ghost use Rattle.paper.specs.Octets.{field, put, octetsOf, over, fieldOf, withField};
 ghost use Rattle.octets.specs.Fields.{Within, FieldRead, NumberRead, merged};
 
 fn least(a: usize, b: usize) -> usize

@@ -4,6 +4,7 @@ use native.Mathlib.Omega.{arith}
 use mathlib.Core.Path.{_≡_, refl, sym, ap, _∙_}
 use mathlib.Core.Bool.{Bool, true, false}
 use Rattle.paper.specs.Answer.{Answer, gives, refused, refuseIf, andThen, shift}
+use Rattle.paper.specs.SignalList.{OfTwo, ofBoth, ofTwo}
 
 module _ {A : Type 0} where
   -- given past a refusal's test: the test failed, and the rest gives
@@ -33,7 +34,8 @@ module _ {A : Type 0} where
   not-shifted b (refused n at) a e = let z : _≡_ {A = ℕ} 0 1 = cc in absurd (omega arith)
 
   -- refused by a number past another refusal's test
-  pub not-here : (b : Bool) (n at : ℕ) (rest : Answer A) (n′ at′ : ℕ) → (n ≡ n′ → ⊥) → refuseIf b n at rest ≡ refused n′ at′ → (b ≡ false) × (rest ≡ refused n′ at′)
+  pub not-here : (b : Bool) (n at : ℕ) (rest : Answer A) (n′ at′ : ℕ) → (n ≡ n′ → ⊥) → refuseIf b n at rest ≡ refused n′ at′
+      → (b ≡ false) × (rest ≡ refused n′ at′)
   unfolding refuseIf
   not-here true n at rest n′ at′ h e = absurd (h (cc))
   not-here false n at rest n′ at′ h e = (refl, e)
@@ -68,7 +70,8 @@ pub stays-shifted : {A : Type 0} (b n at : ℕ) (x : Answer A) → refused n at 
 stays-shifted b n at x e = rw (← e)
 
 -- a test before the whole is a test before its first part
-pub past : {A B : Type 0} (b : Bool) (n at : ℕ) (x : Answer A) (k : A → Answer B) (y : Answer B) → y ≡ andThen x k → refuseIf b n at y ≡ andThen (refuseIf b n at x) k
+pub past : {A B : Type 0} (b : Bool) (n at : ℕ) (x : Answer A) (k : A → Answer B) (y : Answer B) → y ≡ andThen x k
+    → refuseIf b n at y ≡ andThen (refuseIf b n at x) k
 unfolding refuseIf
 past true n at x k y e = refl
 past false n at x k y e = e
@@ -77,6 +80,20 @@ past false n at x k y e = e
 pub same-then : {A B : Type 0} (x : Answer A) (j k : A → Answer B) → ((a : A) → j a ≡ k a) → andThen x j ≡ andThen x k
 same-then (gives a) j k e = e a
 same-then (refused n at) j k e = refl
+
+-- of two lists: the refusal of the one that is judged, or what goes on from it
+module _ {A B : Type 0} (x : Answer A) (refusal : ℕ → ℕ → OfTwo B) (next : A → OfTwo B) where
+  pub by-refusal : (n at : ℕ) → refused n at ≡ x → refusal n at ≡ ofTwo x refusal next
+  by-refusal n at e = rw (← e)
+
+  pub by-given : (a : A) (y : OfTwo B) → gives a ≡ x → y ≡ next a → y ≡ ofTwo x refusal next
+  by-given a y e q = rw (← e) q
+
+-- and back: what is given of both tells that the one that is judged was accepted
+pub by-both : {A B : Type 0} (x : Answer A) (refusal : ℕ → ℕ → OfTwo B) (next : A → OfTwo B) (b : B) → ((n at : ℕ) → refusal n at ≡ ofBoth b → ⊥)
+    → ofTwo x refusal next ≡ ofBoth b → (a : A) × ((x ≡ gives a) × (next a ≡ ofBoth b))
+by-both (gives a) refusal next b none e = (a, (refl, e))
+by-both (refused n at) refusal next b none e = absurd (none n at e)
 
 -- a contract `say r ≡ a` settles the answer r, where r can be told from what it says: any two answers that it admits are equal
 pub one-answer : {R A : Type 0} (say : R → A) (told : A → R) → ((r : R) → told (say r) ≡ r) → (a : A) (v w : R) → say v ≡ a → say w ≡ a → v ≡ w

@@ -11,18 +11,19 @@ use native.Mathlib.Decide.{ℕ-discrete}
 use lib.ListN.{length, getD, replicate, length-replicate}
 use lib.Dec.{eqb, lit<}
 use borrow.Author.Tests.{ltb-true, ltb-false, leb-true, eqb-true, eqb-false, eq-eqb, lt-ltb, le-ltb, le-leb, not-false}
-use Rattle.paper.specs.Octets.{octet, bit, field, puts, Octets}
+use Rattle.paper.specs.Octets.{octet, bit, field, puts, Octets, fieldOf}
 use Rattle.paper.specs.Answer.{gives, refuseIf}
 use Rattle.paper.specs.First.{firstBad}
 use Rattle.paper.specs.Telegrams.{applicationType, telegramType, isType, typeLength, carries, markWidth}
-use Rattle.paper.specs.SignalList.{SignalList, Counts, fieldEnd, greatestSince, judge, listOf}
-use Rattle.paper.specs.Extends.{version, knows}
-use Rattle.paper.specs.Composing.{writesSignal, writesCheck, headed, signalPut, checkPut, composed, markFits, valueFits, composing}
+use Rattle.paper.specs.SignalList.{SignalList, Counts, fieldEnd, greatestSince, judge, listOf, version}
+use Rattle.paper.specs.Composing.{writesCheck, headed, signalPut, checkPut, composed, markFits, valueFits, composing, Fitting, Composes}
 use Rattle.paper.proofs.AnswerLaws.{not-refused, and-then, gives-one}
 use Rattle.paper.proofs.FirstLaws.{first-passed, first-none, greatest-least, greatest-at, greatest-most}
-use Rattle.paper.proofs.FieldLaws.{fieldOf, field-octet, octet-field}
+use Rattle.paper.proofs.FieldLaws.{field-octet, octet-field}
 use Rattle.paper.proofs.PutsLaws.{Disjoint, length-puts, octets-puts, bit-puts-other, field-puts-other, field-puts}
-use Rattle.paper.proofs.ListLaws.{both, either, other, Kept, fields-apart, checks-apart}
+use Rattle.bools.proofs.Tests.{both, either, other}
+use Rattle.paper.specs.Accepted.{Kept}
+use Rattle.paper.proofs.ListLaws.{fields-apart, checks-apart}
 use Rattle.paper.proofs.StoreLaws.{type-least}
 
 -- ---- versions
@@ -41,20 +42,6 @@ module _ (l : SignalList) where
   version-octet h = greatest-most 1 (λ k. l .signal k .since) (l .signals) 255 (omega arith) (λ k lt. h .signal k lt .octet)
 
 -- ---- what composing tests
-
-pub record Fitting (l : SignalList) (type : ℕ) (values marks : List ℕ) : Type 0 where
-  pub typed : isType type ≡ true
-  pub valued : length values ≡ l .signals
-  pub marked : length marks ≡ l .checks
-  pub value : (k : ℕ) → k < l .signals → writesSignal l type k ≡ true → (getD values k 0 < 2 ^ l .signal k .width) × (knows l k (getD values k 0) ≡ true)
-  pub mark : (j : ℕ) → j < l .checks → writesCheck l type j ≡ true → getD marks j 0 < 4
-
--- what a telegram that was composed tells: the list was accepted, the tests passed, and it is what the definition says
-pub record Composes (xs : List ℕ) (type : ℕ) (values marks telegram : List ℕ) : Type 0 where
-  pub counts : Counts
-  pub accepted : judge xs ≡ gives counts
-  pub fitting : Fitting (listOf xs counts) type values marks
-  pub is : composed (listOf xs counts) type values marks ≡ telegram
 
 pub composes : (xs : List ℕ) (type : ℕ) (values marks : List ℕ) (room : ℕ) (telegram : List ℕ) → composing xs type values marks room ≡ gives telegram
     → Composes xs type values marks telegram
@@ -146,7 +133,8 @@ type-bits type = by (eqb type 3) refl
 -- what a type carries of an accepted list
 module _ (l : SignalList) (h : Kept l) (type : ℕ) where
   -- a carried signal lies within the telegram, past its head
-  pub carried-within : (k : ℕ) → k < l .signals → carries type (l .signal k .type) ≡ true → (16 ≤ l .signal k .start) × (fieldEnd (l .signal k) ≤ 8 * typeLength type)
+  pub carried-within : (k : ℕ) → k < l .signals → carries type (l .signal k .type) ≡ true
+      → (16 ≤ l .signal k .start) × (fieldEnd (l .signal k) ≤ 8 * typeLength type)
   carried-within k lt w = by (ℕ-discrete (l .signal k .type) 0) (type-bits type)
     where
       by : Dec (l .signal k .type ≡ 0) → ((type ≡ 3) × (typeLength type ≡ 40)) ⊎ ((type ≡ 3 → ⊥) × (typeLength type ≡ 128))
@@ -158,11 +146,13 @@ module _ (l : SignalList) (h : Kept l) (type : ℕ) where
           (omega (arith, p .0), ⊎-elim (λ q. omega (arith, q .0, h .signal k lt .typed)) (λ q. omega (arith, q .1, p .1)) b)
 
   -- two signals that a type carries don't overlap
-  pub carried-apart : (i j : ℕ) → i < l .signals → j < l .signals → carries type (l .signal i .type) ≡ true → carries type (l .signal j .type) ≡ true → (i ≡ j → ⊥)
+  pub carried-apart : (i j : ℕ) → i < l .signals → j < l .signals → carries type (l .signal i .type) ≡ true → carries type (l .signal j .type) ≡ true
+      → (i ≡ j → ⊥)
       → Disjoint (l .signal i .start) (l .signal i .width) (l .signal j .start) (l .signal j .width)
   carried-apart i j hi hj wi wj ne = by (ℕ-discrete (l .signal i .type) (l .signal j .type)) (ℕ-discrete (l .signal i .type) 0)
     where
-      by : Dec (l .signal i .type ≡ l .signal j .type) → Dec (l .signal i .type ≡ 0) → Disjoint (l .signal i .start) (l .signal i .width) (l .signal j .start) (l .signal j .width)
+      by : Dec (l .signal i .type ≡ l .signal j .type) → Dec (l .signal i .type ≡ 0)
+          → Disjoint (l .signal i .start) (l .signal i .width) (l .signal j .start) (l .signal j .width)
       by (yes e) z = fields-apart l h i j hi hj e ne
       by (no n) (yes z) = inl (omega (arith, h .signal i hi .placed .common z .1, h .signal j hj .placed .own (λ y. n (z ∙ sym y)) .0))
       by (no n) (no z) =
@@ -171,7 +161,8 @@ module _ (l : SignalList) (h : Kept l) (type : ℕ) where
           inr (omega (arith, h .signal j hj .placed .common sj .1, h .signal i hi .placed .own z .0))
 
   -- a check that a carried signal names is written
-  pub named-written : (k : ℕ) → k < l .signals → carries type (l .signal k .type) ≡ true → 0 < l .signal k .check → writesCheck l type (l .signal k .check - 1) ≡ true
+  pub named-written : (k : ℕ) → k < l .signals → carries type (l .signal k .type) ≡ true → 0 < l .signal k .check
+      → writesCheck l type (l .signal k .check - 1) ≡ true
   named-written k lt w c =
       let n = h .signal k lt .named in
       let q = h .check (l .signal k .check - 1) (omega (arith, n .exists)) in

@@ -14,20 +14,21 @@ use Rattle.paper.specs.Octets.{octet, bit, field}
 use Rattle.paper.specs.Answer.{gives, refuseIf}
 use Rattle.paper.specs.First.{some, firstOf}
 use Rattle.paper.specs.Telegrams.{applicationType, telegramType, versionOf, typeLength, carries, error, ok, forced, undefined, markWidth}
-use Rattle.paper.specs.SignalList.{Signal, SignalList, Counts, judge, listOf}
-use Rattle.paper.specs.Extends.{version, knows, placeOf, same}
+use Rattle.paper.specs.SignalList.{Signal, SignalList, Counts, judge, listOf, version, knows, placeOf}
+use Rattle.paper.specs.Extends.{same, Agree, Related}
 use Rattle.paper.specs.Store.{vehicles, storeOctets, Slot, slotOf, taken, taking, age, inTime}
 use Rattle.paper.specs.Reading.{Reading, heard, markOf, codeOf, hindrances, reasonOf, readingOf, readingAt, reading}
-use Rattle.paper.specs.Composing.{composed, composing}
+use Rattle.paper.specs.Composing.{composed, composing, Fitting, Composes}
 use Rattle.paper.specs.Demands.{Standing, givenMark, delivered, withheld, Shared, Named, live-ok, live-forced, not-carried, newer, mark-error, mark-undefined, code-unknown}
 use Rattle.paper.proofs.AnswerLaws.{goes-on, gives-one}
 use Rattle.paper.proofs.FirstLaws.{some-none, some-at}
 use Rattle.paper.proofs.FieldLaws.{field-ext}
-use Rattle.paper.proofs.ListLaws.{Kept, kept}
+use Rattle.paper.specs.Accepted.{Kept}
+use Rattle.paper.proofs.ListLaws.{kept}
 use Rattle.paper.proofs.StoreLaws.{type-least, takes-it, padded, stood, standing-slot, standing-whole}
 use Rattle.paper.proofs.ReadingLaws.{mark-lt}
-use Rattle.paper.proofs.ExtendsLaws.{Agree, agree-itself, Related, agree, only-newer, same-of}
-use Rattle.paper.proofs.ComposingLaws.{version-least, version-at, Fitting, Composes, composes, carried-within, named-written, length-composed, composed-application, composed-type, composed-version, composed-signal, composed-check}
+use Rattle.paper.proofs.ExtendsLaws.{agree-itself, agree, only-newer, same-of}
+use Rattle.paper.proofs.ComposingLaws.{version-least, version-at, composes, carried-within, named-written, length-composed, composed-application, composed-type, composed-version, composed-signal, composed-check}
 
 -- what stands behind makes no difference to a field
 field-front : (l m : List ℕ) (s w : ℕ) → s + w ≤ 8 * length l → field (l ++ m) s w ≡ field l s w
@@ -215,7 +216,8 @@ module _ (xs : List ℕ) (type : ℕ) (values marks : List ℕ) (room : ℕ) (te
 
   module _ (ys : List ℕ) (n : Counts) (reader : judge ys ≡ gives n) (v stamp now j : ℕ) (store : List ℕ) (hj : j < n .signals)
       (stands : Standing v stamp now (listOf ys n .signal j .limit) telegram store) where
-    arrived : (given : Reading) → readingOf (listOf ys n) (record { heard = 1; stamp = stamp; telegram = padded (composed (listOf xs m) type values marks) }) now j ≡ given
+    arrived : (given : Reading)
+        → readingOf (listOf ys n) (record { heard = 1; stamp = stamp; telegram = padded (composed (listOf xs m) type values marks) }) now j ≡ given
         → reading ys store now v j ≡ gives given
     arrived given e =
         let t = stood v stamp now _ telegram store stands in
@@ -242,7 +244,8 @@ module _ (xs : List ℕ) (type : ℕ) (values marks : List ℕ) (room : ℕ) (te
         let w = listOf xs m in
         let r = listOf ys n in
         arrived _
-        (sent-withheld w (kept xs m writer) type values marks fitted r stamp now j (stands .within) (⊎-elim (λ a. inl a) (λ a. inr (only-newer w r related j hj a)) d))
+        (sent-withheld w (kept xs m writer) type values marks fitted r stamp now j (stands .within)
+        (⊎-elim (λ a. inl a) (λ a. inr (only-newer w r related j hj a)) d))
 
     -- DEMAND 3, whole: of every signal of its list the reader is given one of the readings that the demand names. Never another value
     pub never-another : Related (listOf xs m) (listOf ys n)
@@ -271,7 +274,8 @@ module _ (xs : List ℕ) (type : ℕ) (values marks : List ℕ) (room : ℕ) (te
             let i = t .0 in
             let p = same-of (w .signal i) (r .signal j) (t .1 .1) in
             let a = agree w r (kept xs m writer) (kept ys n reader) related i j (t .1 .0) hj (p .0) (p .1) in
-            let small = rw (sent-mark w (kept xs m writer) type values marks fitted r stamp now j (stands .within) i (t .1 .0) a e (kept ys n reader) hj) at (mark-lt r (r .signal j) (padded (composed w type values marks))) in (
+            let mark = sent-mark w (kept xs m writer) type values marks fitted r stamp now j (stands .within) i (t .1 .0) a e (kept ys n reader) hj in
+            let small = rw mark at (mark-lt r (r .signal j) (padded (composed w type values marks))) in (
               delivered r j (givenMark marks (w .signal i)) (getD values i 0),
               (
                 delivered-named w r type values marks i j (record { there = t .1 .0; one = t .1 .1; carried = e }) small,

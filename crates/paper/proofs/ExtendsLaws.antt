@@ -8,19 +8,13 @@ use native.Mathlib.Omega.{arith}
 use borrow.Author.Tests.{ltb-true, eqb-true, eq-eqb, lt-ltb}
 use Rattle.paper.specs.Answer.{Answer, gives, refused}
 use Rattle.paper.specs.First.{some}
-use Rattle.paper.specs.SignalList.{Signal, SignalList, Counts, greatestSince, judge, listOf}
-use Rattle.paper.specs.Extends.{version, knows, placeOf, same, codesKept, keeps, stands, newer, extends, Extending, extending, firstRefused, secondRefused, extendingBy, extendsLists}
-use Rattle.paper.proofs.AnswerLaws.{gives-one}
+use Rattle.paper.specs.SignalList.{Signal, SignalList, Counts, greatestSince, judge, listOf, version, knows, OfTwo, ofBoth, firstRefused, secondRefused, ofTwo}
+use Rattle.paper.specs.Extends.{same, codesKept, keeps, stands, newer, extends, extendsLists, Agree, Keeps, Extended, Related}
+use Rattle.paper.proofs.AnswerLaws.{gives-one, by-both}
 use Rattle.paper.proofs.FirstLaws.{all-at, all-true, some-at, some-true, greatest-least, greatest-at, greatest-most}
-use Rattle.paper.proofs.ListLaws.{both, either, other, Kept, one-place}
-
--- signal i of one list and signal j of another are the same in all that must not change
-pub record Agree (a b : SignalList) (i j : ℕ) : Type 0 where
-  pub type : a .signal i .type ≡ b .signal j .type
-  pub start : a .signal i .start ≡ b .signal j .start
-  pub width : a .signal i .width ≡ b .signal j .width
-  pub place : placeOf a (a .signal i) ≡ placeOf b (b .signal j)
-  pub since : a .signal i .since ≡ b .signal j .since
+use Rattle.bools.proofs.Tests.{both, either, other}
+use Rattle.paper.specs.Accepted.{Kept}
+use Rattle.paper.proofs.ListLaws.{one-place}
 
 pub agree-itself : (a : SignalList) (i : ℕ) → Agree a a i i
 agree-itself a i = record { type = refl; start = refl; width = refl; place = refl; since = refl }
@@ -33,11 +27,6 @@ same-of s t e = let p = both _ _ e in (eqb-true _ _ (p .0), eqb-true _ _ (p .1))
 
 pub same-true : (s t : Signal) → s .type ≡ t .type → s .start ≡ t .start → same s t ≡ true
 same-true s t e f = simp (eq-eqb _ _ e, eq-eqb _ _ f)
-
--- what it says that a signal of A is kept in B
-pub record Keeps (a b : SignalList) (i j : ℕ) : Type 0 where
-  pub agrees : Agree a b i j
-  pub codes : (c : ℕ) → c < 2 ^ a .signal i .width → knows a i c ≡ true → knows b j c ≡ true
 
 pub keeps-of : (a b : SignalList) (i j : ℕ) → keeps a b i j ≡ true → Keeps a b i j
 unfolding keeps codesKept
@@ -63,25 +52,18 @@ keeps-true a b i j h =
     by true y k = k refl
     by false y k = refl
 
--- "each signal of A stands in B"; "each signal only in B has a since-version above A's version"
-pub record Extended (a b : SignalList) : Type 0 where
-  pub stands-in : (i : ℕ) → i < a .signals → (j : ℕ) × ((j < b .signals) × Keeps a b i j)
-  pub newer-than : (j : ℕ) → j < b .signals → ((i : ℕ) × ((i < a .signals) × (same (a .signal i) (b .signal j) ≡ true))) ⊎ (version a < b .signal j .since)
-
 pub extended : (a b : SignalList) → extends a b ≡ true → Extended a b
 unfolding extends stands newer
 extended a b e =
     let p = both _ _ e in
     record {
-      stands-in = λ i lt. let w = some-at (keeps a b i) (b .signals) (all-at (stands a b) (a .signals) (p .0) i lt) in (w .0, (w .1 .0, keeps-of a b i (w .0) (w .1 .1)));
+      stands-in = λ i lt.
+          let w = some-at (keeps a b i) (b .signals) (all-at (stands a b) (a .signals) (p .0) i lt) in
+          (w .0, (w .1 .0, keeps-of a b i (w .0) (w .1 .1)));
       newer-than = λ j lt.
           ⊎-elim (λ s. inl (some-at (λ i. same (a .signal i) (b .signal j)) (a .signals) s)) (λ s. inr (ltb-true _ _ s))
           (either _ _ (all-at (newer a b) (b .signals) (p .1) j lt));
     }
-
--- one of two lists extends the other
-abbrev pub Related : SignalList → SignalList → Type 0
-Related a b = (extends a b ≡ true) ⊎ (extends b a ≡ true)
 
 -- then a signal that both have, by type and start, is the same in all that must not change, whichever extends the other
 pub agree : (a b : SignalList) → Kept a → Kept b → Related a b → (i j : ℕ) → i < a .signals → j < b .signals
@@ -108,11 +90,6 @@ only-newer a b (inr e) j hj none =
 
 -- ---- what the answer of a call on two lists tells
 
-by-yes : {A : Type 0} (x : Answer A) (refusal : ℕ → ℕ → Extending) (next : A → Extending) → ((n at : ℕ) → refusal n at ≡ extending true → ⊥)
-    → extendingBy x refusal next ≡ extending true → (a : A) × ((x ≡ gives a) × (next a ≡ extending true))
-by-yes (gives a) refusal next none e = (a, (refl, e))
-by-yes (refused n at) refusal next none e = absurd (none n at e)
-
 -- a yes: both lists are accepted, and the second extends the first
 pub record ExtendsYes (xs ys : List ℕ) : Type 0 where
   pub first : Counts
@@ -121,15 +98,15 @@ pub record ExtendsYes (xs ys : List ℕ) : Type 0 where
   pub second-accepted : judge ys ≡ gives second
   pub yes : extends (listOf xs first) (listOf ys second) ≡ true
 
-pub extends-yes : (xs ys : List ℕ) → extendsLists xs ys ≡ extending true → ExtendsYes xs ys
+pub extends-yes : (xs ys : List ℕ) → extendsLists xs ys ≡ ofBoth true → ExtendsYes xs ys
 unfolding extendsLists
 extends-yes xs ys e =
-    let a = by-yes (judge xs) firstRefused _ (λ n at q. let z : _≡_ {A = ℕ} 0 1 = cc in omega arith) e in
-    let b = by-yes (judge ys) secondRefused _ (λ n at q. let z : _≡_ {A = ℕ} 0 1 = cc in omega arith) (a .1 .1) in
+    let a = by-both (judge xs) firstRefused _ true (λ n at q. let z : _≡_ {A = ℕ} 0 1 = cc in omega arith) e in
+    let b = by-both (judge ys) secondRefused _ true (λ n at q. let z : _≡_ {A = ℕ} 0 1 = cc in omega arith) (a .1 .1) in
     record { first = a .0; second = b .0; first-accepted = a .1 .0; second-accepted = b .1 .0; yes = cc (b .1 .1) }
 
 -- so whichever of the two writes and whichever reads, they are related
-pub yes-related : (xs ys : List ℕ) → extendsLists xs ys ≡ extending true → (m n : Counts) → judge xs ≡ gives m → judge ys ≡ gives n
+pub yes-related : (xs ys : List ℕ) → extendsLists xs ys ≡ ofBoth true → (m n : Counts) → judge xs ≡ gives m → judge ys ≡ gives n
     → (Related (listOf xs m) (listOf ys n)) × (Related (listOf ys n) (listOf xs m))
 yes-related xs ys e m n first second =
     let h = extends-yes xs ys e in
@@ -144,7 +121,9 @@ yes-related xs ys e m n first second =
 pub extends-true : (a b : SignalList) → Extended a b → extends a b ≡ true
 unfolding extends stands newer
 extends-true a b h =
-    simp (all-true (stands a b) (a .signals) (λ i lt. let w = h .stands-in i lt in some-true (keeps a b i) (b .signals) (w .0) (w .1 .0) (keeps-true a b i (w .0) (w .1 .1))))
+    simp (all-true (stands a b) (a .signals) (λ i lt.
+    let w = h .stands-in i lt in
+    some-true (keeps a b i) (b .signals) (w .0) (w .1 .0) (keeps-true a b i (w .0) (w .1 .1))))
     (all-true (newer a b) (b .signals) (λ j lt.
     ⊎-elim (λ w. simp (some-true (λ i. same (a .signal i) (b .signal j)) (a .signals) (w .0) (w .1 .0) (w .1 .1)))
     (λ v. simp (lt-ltb (version a) (b .signal j .since) v) (or-true (some (λ i. same (a .signal i) (b .signal j)) (a .signals)))) (h .newer-than j lt)))

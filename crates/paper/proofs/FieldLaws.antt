@@ -11,14 +11,7 @@ use lib.Seq.{ext-getD, set-out, set-set, set-getD, getD-set-same, getD-set-other
 use lib.Arith.{digits-lt, mod-mul}
 use lib.Dec.{lit<}
 use lib.Pow.{pow-pos, pow-add, high, low, split, shr-shr, shr-lt, mod-mod-pow}
-use Rattle.paper.specs.Octets.{bit, field, withBit, setBit, put, Octets}
-
--- ---- the same of one octet, for the code's loops: the n bits of x from bit b, and x with the low n bits of v there; b + n is at most 8
-unfoldable pub fieldOf : ℕ → ℕ → ℕ → ℕ
-fieldOf x b n = x / 2 ^ (8 - (b + n)) % 2 ^ n
-
-unfoldable pub withField : ℕ → ℕ → ℕ → ℕ → ℕ
-withField x b n v = (x / 2 ^ (8 - b) * 2 ^ n + v % 2 ^ n) * 2 ^ (8 - (b + n)) + x % 2 ^ (8 - (b + n))
+use Rattle.paper.specs.Octets.{bit, field, withBit, setBit, put, Octets, fieldOf, withField}
 
 -- ---- digits of a number
 

@@ -1,7 +1,7 @@
 -- The laws of searching: how a loop shows what it found, and what a caller learns of the indices passed. Assumes nothing.
 use Prim.Native.Nat.{ℕ, zero, suc, _+_, _≤_, _<_, max}
 use mathlib.Core.Path.{_≡_, refl, sym, ap, _∙_}
-use mathlib.Core.Logic.{_⊎_, inl, inr}
+use mathlib.Core.Logic.{_⊎_, inl, inr, _↔_}
 use mathlib.Core.Bool.{Bool, true, false, not, cond, false≢true}
 use mathlib.Core.List.{List, [], _∷_, _++_}
 use lib.ListN.{length}
@@ -18,7 +18,7 @@ module _ (ok : ℕ → Bool) where
   stop-false : (b : Bool) (h l : ℕ) → b ≡ false → stop b h l ≡ h
   stop-false b h l e = rw e
 
-  is-from : (n i r : ℕ) → i ≤ r → r ≤ i + n → ((k : ℕ) → i ≤ k → k < r → ok k ≡ true) → (r < i + n → ok r ≡ false) → firstFrom ok n i ≡ r
+  pub is-from : (n i r : ℕ) → i ≤ r → r ≤ i + n → ((k : ℕ) → i ≤ k → k < r → ok k ≡ true) → (r < i + n → ok r ≡ false) → firstFrom ok n i ≡ r
   unfolding firstFrom
   is-from zero i r lo hi below bad = omega arith
   is-from (suc n) i r lo hi below bad =
@@ -46,6 +46,15 @@ module _ (ok : ℕ → Bool) where
   most-from (suc n) i = at (ok i) (most-from n (suc i))
     where
       at : (b : Bool) → firstFrom ok n (suc i) ≤ suc i + n → stop b i (firstFrom ok n (suc i)) ≤ i + suc n
+      at true h = omega arith
+      at false h = omega arith
+
+  pub from-least : (n i : ℕ) → i ≤ firstFrom ok n i
+  unfolding firstFrom
+  from-least zero i = omega arith
+  from-least (suc n) i = at (ok i) (from-least n (suc i))
+    where
+      at : (b : Bool) → suc i ≤ firstFrom ok n (suc i) → i ≤ stop b i (firstFrom ok n (suc i))
       at true h = omega arith
       at false h = omega arith
 
@@ -121,6 +130,23 @@ module _ (ok : ℕ → Bool) where
       let k = firstBad (λ j. not (ok j)) n in
       let h : k < n = not-all (λ j. not (ok j)) n (not-true _ e) in
       (k, (h, not-false (ok k) (first-fails (λ j. not (ok j)) n h)))
+
+-- a search for the one index at which the test passes finds it
+pub finds-exactly : (ok : ℕ → Bool) (n : ℕ) → ((i j : ℕ) → i < n → j < n → ok i ≡ true → ok j ≡ true → i ≡ j)
+    → (k : ℕ) → ((k < n) × (ok k ≡ true)) ↔ ((firstBad (λ j. not (ok j)) n ≡ k) × (k < n))
+finds-exactly ok n one k = (
+  λ h. (one r k (there h) (h .0) (passes (there h)) (h .1), h .0),
+  λ h. (h .1, rw (h .0) at (passes (rw (h .0) (h .1)))),
+)
+  where
+    r : ℕ
+    r = firstBad (λ j. not (ok j)) n
+
+    passes : r < n → ok r ≡ true
+    passes lt = not-false _ (first-fails (λ j. not (ok j)) n lt)
+
+    there : (k < n) × (ok k ≡ true) → r < n
+    there h = not-all (λ j. not (ok j)) n (all-false (λ j. not (ok j)) n k (h .0) (ap not (h .1)))
 
 -- ---- the first of two runs of tests
 

@@ -2,6 +2,8 @@ pub mod AnswerLaws
 pub mod FieldLaws
 pub mod FirstLaws
 pub mod LoopLaws
+pub mod PassingLaws
+pub mod SearchLaws
 pub mod NumberLaws
 pub mod PutsLaws
 pub mod ListLaws
@@ -10,4 +12,5 @@ pub mod ReadingLaws
 pub mod MarshallingLaws
 pub mod ComposingLaws
 pub mod ExtendsLaws
+pub mod PairLaws
 pub mod Demands

@@ -1,61 +1,26 @@
 -- What an accepted list keeps: one law per section, in numbers and orders, that what keeps it is accepted, and what follows for two
 -- entries. Assumes nothing.
-use Prim.Native.Nat.{ℕ, zero, suc, _+_, _-_, _*_, _%_, _^_, _≤_, _<_, zero-le}
+use Prim.Native.Nat.{ℕ, zero, suc, _+_, _-_, _*_, _≤_, _<_, zero-le}
 use mathlib.Core.Path.{_≡_, refl, sym, ap}
 use mathlib.Core.Logic.{_⊎_, inl, inr, ⊎-elim}
-use mathlib.Core.Bool.{Bool, true, false, not, _&&_, _||_, false≢true}
+use mathlib.Core.Bool.{Bool, true, false, not, _&&_, _||_}
 use mathlib.Core.List.{List}
 use native.Mathlib.Nat.{lt-irrefl, le-refl, le-of-lt, mul-le-mul-left, add-zero, add-suc}
 use native.Mathlib.Decide.{decLt, ℕ-discrete}
 use native.Mathlib.Omega.{arith}
 use lib.ListN.{length, length-drop}
 use lib.Dec.{ltb, leb, eqb}
-use borrow.Author.Tests.{ltb-true, ltb-false, leb-true, eqb-true, eqb-false, le-ltb, ne-eqb, not-true, not-false}
+use borrow.Author.Tests.{ltb-true, ltb-false, leb-true, eqb-true, eqb-false, le-ltb, ne-eqb, not-true}
 use Rattle.paper.specs.Octets.{number}
 use Rattle.paper.specs.Answer.{Answer, gives, refused, refuseIf, andThen, shift}
 use Rattle.paper.specs.First.{firstBad}
-use Rattle.paper.specs.SignalList.{Signal, Code, Route, fieldEnd, routeEnd, entry, rest, checkSize, signalSize, codeSize, routeSize, mostChecks, mostSignals, mostCodes, mostRoutes, widest, checkAt, signalAt, codeAt, routeAt, checkRule, placeRule, namedRule, orderRule, apart, signalRule, codeRule, routeRule, opening, judgeEntries, judgeSection, greatestSince, Counts, ending, fromRoutes, fromCodes, fromSignals, judge, SignalList, listOf, signalsPart, codesPart, routesPart}
+use Rattle.paper.specs.SignalList.{Signal, Code, Route, fieldEnd, routeEnd, entry, rest, checkSize, signalSize, codeSize, routeSize, mostChecks, mostSignals, mostCodes, mostRoutes, checkAt, signalAt, codeAt, routeAt, checkRule, placeRule, namedRule, orderRule, apart, signalRule, codeRule, routeRule, opening, judgeEntries, judgeSection, greatestSince, Counts, ending, fromRoutes, fromCodes, fromSignals, judge, SignalList, listOf, signalsPart, codesPart, routesPart}
+use Rattle.paper.specs.Accepted.{Opened, Holds, CheckKept, Placed, CheckNamed, Follows, SignalKept, CodeKept, RouteKept, Kept, Laid, RefusedWithin}
+use Rattle.bools.proofs.Tests.{both, either, other}
 use Rattle.paper.proofs.AnswerLaws.{not-refused, and-then, not-shifted, gives-one}
 use Rattle.paper.proofs.FirstLaws.{first-passed, first-none, all-at}
 
--- ---- a test made of tests, taken apart and put together
-
-pub both : (a b : Bool) → (a && b) ≡ true → (a ≡ true) × (b ≡ true)
-both true b e = (refl, e)
-both false b e = absurd (false≢true e)
-
-pub either : (a b : Bool) → (a || b) ≡ true → (a ≡ true) ⊎ (b ≡ true)
-either true b e = inl refl
-either false b e = inr e
-
-pub neither : (a b : Bool) → (a || b) ≡ false → (a ≡ false) × (b ≡ false)
-neither true b e = absurd (false≢true (sym e))
-neither false b e = (refl, e)
-
-pub other : (a b : Bool) → (a || b) ≡ true → a ≡ false → b ≡ true
-other true b e f = absurd (false≢true (sym f))
-other false b e f = e
-
--- put together by a call that tests the first part, which gave b, and answers false or asks the second
-module _ {b x : Bool} (is : b ≡ x) (y : Bool) where
-  pub stops-short : not b ≡ true → false ≡ (x && y)
-  stops-short e = rw (← is, not-true b e)
-
-  pub asks-on : not b ≡ false → (d : Bool) → d ≡ y → d ≡ (x && y)
-  asks-on e d q = rw (← is, not-false b e) q
-
 -- ---- a section
-
--- a section that can be opened: its count is within the limit and its entries are present
-pub record Opened (limit size : ℕ) (xs : List ℕ) (n : ℕ) : Type 0 where
-  pub count : n ≡ number xs 0 2
-  pub within : n ≤ limit
-  pub present : entry size n ≤ length xs
-
--- what an accepted section keeps: it could be opened, and each entry passes its test
-pub record Holds (limit size : ℕ) (rule : ℕ → Bool) (xs : List ℕ) (n : ℕ) : Type 0 where
-  pub opens : Opened limit size xs n
-  pub entries : (k : ℕ) → k < n → rule k ≡ true
 
 pub opened-of : (limit size : ℕ) (xs : List ℕ) (n : ℕ) → opening limit size xs ≡ gives n → Opened limit size xs n
 unfolding opening
@@ -92,12 +57,6 @@ section-it limit size rule xs n h = rw (opens-it limit size xs n (h .opens), fir
 
 -- ---- the rule of an entry, as facts on numbers; stated over the tables, for any layout of the octets
 
-pub record CheckKept (check : ℕ → ℕ) (k : ℕ) : Type 0 where
-  pub even : check k % 2 ≡ 0
-  pub low : 16 ≤ check k
-  pub high : check k ≤ 1022
-  pub rises : 0 < k → check (k - 1) < check k
-
 positive : (k : ℕ) → 0 < k → eqb k 0 ≡ false
 positive k h = ne-eqb k 0 (λ z. lt-irrefl 0 (rw z at h))
 
@@ -114,38 +73,11 @@ check-kept check k e =
       rises = λ h. ltb-true _ _ (other _ _ (p .1) (positive k h));
     }
 
--- where a signal of each type lies
-pub record Placed (s : Signal) : Type 0 where
-  pub common : s .type ≡ 0 → (16 ≤ s .start) × (fieldEnd s ≤ 320)
-  pub own : (s .type ≡ 0 → ⊥) → (320 ≤ s .start) × (fieldEnd s ≤ 1024)
-
--- a signal with a check names one that exists, below 320 exactly if its type is 0
-pub record Named (checks : ℕ) (check : ℕ → ℕ) (s : Signal) : Type 0 where
-  pub exists : s .check ≤ checks
-  pub common : s .type ≡ 0 → 0 < s .check → check (s .check - 1) < 320
-  pub own : (s .type ≡ 0 → ⊥) → 0 < s .check → 320 ≤ check (s .check - 1)
-
--- the signal before has a lower type, or the same and ends at or before this one's start
-abbrev pub Follows : Signal → Signal → Type 0
-Follows p s = (p .type < s .type) ⊎ ((p .type ≡ s .type) × (fieldEnd p ≤ s .start))
-
-pub record SignalKept (checks : ℕ) (check : ℕ → ℕ) (signal : ℕ → Signal) (k : ℕ) : Type 0 where
-  pub some : 1 ≤ signal k .width
-  pub wide : signal k .width ≤ widest
-  pub typed : signal k .type ≤ 2
-  pub placed : Placed (signal k)
-  pub named : Named checks check (signal k)
-  pub since : 1 ≤ signal k .since
-  pub octet : signal k .since ≤ 255
-  pub limited : signal k .limit ≤ 600000
-  pub fits : signal k .replacement < 2 ^ signal k .width
-  pub follows : 0 < k → Follows (signal (k - 1)) (signal k)
-  pub clear : (j : ℕ) → j < checks → (fieldEnd (signal k) ≤ check j) ⊎ (check j + 2 ≤ signal k .start)
-
 placed-of : (s : Signal) → placeRule s ≡ true → Placed s
 placed-of s e = by (either _ _ e)
   where
-    by : ((eqb (s .type) 0 && leb 16 (s .start) && leb (fieldEnd s) 320) ≡ true) ⊎ ((not (eqb (s .type) 0) && leb 320 (s .start) && leb (fieldEnd s) 1024) ≡ true) → Placed s
+    by : ((eqb (s .type) 0 && leb 16 (s .start) && leb (fieldEnd s) 320) ≡ true)
+        ⊎ ((not (eqb (s .type) 0) && leb 320 (s .start) && leb (fieldEnd s) 1024) ≡ true) → Placed s
     by (inl h) =
         let p = both _ _ h in
         let q = both _ _ (p .0) in
@@ -156,7 +88,7 @@ placed-of s e = by (either _ _ e)
         let n : s .type ≡ 0 → ⊥ = eqb-false _ _ (not-true _ (q .0)) in
         record { common = λ z. absurd (n z); own = λ _. (leb-true _ _ (q .1), leb-true _ _ (p .1)) }
 
-named-of : (checks : ℕ) (check : ℕ → ℕ) (s : Signal) → namedRule checks check s ≡ true → Named checks check s
+named-of : (checks : ℕ) (check : ℕ → ℕ) (s : Signal) → namedRule checks check s ≡ true → CheckNamed checks check s
 named-of checks check s e = by (either _ _ e)
   where
     place : ℕ
@@ -164,7 +96,7 @@ named-of checks check s e = by (either _ _ e)
 
     by : (eqb (s .check) 0 ≡ true)
         ⊎ ((leb (s .check) checks && (ltb place 320 && eqb (s .type) 0 || not (ltb place 320) && not (eqb (s .type) 0))) ≡ true)
-        → Named checks check s
+        → CheckNamed checks check s
     by (inl h) =
         let z : s .check ≡ 0 = eqb-true _ _ h in
         record { exists = omega arith; common = λ _ h. absurd (lt-irrefl 0 (rw z at h)); own = λ _ h. absurd (lt-irrefl 0 (rw z at h)) }
@@ -212,17 +144,6 @@ signal-kept checks check signal k e =
       clear = λ j h. apart-of (signal k) (check j) (all-at (λ j. apart (signal k) (check j)) checks (p .1) j h);
     }
 
--- the entry before is of a lower signal, or of the same and ends two below
-abbrev pub CodeFollows : Code → Code → Type 0
-CodeFollows p c = (p .signal < c .signal) ⊎ ((p .signal ≡ c .signal) × (p .high + 2 ≤ c .low))
-
-pub record CodeKept (signals : ℕ) (signal : ℕ → Signal) (code : ℕ → Code) (k : ℕ) : Type 0 where
-  pub exists : code k .signal < signals
-  pub narrow : signal (code k .signal) .width ≤ 16
-  pub range : code k .low ≤ code k .high
-  pub fits : code k .high < 2 ^ signal (code k .signal) .width
-  pub follows : 0 < k → CodeFollows (code (k - 1)) (code k)
-
 pub code-kept : (signals : ℕ) (signal : ℕ → Signal) (code : ℕ → Code) (k : ℕ) → codeRule signals signal code k ≡ true → CodeKept signals signal code k
 unfolding codeRule
 code-kept signals signal code k e =
@@ -239,14 +160,6 @@ code-kept signals signal code k e =
           ⊎-elim (λ a. inl (ltb-true _ _ a)) (λ a. let b = both _ _ a in inr (eqb-true _ _ (b .0), leb-true _ _ (b .1)))
           (either _ _ (other _ _ (p .1) (positive k h)));
     }
-
-pub record RouteKept (signals : ℕ) (signal : ℕ → Signal) (route : ℕ → Route) (k : ℕ) : Type 0 where
-  pub exists : route k .signal < signals
-  pub first : 1 ≤ route k .vehicle
-  pub last : route k .vehicle ≤ 63
-  pub null : route k .null ≡ 0
-  pub ends : routeEnd signal (route k) ≤ 2048
-  pub follows : 0 < k → routeEnd signal (route (k - 1)) ≤ route k .start
 
 pub route-kept : (signals : ℕ) (signal : ℕ → Signal) (route : ℕ → Route) (k : ℕ) → routeRule signals signal route k ≡ true → RouteKept signals signal route k
 unfolding routeRule
@@ -266,26 +179,6 @@ route-kept signals signal route k e =
     }
 
 -- ---- the whole list
-
--- what an accepted list keeps, apart from how its octets are laid out
-pub record Kept (l : SignalList) : Type 0 where
-  pub few-checks : l .checks ≤ mostChecks
-  pub few-signals : l .signals ≤ mostSignals
-  pub few-codes : l .codes ≤ mostCodes
-  pub few-routes : l .routes ≤ mostRoutes
-  pub check : (k : ℕ) → k < l .checks → CheckKept (l .check) k
-  pub signal : (k : ℕ) → k < l .signals → SignalKept (l .checks) (l .check) (l .signal) k
-  pub code : (k : ℕ) → k < l .codes → CodeKept (l .signals) (l .signal) (l .code) k
-  pub route : (k : ℕ) → k < l .routes → RouteKept (l .signals) (l .signal) (l .route) k
-
--- and how they are laid out: each section's entries are present, and the list ends with the last
-pub record Laid (xs : List ℕ) (n : Counts) : Type 0 where
-  pub checks : Holds mostChecks checkSize (checkRule (checkAt xs)) xs (n .checks)
-  pub signals : Holds mostSignals signalSize (signalRule (n .checks) (checkAt xs) (signalAt (signalsPart xs n))) (signalsPart xs n) (n .signals)
-  pub codes : Holds mostCodes codeSize (codeRule (n .signals) (signalAt (signalsPart xs n)) (codeAt (codesPart xs n))) (codesPart xs n) (n .codes)
-  pub routes : Holds mostRoutes routeSize (routeRule (n .signals) (signalAt (signalsPart xs n)) (routeAt (routesPart xs n))) (routesPart xs n) (n .routes)
-  pub ends : length (routesPart xs n) ≤ entry routeSize (n .routes)
-  pub version : n .version ≡ greatestSince (n .signals) (signalAt (signalsPart xs n))
 
 -- each section in turn: what its part keeps, and what the rest gives, at the counts that the whole reports
 module _ (signals : ℕ) (signal : ℕ → Signal) (checks : ℕ) (n : Counts) where
@@ -397,18 +290,13 @@ kept xs n e = kept-of xs n (laid xs n e)
 
 -- ---- where a refusal's offset lies: within the part that was judged
 
--- a refusal, if it is one, is of a list and has its offset at `most` or before
-abbrev pub RefusedWithin : {A : Type 0} → ℕ → Answer A → Type 0
-RefusedWithin most (gives a) = Unit {0}
-RefusedWithin most (refused n at) = (n ≤ 4) × (at ≤ most)
-
-within-if : {A : Type 0} (b : Bool) (n at most : ℕ) (x : Answer A) → n ≤ 4 → (b ≡ true → at ≤ most) → RefusedWithin most x → RefusedWithin most (refuseIf b n at x)
+within-if : {A : Type 0} (b : Bool) (n at most : ℕ) (x : Answer A) → (b ≡ true → at ≤ most) → RefusedWithin most x → RefusedWithin most (refuseIf b n at x)
 unfolding refuseIf
-within-if true n at most x h k w = (h, k refl)
-within-if false n at most x h k w = w
+within-if true n at most x k w = k refl
+within-if false n at most x k w = w
 
-last-within : {A : Type 0} (b : Bool) (n at most : ℕ) (a : A) → n ≤ 4 → (b ≡ true → at ≤ most) → RefusedWithin most (refuseIf b n at (gives a))
-last-within b n at most a h k = within-if b n at most (gives a) h k tt
+last-within : {A : Type 0} (b : Bool) (n at most : ℕ) (a : A) → (b ≡ true → at ≤ most) → RefusedWithin most (refuseIf b n at (gives a))
+last-within b n at most a k = within-if b n at most (gives a) k tt
 
 within-then : {A B : Type 0} (most : ℕ) (x : Answer A) (next : A → Answer B) → RefusedWithin most x → ((a : A) → x ≡ gives a → RefusedWithin most (next a))
     → RefusedWithin most (andThen x next)
@@ -419,19 +307,19 @@ within-then most (refused n at) next w k = w
 pub within-rest : {A : Type 0} (size n : ℕ) (xs : List ℕ) (most : ℕ) (x : Answer A) → entry size n ≤ length xs → length xs ≤ most
     → RefusedWithin (length (rest size n xs)) x → RefusedWithin most (shift (entry size n) x)
 within-rest size n xs most (gives a) h le w = tt
-within-rest size n xs most (refused m at) h le w = (w .0, omega (arith, length-drop (entry size n) xs, w .1))
+within-rest size n xs most (refused m at) h le w = omega (arith, length-drop (entry size n) xs)
 
 opening-within : (limit size : ℕ) (xs : List ℕ) → RefusedWithin (length xs) (opening limit size xs)
 unfolding opening
 opening-within limit size xs =
-    within-if _ 1 0 _ _ (omega arith) (λ _. zero-le)
-    (within-if _ 2 0 _ _ (omega arith) (λ _. zero-le) (last-within _ 1 0 _ (number xs 0 2) (omega arith) (λ _. zero-le)))
+    within-if _ 1 0 _ _ (λ _. zero-le)
+    (within-if _ 2 0 _ _ (λ _. zero-le) (last-within _ 1 0 _ (number xs 0 2) (λ _. zero-le)))
 
 section-within : (limit size : ℕ) (rule : ℕ → Bool) (xs : List ℕ) → RefusedWithin (length xs) (judgeSection limit size rule xs)
 unfolding judgeSection judgeEntries
 section-within limit size rule xs =
     within-then (length xs) (opening limit size xs) (judgeEntries size rule) (opening-within limit size xs)
-    (λ n e. last-within _ 3 _ _ n (omega arith)
+    (λ n e. last-within _ 3 _ _ n
     (λ t. let le : size * firstBad rule n ≤ size * n = mul-le-mul-left size (le-of-lt (ltb-true _ _ t)) in omega (arith, opened-of limit size xs n e .present)))
 
 module _ (signals : ℕ) (signal : ℕ → Signal) (checks : ℕ) where
@@ -439,21 +327,25 @@ module _ (signals : ℕ) (signal : ℕ → Signal) (checks : ℕ) where
   unfolding fromRoutes ending
   routes-within codes xs =
       within-then (length xs) (judgeSection mostRoutes routeSize (routeRule signals signal (routeAt xs)) xs) (ending signals signal checks codes xs)
-      (section-within _ _ _ xs) (λ n e. last-within (ltb (entry routeSize n) (length xs)) 4 (entry routeSize n) (length xs) _ (omega arith) (λ t. le-of-lt (ltb-true _ _ t)))
+      (section-within _ _ _ xs) (λ n e. last-within (ltb (entry routeSize n) (length xs)) 4 (entry routeSize n) (length xs) _ (λ t. le-of-lt (ltb-true _ _ t)))
 
   pub codes-within : (xs : List ℕ) → RefusedWithin (length xs) (fromCodes signals signal checks xs)
   unfolding fromCodes
   codes-within xs =
       within-then (length xs) (judgeSection mostCodes codeSize (codeRule signals signal (codeAt xs)) xs) _
       (section-within _ _ _ xs)
-      (λ n e. within-rest codeSize n xs (length xs) (fromRoutes signals signal checks n (rest codeSize n xs)) (holds-of _ _ _ _ _ e .opens .present) (le-refl _) (routes-within n (rest codeSize n xs)))
+      (λ n e.
+      within-rest codeSize n xs (length xs) (fromRoutes signals signal checks n (rest codeSize n xs)) (holds-of _ _ _ _ _ e .opens .present) (le-refl _)
+      (routes-within n (rest codeSize n xs)))
 
 pub signals-within : (checks : ℕ) (check : ℕ → ℕ) (xs : List ℕ) → RefusedWithin (length xs) (fromSignals checks check xs)
 unfolding fromSignals
 signals-within checks check xs =
     within-then (length xs) (judgeSection mostSignals signalSize (signalRule checks check (signalAt xs)) xs) _
     (section-within _ _ _ xs)
-    (λ n e. within-rest signalSize n xs (length xs) (fromCodes n (signalAt xs) checks (rest signalSize n xs)) (holds-of _ _ _ _ _ e .opens .present) (le-refl _) (codes-within n (signalAt xs) checks (rest signalSize n xs)))
+    (λ n e.
+    within-rest signalSize n xs (length xs) (fromCodes n (signalAt xs) checks (rest signalSize n xs)) (holds-of _ _ _ _ _ e .opens .present) (le-refl _)
+    (codes-within n (signalAt xs) checks (rest signalSize n xs)))
 
 -- ---- two entries of an accepted list
 
@@ -466,7 +358,8 @@ module _ (l : SignalList) (h : Kept l) where
   pub types-rise : (d i : ℕ) → i + d < l .signals → l .signal i .type ≤ l .signal (i + d) .type
   types-rise zero i lt = rw add-zero (le-refl _)
   types-rise (suc d) i lt =
-      rw add-suc (⊎-elim (λ a. omega (arith, types-rise d i (omega arith))) (λ a. omega (arith, types-rise d i (omega arith), a .0)) (next-signal (i + d) (omega arith)))
+      rw add-suc
+      (⊎-elim (λ a. omega (arith, types-rise d i (omega arith))) (λ a. omega (arith, types-rise d i (omega arith), a .0)) (next-signal (i + d) (omega arith)))
 
   -- "within a type each start is at or past the end of the field before": of any two signals of a type
   pub fields-rise : (d i : ℕ) → i + suc d < l .signals → l .signal i .type ≡ l .signal (i + suc d) .type → fieldEnd (l .signal i) ≤ l .signal (i + suc d) .start

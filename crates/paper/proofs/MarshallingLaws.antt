@@ -10,16 +10,16 @@ use lib.Dec.{ltb, leb}
 use borrow.Author.Tests.{ltb-false, eqb-true, not-false}
 use Rattle.paper.specs.Octets.{bit, field}
 use Rattle.paper.specs.Answer.{gives}
-use Rattle.paper.specs.First.{count}
 use Rattle.paper.specs.SignalList.{SignalList, Counts, routeEnd, judge, listOf}
-use Rattle.paper.specs.Store.{Slot, storeOctets, slotOf}
+use Rattle.paper.specs.Store.{Slot, slotOf}
 use Rattle.paper.specs.Reading.{Reading, codeOf, reasonOf, readingOf, readingAt}
-use Rattle.paper.specs.Marshalling.{routed, routePut, marshalled, live, Marshalled, marshalling}
+use Rattle.paper.specs.Marshalling.{routed, routePut, marshalled, live, Marshalled, marshalling, Marshals}
 use Rattle.paper.proofs.AnswerLaws.{not-refused, and-then, gives-one}
 use Rattle.paper.proofs.FirstLaws.{some-none}
 use Rattle.paper.proofs.FieldLaws.{field-lt}
 use Rattle.paper.proofs.PutsLaws.{bit-puts-other, field-puts}
-use Rattle.paper.proofs.ListLaws.{Kept, kept, routes-apart}
+use Rattle.paper.specs.Accepted.{Kept}
+use Rattle.paper.proofs.ListLaws.{kept, routes-apart}
 use Rattle.paper.proofs.ReadingLaws.{isolation}
 
 -- a reading fits its signal's width, live or replaced
@@ -47,15 +47,6 @@ module _ (l : SignalList) (h : Kept l) (store : List ℕ) (now : ℕ) (bus : Lis
       field-puts (routePut l store now) bus (l .routes) r lt refl (fits r lt)
       (reading-fits l h (slotOf store (l .route r .vehicle)) now (l .route r .signal) (h .route r lt .exists))
       (λ j a b _. inr (routes-apart l h r j a b))
-
--- what marshalling that is not refused tells
-pub record Marshals (xs store : List ℕ) (now : ℕ) (bus : List ℕ) (m : Marshalled) : Type 0 where
-  pub counts : Counts
-  pub accepted : judge xs ≡ gives counts
-  pub whole : length store ≡ storeOctets
-  pub room : (r : ℕ) → r < counts .routes → routeEnd (listOf xs counts .signal) (listOf xs counts .route r) ≤ 8 * length bus
-  pub octets : m .octets ≡ marshalled (listOf xs counts) store now bus (counts .routes)
-  pub lives : m .lives ≡ count (live (listOf xs counts) store now) (counts .routes)
 
 pub marshals : (xs store : List ℕ) (now : ℕ) (bus : List ℕ) (m : Marshalled) → marshalling xs store now bus ≡ gives m → Marshals xs store now bus m
 unfolding marshalling

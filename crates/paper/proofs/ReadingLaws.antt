@@ -11,25 +11,16 @@ use lib.Dec.{eqb}
 use borrow.Author.Tests.{ltb-true, ltb-false, leb-true, eqb-true, eqb-false, not-false, le-leb, lt-leb, le-ltb, ne-eqb}
 use Rattle.paper.specs.Octets.{field}
 use Rattle.paper.specs.Answer.{gives}
-use Rattle.paper.specs.First.{firstOf}
-use Rattle.paper.specs.Telegrams.{telegramType, versionOf, carries, ok, forced, markWidth}
-use Rattle.paper.specs.SignalList.{Signal, SignalList, Counts, judge, listOf}
-use Rattle.paper.specs.Extends.{knows, placeOf}
-use Rattle.paper.specs.Store.{vehicles, storeOctets, Slot, slotOf, age, inTime}
-use Rattle.paper.specs.Reading.{Reading, heard, markOf, codeOf, hindrances, reasonOf, readingOf, readingAt, reading}
+use Rattle.paper.specs.First.{firstOf, FirstAt, None}
+use Rattle.paper.specs.Telegrams.{ok, forced, markWidth}
+use Rattle.paper.specs.SignalList.{Signal, SignalList, judge, placeOf}
+use Rattle.paper.specs.Store.{Slot, slotOf}
+use Rattle.paper.specs.Reading.{Reading, markOf, codeOf, hindrances, reasonOf, readingOf, readingAt, reading, Live, Reads}
 use Rattle.paper.proofs.AnswerLaws.{not-refused, gives-one, and-then}
 use Rattle.paper.proofs.FieldLaws.{field-lt}
-use Rattle.paper.proofs.ListLaws.{both}
+use Rattle.bools.proofs.Tests.{both}
 
 -- ---- the first of numbered tests
-
--- the test i holds and none before it
-pub record FirstAt (ts : List Bool) (i : ℕ) : Type 0 where
-  pub here : getD ts i false ≡ true
-  pub before : (j : ℕ) → j < i → getD ts j false ≡ false
-
-abbrev pub None : List Bool → Type 0
-None ts = (j : ℕ) → getD ts j false ≡ false
 
 pub first-of-at : (n : ℕ) (ts : List Bool) (other i : ℕ) → FirstAt ts i → firstOf n ts other ≡ n + i
 first-of-at n [] other i h = absurd (false≢true (h .here))
@@ -98,16 +89,6 @@ module _ (l : SignalList) (slot : Slot) (now k : ℕ) where
       by e (inl w) = absurd (omega (arith, first-of-at 2 (hindrances l slot now k) live-reason (w .0) (w .1 .1)))
       by e (inr h) = h
 
--- "A value is live exactly when its telegram was heard, is within its time limit, carries the signal and is new enough, its mark, if it
--- has a check, is ok or forced, and the code is known."
-pub record Live (l : SignalList) (slot : Slot) (now k : ℕ) : Type 0 where
-  pub heard-from : heard slot ≡ true
-  pub in-time : inTime (age now (slot .stamp)) (l .signal k .limit) ≡ true
-  pub carried : carries (telegramType (slot .telegram)) (l .signal k .type) ≡ true
-  pub new-enough : l .signal k .since ≤ versionOf (slot .telegram)
-  pub mark : (markOf l (l .signal k) (slot .telegram) ≡ ok) ⊎ (markOf l (l .signal k) (slot .telegram) ≡ forced)
-  pub known : knows l k (codeOf (l .signal k) (slot .telegram)) ≡ true
-
 pub mark-lt : (l : SignalList) (s : Signal) (telegram : List ℕ) → markOf l s telegram < 4
 unfolding markOf
 mark-lt l s telegram = by (eqb (s .check) 0)
@@ -162,21 +143,12 @@ module _ (l : SignalList) (slot : Slot) (now k : ℕ) where
   replaced-value h = simp (le-leb 2 (reasonOf l slot now k) h)
 
 -- two stores that agree on a vehicle's slot agree on its readings
-pub isolation : (l : SignalList) (store store′ : List ℕ) (now v k : ℕ) → slotOf store v ≡ slotOf store′ v → readingAt l store now v k ≡ readingAt l store′ now v k
+pub isolation : (l : SignalList) (store store′ : List ℕ) (now v k : ℕ) → slotOf store v ≡ slotOf store′ v
+    → readingAt l store now v k ≡ readingAt l store′ now v k
 unfolding readingAt
 isolation l store store′ now v k e = ap (λ (s : Slot). readingOf l s now k) e
 
 -- ---- a reading as a call gives it
-
--- what a reading that is not refused tells
-pub record Reads (xs store : List ℕ) (now v k : ℕ) (r : Reading) : Type 0 where
-  pub counts : Counts
-  pub accepted : judge xs ≡ gives counts
-  pub whole : length store ≡ storeOctets
-  pub first : 1 ≤ v
-  pub last : v ≤ vehicles
-  pub there : k < counts .signals
-  pub is : readingOf (listOf xs counts) (slotOf store v) now k ≡ r
 
 pub reads : (xs store : List ℕ) (now v k : ℕ) (r : Reading) → reading xs store now v k ≡ gives r → Reads xs store now v k r
 unfolding reading readingAt

@@ -13,11 +13,11 @@ use lib.Dec.{eqb}
 use borrow.Author.Tests.{eq-eqb, le-leb, le-ltb, leb-true, eqb-true, not-false}
 use Rattle.paper.specs.Octets.{number, octetsOf, over}
 use Rattle.paper.specs.Answer.{Answer, gives, refused, refuseIf, after}
-use Rattle.paper.specs.Telegrams.{applicationType, telegramType, isType, typeLength, carries}
-use Rattle.paper.specs.Store.{vehicles, telegramOctets, slotOctets, storeOctets, slotStart, slotFrom, slotTo, slotOf, taken, taking, turn, inTime}
+use Rattle.paper.specs.Telegrams.{telegramType, typeLength, carries}
+use Rattle.paper.specs.Store.{vehicles, telegramOctets, slotOctets, storeOctets, slotStart, slotFrom, slotTo, slotOf, taken, taking, turn, inTime, Takes}
 use Rattle.paper.specs.Demands.{Step, offer, step, run, Passes, NoneLater, Standing}
 use Rattle.paper.proofs.AnswerLaws.{not-refused, never-both}
-use Rattle.paper.proofs.ListLaws.{both}
+use Rattle.bools.proofs.Tests.{both}
 use Rattle.paper.proofs.NumberLaws.{length-octetsOf, number-octetsOf-front, number-back, length-over, part-over, other-over}
 
 -- ---- cases at which a sentence misread shows
@@ -37,16 +37,8 @@ only-its-type = (refl, refl, refl, refl, refl, refl)
 
 -- ---- taking
 
--- what a telegram that is taken meets
-pub record Takes (store : List ℕ) (v : ℕ) (telegram : List ℕ) : Type 0 where
-  pub whole : length store ≡ storeOctets
-  pub first : 1 ≤ v
-  pub last : v ≤ vehicles
-  pub application : applicationType telegram ≡ 1
-  pub typed : isType (telegramType telegram) ≡ true
-  pub long : length telegram ≡ typeLength (telegramType telegram)
-
-pub takes : (store : List ℕ) (v now : ℕ) (telegram new : List ℕ) → taking store v now telegram ≡ gives new → (Takes store v telegram) × (taken store v now telegram ≡ new)
+pub takes : (store : List ℕ) (v now : ℕ) (telegram new : List ℕ) → taking store v now telegram ≡ gives new
+    → (Takes store v telegram) × (taken store v now telegram ≡ new)
 unfolding taking
 takes store v now telegram new e =
     let a = not-refused _ _ _ _ _ e in
@@ -115,7 +107,8 @@ slot-says now telegram h =
     let d : drop 5 (1 ∷ (octetsOf 4 now ++ padded telegram)) ≡ padded telegram = drop-at (octetsOf 4 now) (padded telegram) 4 (length-octetsOf 4 now) in
     ap₂ (λ (x : ℕ) (y : List ℕ). record { heard = 1; stamp = x; telegram = y }) s d
 
-module _ (store : List ℕ) (v now : ℕ) (telegram : List ℕ) (whole : length store ≡ storeOctets) (first : 1 ≤ v) (last : v ≤ vehicles) (short : length telegram ≤ telegramOctets) where
+module _ (store : List ℕ) (v now : ℕ) (telegram : List ℕ) (whole : length store ≡ storeOctets) (first : 1 ≤ v) (last : v ≤ vehicles)
+    (short : length telegram ≤ telegramOctets) where
   fits : slotStart v + length (slotTo now telegram) ≤ length store
   fits = omega (arith, length-slot now telegram short)
 
@@ -126,7 +119,10 @@ module _ (store : List ℕ) (v now : ℕ) (telegram : List ℕ) (whole : length 
   -- the slot of the vehicle says what was written
   pub slot-taken : slotOf (taken store v now telegram) v ≡ slotFrom (slotTo now telegram)
   unfolding taken slotOf
-  slot-taken = ap slotFrom (ap (λ (n : ℕ). take n (drop (slotStart v) (over store (slotStart v) (slotTo now telegram)))) (sym (length-slot now telegram short)) ∙ part-over store (slotStart v) (slotTo now telegram) fits)
+  slot-taken =
+      let written = over store (slotStart v) (slotTo now telegram) in
+      ap slotFrom
+      (ap (λ (n : ℕ). take n (drop (slotStart v) written)) (sym (length-slot now telegram short)) ∙ part-over store (slotStart v) (slotTo now telegram) fits)
 
   -- and every other vehicle's slot is as before
   pub slot-other : (w : ℕ) → 1 ≤ w → (v ≡ w → ⊥) → slotOf (taken store v now telegram) w ≡ slotOf store w
@@ -191,4 +187,5 @@ module _ (v stamp now limit : ℕ) (telegram store : List ℕ) (h : Standing v s
   standing-whole =
       let g = stood in
       let short : length telegram ≤ telegramOctets = omega (arith, g .long, type-short (telegramType telegram)) in
-      rw (← h .reached) (length-run (taken (h .before) v stamp telegram) (h .steps) ∙ length-taken (h .before) v stamp telegram (g .whole) (g .first) (g .last) short ∙ g .whole)
+      rw (← h .reached)
+      (length-run (taken (h .before) v stamp telegram) (h .steps) ∙ length-taken (h .before) v stamp telegram (g .whole) (g .first) (g .last) short ∙ g .whole)

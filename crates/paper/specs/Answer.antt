@@ -37,3 +37,8 @@ forget (refused n at) = refused n at
 abbrev pub mapAnswer : {A B : Type 0} → (A → B) → Answer A → Answer B
 mapAnswer f (gives a) = gives (f a)
 mapAnswer f (refused n at) = refused n at
+
+-- what is looked for, or that there is none
+pub data Sought (A : Type 0) : Type 0 where
+  found : A → Sought A
+  nothing : Sought A

@@ -1,6 +1,7 @@
 -- Document 01, "Store, age and reading": composing an R-telegram.
-use Prim.Native.Nat.{ℕ, _+_, _-_, _*_, _^_}
-use mathlib.Core.Bool.{Bool, not, _&&_, _||_}
+use Prim.Native.Nat.{ℕ, _+_, _-_, _*_, _^_, _<_}
+use mathlib.Core.Path.{_≡_}
+use mathlib.Core.Bool.{Bool, true, not, _&&_, _||_}
 use mathlib.Core.List.{List, _∷_}
 use lib.ListN.{length, getD, replicate}
 use lib.Dec.{ltb, leb, eqb}
@@ -8,8 +9,7 @@ use Rattle.paper.specs.Octets.{Put, puts}
 use Rattle.paper.specs.Answer.{Answer, gives, refuseIf}
 use Rattle.paper.specs.First.{firstBad}
 use Rattle.paper.specs.Telegrams.{isType, typeLength, carries, markWidth}
-use Rattle.paper.specs.SignalList.{SignalList, underList}
-use Rattle.paper.specs.Extends.{version, knows}
+use Rattle.paper.specs.SignalList.{SignalList, Counts, judge, listOf, underList, version, knows}
 
 -- "every signal the type carries and every check within the telegram's length"
 abbrev pub writesSignal : SignalList → ℕ → ℕ → Bool
@@ -51,3 +51,18 @@ composing xs type values marks room =
     (refuseIf (ltb (firstBad (valueFits l type values) (l .signals)) (l .signals)) 15 (firstBad (valueFits l type values) (l .signals))
     (refuseIf (not (eqb room (typeLength type))) 16 0
     (gives (composed l type values marks)))))))
+
+-- what passes the tests
+pub record Fitting (l : SignalList) (type : ℕ) (values marks : List ℕ) : Type 0 where
+  pub typed : isType type ≡ true
+  pub valued : length values ≡ l .signals
+  pub marked : length marks ≡ l .checks
+  pub value : (k : ℕ) → k < l .signals → writesSignal l type k ≡ true → (getD values k 0 < 2 ^ l .signal k .width) × (knows l k (getD values k 0) ≡ true)
+  pub mark : (j : ℕ) → j < l .checks → writesCheck l type j ≡ true → getD marks j 0 < 4
+
+-- what a telegram that was composed tells: the list was accepted, the tests passed, and it is what the definition says
+pub record Composes (xs : List ℕ) (type : ℕ) (values marks telegram : List ℕ) : Type 0 where
+  pub counts : Counts
+  pub accepted : judge xs ≡ gives counts
+  pub fitting : Fitting (listOf xs counts) type values marks
+  pub is : composed (listOf xs counts) type values marks ≡ telegram

@@ -9,8 +9,8 @@ use lib.Dec.{leb, eqb}
 use Rattle.paper.specs.Answer.{gives, refused, after}
 use Rattle.paper.specs.First.{firstOf}
 use Rattle.paper.specs.Telegrams.{carries, error, ok, forced, undefined}
-use Rattle.paper.specs.SignalList.{Signal, SignalList}
-use Rattle.paper.specs.Extends.{knows, same}
+use Rattle.paper.specs.SignalList.{Signal, SignalList, knows}
+use Rattle.paper.specs.Extends.{same}
 use Rattle.paper.specs.Reading.{Reading}
 use Rattle.paper.specs.Store.{taking, taken, turn, age, inTime}
 

@@ -1,33 +1,12 @@
--- Document 01, "The signal list": the list's version, known codes, and when one list extends another.
-use Prim.Native.Nat.{ℕ, _-_, _^_}
-use mathlib.Core.Bool.{Bool, not, cond, _&&_, _||_}
+-- Document 01, "The signal list": when one list extends another.
+use Prim.Native.Nat.{ℕ, _^_, _<_}
+use mathlib.Core.Path.{_≡_}
+use mathlib.Core.Logic.{_⊎_}
+use mathlib.Core.Bool.{Bool, true, not, _&&_, _||_}
 use mathlib.Core.List.{List}
-use lib.Dec.{ltb, leb, eqb}
-use Rattle.paper.specs.Answer.{Answer, gives, refused}
+use lib.Dec.{ltb, eqb}
 use Rattle.paper.specs.First.{all, some}
-use Rattle.paper.specs.SignalList.{Signal, Code, SignalList, greatestSince, judge, listOf}
-
--- "The list's version is its greatest since-version, 1 if it has no signal."
-unfoldable pub version : SignalList → ℕ
-version l = greatestSince (l .signals) (l .signal)
-
--- among the code entries there is one for signal k, and one that holds the code c of it
-unfoldable pub hasCodes : ℕ → (ℕ → Code) → ℕ → Bool
-hasCodes codes code k = some (λ e. eqb (code e .signal) k) codes
-
-unfoldable pub inRange : ℕ → (ℕ → Code) → ℕ → ℕ → Bool
-inRange codes code k c = some (λ e. eqb (code e .signal) k && leb (code e .low) c && leb c (code e .high)) codes
-
--- "A signal with no entry knows every code."
-unfoldable pub knownIn : ℕ → (ℕ → Code) → ℕ → ℕ → Bool
-knownIn codes code k c = not (hasCodes codes code k) || inRange codes code k c
-
-unfoldable pub knows : SignalList → ℕ → ℕ → Bool
-knows l k c = knownIn (l .codes) (l .code) k c
-
--- the place of the check that a signal names; no check lies at 0, which stands for none
-unfoldable pub placeOf : SignalList → Signal → ℕ
-placeOf l s = cond (eqb (s .check) 0) 0 (l .check (s .check - 1))
+use Rattle.paper.specs.SignalList.{Signal, SignalList, OfTwo, underLists, version, knows, placeOf}
 
 -- the same signal in two lists: it goes by type and start, never by index
 abbrev pub same : Signal → Signal → Bool
@@ -57,17 +36,30 @@ newer a b j = some (λ i. same (a .signal i) (b .signal j)) (a .signals) || ltb 
 unfoldable pub extends : SignalList → SignalList → Bool
 extends a b = all (stands a b) (a .signals) && all (newer a b) (b .signals)
 
--- what a call on two lists answers: yes or no, or the refusal of the first list that is refused, and which that is
-pub data Extending : Type 0 where
-  extending : Bool → Extending
-  firstRefused : ℕ → ℕ → Extending
-  secondRefused : ℕ → ℕ → Extending
+-- a call on two lists: whether the second extends the first
+unfoldable pub extendsLists : List ℕ → List ℕ → OfTwo Bool
+extendsLists xs ys = underLists xs ys extends
 
--- "of two lists, the first is judged first"
-abbrev pub extendingBy : {A : Type 0} → Answer A → (ℕ → ℕ → Extending) → (A → Extending) → Extending
-extendingBy (gives n) refusal k = k n
-extendingBy (refused m at) refusal k = refusal m at
+-- ---- What extending says
 
-unfoldable pub extendsLists : List ℕ → List ℕ → Extending
-extendsLists xs ys =
-    extendingBy (judge xs) firstRefused (λ m. extendingBy (judge ys) secondRefused (λ n. extending (extends (listOf xs m) (listOf ys n))))
+-- signal i of one list and signal j of another are the same in all that must not change
+pub record Agree (a b : SignalList) (i j : ℕ) : Type 0 where
+  pub type : a .signal i .type ≡ b .signal j .type
+  pub start : a .signal i .start ≡ b .signal j .start
+  pub width : a .signal i .width ≡ b .signal j .width
+  pub place : placeOf a (a .signal i) ≡ placeOf b (b .signal j)
+  pub since : a .signal i .since ≡ b .signal j .since
+
+-- what it says that a signal of A is kept in B
+pub record Keeps (a b : SignalList) (i j : ℕ) : Type 0 where
+  pub agrees : Agree a b i j
+  pub codes : (c : ℕ) → c < 2 ^ a .signal i .width → knows a i c ≡ true → knows b j c ≡ true
+
+-- "each signal of A stands in B"; "each signal only in B has a since-version above A's version"
+pub record Extended (a b : SignalList) : Type 0 where
+  pub stands-in : (i : ℕ) → i < a .signals → (j : ℕ) × ((j < b .signals) × Keeps a b i j)
+  pub newer-than : (j : ℕ) → j < b .signals → ((i : ℕ) × ((i < a .signals) × (same (a .signal i) (b .signal j) ≡ true))) ⊎ (version a < b .signal j .since)
+
+-- one of two lists extends the other
+abbrev pub Related : SignalList → SignalList → Type 0
+Related a b = (extends a b ≡ true) ⊎ (extends b a ≡ true)

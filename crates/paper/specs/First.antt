@@ -1,7 +1,9 @@
 -- Searching and counting over the indices 0 to n - 1: the tools that the definitions of this folder are written with.
-use Prim.Native.Nat.{ℕ, zero, suc, _+_, max}
+use Prim.Native.Nat.{ℕ, zero, suc, _+_, _-_, _<_, max}
+use mathlib.Core.Path.{_≡_}
 use mathlib.Core.Bool.{Bool, true, false, not, cond}
 use mathlib.Core.List.{List, [], _∷_}
+use lib.ListN.{getD}
 use lib.Dec.{eqb}
 
 -- `here` where the test fails, `later` where it passes
@@ -26,6 +28,18 @@ all ok n = eqb (firstBad ok n) n
 unfoldable pub some : (ℕ → Bool) → ℕ → Bool
 some ok n = not (all (λ k. not (ok k)) n)
 
+-- the indices from k on and below n at which the test passes, rising
+unfoldable pub passingFrom : (ℕ → Bool) → ℕ → ℕ → List ℕ
+passingFrom test zero k = []
+passingFrom test (suc n) k = cond (test k) (k ∷ passingFrom test n (suc k)) (passingFrom test n (suc k))
+
+unfoldable pub passing : (ℕ → Bool) → ℕ → ℕ → List ℕ
+passing test n k = passingFrom test (n - k) k
+
+-- the first of them; n where there is none
+unfoldable pub next : (ℕ → Bool) → ℕ → ℕ → ℕ
+next test n k = firstFrom (λ q. not (test q)) (n - k) k
+
 -- at how many of the n indices the test passes
 unfoldable pub count : (ℕ → Bool) → ℕ → ℕ
 count ok zero = 0
@@ -40,3 +54,12 @@ greatest least f (suc n) = max (greatest least f n) (f n)
 abbrev pub firstOf : ℕ → List Bool → ℕ → ℕ
 firstOf n [] other = other
 firstOf n (t ∷ ts) other = cond t n (firstOf (suc n) ts other)
+
+-- the test i holds and none before it
+pub record FirstAt (ts : List Bool) (i : ℕ) : Type 0 where
+  pub here : getD ts i false ≡ true
+  pub before : (j : ℕ) → j < i → getD ts j false ≡ false
+
+-- none holds
+abbrev pub None : List Bool → Type 0
+None ts = (j : ℕ) → getD ts j false ≡ false

@@ -1,9 +1,12 @@
 pub mod Octets
 pub mod Answer
 pub mod First
+pub mod Search
 pub mod Telegrams
 pub mod SignalList
+pub mod Accepted
 pub mod Extends
+pub mod Pairs
 pub mod Store
 pub mod Reading
 pub mod Marshalling

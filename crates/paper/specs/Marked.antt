@@ -10,8 +10,7 @@ use Rattle.paper.specs.Answer.{Answer, gives, refuseIf, after}
 use Rattle.paper.specs.First.{firstFrom, firstBad, all, some, count, greatest}
 use Rattle.paper.specs.Telegrams.{applicationType, telegramType, versionOf, ok}
 use Rattle.paper.specs.SignalList
-use Rattle.paper.specs.SignalList.{judge}
-use Rattle.paper.specs.Extends.{version, hasCodes, inRange, knownIn, knows, placeOf}
+use Rattle.paper.specs.SignalList.{judge, version, hasCodes, inRange, knownIn, knows, placeOf}
 use Rattle.paper.specs.Store.{storeOctets, slotOf, taken, taking, age}
 use Rattle.paper.specs.Reading.{Reading, heard, markOf, codeOf, hindrances, reasonOf, readingOf, readingAt, reading}
 use Rattle.paper.specs.Marshalling.{Marshalled, routed, marshalled, live, marshalling}

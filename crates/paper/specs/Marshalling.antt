@@ -1,5 +1,6 @@
 -- Document 01, "Store, age and reading": marshalling routed signals into vehicle bus data.
-use Prim.Native.Nat.{ℕ, _*_}
+use Prim.Native.Nat.{ℕ, _*_, _≤_, _<_}
+use mathlib.Core.Path.{_≡_}
 use mathlib.Core.Bool.{Bool, true, not}
 use mathlib.Core.List.{List}
 use lib.ListN.{length}
@@ -7,8 +8,8 @@ use lib.Dec.{ltb, leb}
 use Rattle.paper.specs.Octets.{Put, puts}
 use Rattle.paper.specs.Answer.{Answer, gives, refuseIf}
 use Rattle.paper.specs.First.{some, count}
-use Rattle.paper.specs.SignalList.{SignalList, routeEnd, underList}
-use Rattle.paper.specs.Store.{isStore}
+use Rattle.paper.specs.SignalList.{SignalList, Counts, judge, listOf, routeEnd, underList}
+use Rattle.paper.specs.Store.{storeOctets, isStore}
 use Rattle.paper.specs.Reading.{Reading, readingAt}
 
 -- what route r reads: its signal of its vehicle
@@ -38,3 +39,12 @@ marshalling xs store now bus =
     refuseIf (not (isStore store)) 5 0
     (refuseIf (some (λ r. ltb (8 * length bus) (routeEnd (l .signal) (l .route r))) (l .routes)) 12 0
     (gives (record { octets = marshalled l store now bus (l .routes); lives = count (live l store now) (l .routes) }))))
+
+-- what marshalling that is not refused tells
+pub record Marshals (xs store : List ℕ) (now : ℕ) (bus : List ℕ) (m : Marshalled) : Type 0 where
+  pub counts : Counts
+  pub accepted : judge xs ≡ gives counts
+  pub whole : length store ≡ storeOctets
+  pub room : (r : ℕ) → r < counts .routes → routeEnd (listOf xs counts .signal) (listOf xs counts .route r) ≤ 8 * length bus
+  pub octets : m .octets ≡ marshalled (listOf xs counts) store now bus (counts .routes)
+  pub lives : m .lives ≡ count (live (listOf xs counts) store now) (counts .routes)

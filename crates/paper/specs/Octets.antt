@@ -64,3 +64,10 @@ over l k m = take k l ++ (m ++ drop (k + length m) l)
 -- every element is an octet
 abbrev pub Octets : List ℕ → Type 0
 Octets l = (i : ℕ) → getD l i 0 < 256
+
+-- fields of one octet: the n bits of x from bit b, and x with the low n bits of v there; b + n is at most 8
+unfoldable pub fieldOf : ℕ → ℕ → ℕ → ℕ
+fieldOf x b n = x / 2 ^ (8 - (b + n)) % 2 ^ n
+
+unfoldable pub withField : ℕ → ℕ → ℕ → ℕ → ℕ
+withField x b n v = (x / 2 ^ (8 - b) * 2 ^ n + v % 2 ^ n) * 2 ^ (8 - (b + n)) + x % 2 ^ (8 - (b + n))

@@ -1,15 +1,17 @@
 -- Document 01, "Store, age and reading": reading one signal.
-use Prim.Native.Nat.{ℕ}
-use mathlib.Core.Bool.{Bool, not, cond, _&&_}
+use Prim.Native.Nat.{ℕ, _≤_, _<_}
+use mathlib.Core.Path.{_≡_}
+use mathlib.Core.Logic.{_⊎_}
+use mathlib.Core.Bool.{Bool, true, false, not, cond, _&&_}
 use mathlib.Core.List.{List, [], _∷_}
+use lib.ListN.{length}
 use lib.Dec.{ltb, leb, eqb}
 use Rattle.paper.specs.Octets.{field}
 use Rattle.paper.specs.Answer.{Answer, gives, refuseIf}
 use Rattle.paper.specs.First.{firstOf}
 use Rattle.paper.specs.Telegrams.{applicationType, telegramType, isType, versionOf, carries, error, ok, forced, undefined, markWidth}
-use Rattle.paper.specs.SignalList.{Signal, SignalList, underList}
-use Rattle.paper.specs.Extends.{knows, placeOf}
-use Rattle.paper.specs.Store.{Slot, slotOf, isStore, isVehicle, age, inTime}
+use Rattle.paper.specs.SignalList.{Signal, SignalList, Counts, judge, listOf, underList, knows, placeOf}
+use Rattle.paper.specs.Store.{vehicles, storeOctets, Slot, slotOf, isStore, isVehicle, age, inTime}
 
 -- "Reading gives a value and a reason."
 pub record Reading : Type 0 where
@@ -19,6 +21,23 @@ pub record Reading : Type 0 where
 -- "(1 = heard, all else not)"; "never heard (also a stored head with application type other than 1 or type not 1-3)"
 unfoldable pub heard : Slot → Bool
 heard s = eqb (s .heard) 1 && eqb (applicationType (s .telegram)) 1 && isType (telegramType (s .telegram))
+
+-- what a vehicle's slot says of its telegram: type, version and age; nothing (0) where it was never heard
+pub record Held : Type 0 where
+  pub heard : Bool
+  pub type : ℕ
+  pub version : ℕ
+  pub age : ℕ
+
+unfoldable pub heldIn : Slot → ℕ → Held
+heldIn s now =
+    cond (heard s)
+    (record { heard = true; type = telegramType (s .telegram); version = versionOf (s .telegram); age = age now (s .stamp) })
+    (record { heard = false; type = 0; version = 0; age = 0 })
+
+-- 5, 6
+unfoldable pub holding : List ℕ → ℕ → ℕ → Answer Held
+holding store now v = refuseIf (not (isStore store)) 5 0 (refuseIf (not (isVehicle v)) 6 0 (gives (heldIn (slotOf store v) now)))
 
 -- the mark over a signal in a telegram; where there is no check it counts as ok
 unfoldable pub markOf : SignalList → Signal → List ℕ → ℕ
@@ -66,3 +85,25 @@ reading xs store now v k =
     (refuseIf (not (isVehicle v)) 6 0
     (refuseIf (not (ltb k (l .signals))) 11 0
     (gives (readingAt l store now v k)))))
+
+-- ---- What is said of readings
+
+-- "A value is live exactly when its telegram was heard, is within its time limit, carries the signal and is new enough, its mark, if it
+-- has a check, is ok or forced, and the code is known."
+pub record Live (l : SignalList) (slot : Slot) (now k : ℕ) : Type 0 where
+  pub heard-from : heard slot ≡ true
+  pub in-time : inTime (age now (slot .stamp)) (l .signal k .limit) ≡ true
+  pub carried : carries (telegramType (slot .telegram)) (l .signal k .type) ≡ true
+  pub new-enough : l .signal k .since ≤ versionOf (slot .telegram)
+  pub mark : (markOf l (l .signal k) (slot .telegram) ≡ ok) ⊎ (markOf l (l .signal k) (slot .telegram) ≡ forced)
+  pub known : knows l k (codeOf (l .signal k) (slot .telegram)) ≡ true
+
+-- what a reading that is not refused tells
+pub record Reads (xs store : List ℕ) (now v k : ℕ) (r : Reading) : Type 0 where
+  pub counts : Counts
+  pub accepted : judge xs ≡ gives counts
+  pub whole : length store ≡ storeOctets
+  pub first : 1 ≤ v
+  pub last : v ≤ vehicles
+  pub there : k < counts .signals
+  pub is : readingOf (listOf xs counts) (slotOf store v) now k ≡ r

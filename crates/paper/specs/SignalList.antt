@@ -1,12 +1,12 @@
 -- Document 01, "The signal list": its entries, the rule of each, and the judging to number and offset.
 use Prim.Native.Nat.{ℕ, _+_, _-_, _*_, _%_, _^_}
-use mathlib.Core.Bool.{Bool, not, _&&_, _||_}
+use mathlib.Core.Bool.{Bool, not, cond, _&&_, _||_}
 use mathlib.Core.List.{List}
 use lib.ListN.{length, getD, drop}
 use lib.Dec.{ltb, leb, eqb}
 use Rattle.paper.specs.Octets.{number}
-use Rattle.paper.specs.Answer.{Answer, gives, refuseIf, andThen, shift}
-use Rattle.paper.specs.First.{firstBad, all, greatest}
+use Rattle.paper.specs.Answer.{Answer, gives, refused, refuseIf, andThen, shift}
+use Rattle.paper.specs.First.{firstBad, all, some, greatest}
 
 -- ---- Entries
 
@@ -260,6 +260,46 @@ listOf xs n = record {
   route = routeAt (routesPart xs n);
 }
 
+-- ---- What a list tells of its signals
+
+-- "The list's version is its greatest since-version, 1 if it has no signal."
+unfoldable pub version : SignalList → ℕ
+version l = greatestSince (l .signals) (l .signal)
+
+-- among the code entries there is one for signal k, and one that holds the code c of it
+unfoldable pub hasCodes : ℕ → (ℕ → Code) → ℕ → Bool
+hasCodes codes code k = some (λ e. eqb (code e .signal) k) codes
+
+unfoldable pub inRange : ℕ → (ℕ → Code) → ℕ → ℕ → Bool
+inRange codes code k c = some (λ e. eqb (code e .signal) k && leb (code e .low) c && leb c (code e .high)) codes
+
+-- "A signal with no entry knows every code."
+unfoldable pub knownIn : ℕ → (ℕ → Code) → ℕ → ℕ → Bool
+knownIn codes code k c = not (hasCodes codes code k) || inRange codes code k c
+
+unfoldable pub knows : SignalList → ℕ → ℕ → Bool
+knows l k c = knownIn (l .codes) (l .code) k c
+
+-- the place of the check that a signal names; no check lies at 0, which stands for none
+unfoldable pub placeOf : SignalList → Signal → ℕ
+placeOf l s = cond (eqb (s .check) 0) 0 (l .check (s .check - 1))
+
+-- ---- Calls that go by lists
+
 -- "1-4 come first as judging meets them": a call that goes by a list judges it, and goes on with what is accepted
 abbrev pub underList : {A : Type 0} → List ℕ → (SignalList → Answer A) → Answer A
 underList xs call = andThen (judge xs) (λ n. call (listOf xs n))
+
+-- what a call on two lists answers: a value, or the refusal of the first that is refused, and which that is
+pub data OfTwo (A : Type 0) : Type 0 where
+  ofBoth : A → OfTwo A
+  firstRefused : ℕ → ℕ → OfTwo A
+  secondRefused : ℕ → ℕ → OfTwo A
+
+abbrev pub ofTwo : {A B : Type 0} → Answer A → (ℕ → ℕ → OfTwo B) → (A → OfTwo B) → OfTwo B
+ofTwo (gives n) refusal call = call n
+ofTwo (refused m at) refusal call = refusal m at
+
+-- "of two lists, the first is judged first"
+abbrev pub underLists : {A : Type 0} → List ℕ → List ℕ → (SignalList → SignalList → A) → OfTwo A
+underLists xs ys call = ofTwo (judge xs) firstRefused (λ m. ofTwo (judge ys) secondRefused (λ n. ofBoth (call (listOf xs m) (listOf ys n))))

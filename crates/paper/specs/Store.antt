@@ -1,6 +1,7 @@
 -- Document 01, "Store, age and reading": the store, its slots, taking a telegram, and age.
-use Prim.Native.Nat.{ℕ, _+_, _-_, _*_, _%_}
-use mathlib.Core.Bool.{Bool, not, _&&_, _||_}
+use Prim.Native.Nat.{ℕ, _+_, _-_, _*_, _%_, _≤_}
+use mathlib.Core.Path.{_≡_}
+use mathlib.Core.Bool.{Bool, true, not, _&&_, _||_}
 use mathlib.Core.List.{List, _∷_, _++_}
 use lib.ListN.{length, getD, take, drop, replicate}
 use lib.Dec.{ltb, leb, eqb}
@@ -63,6 +64,15 @@ taking store v now telegram =
     (refuseIf (not (isType (telegramType telegram))) 9 0
     (refuseIf (not (eqb (length telegram) (typeLength (telegramType telegram)))) 10 0
     (gives (taken store v now telegram)))))))
+
+-- what a telegram that is taken meets
+pub record Takes (store : List ℕ) (v : ℕ) (telegram : List ℕ) : Type 0 where
+  pub whole : length store ≡ storeOctets
+  pub first : 1 ≤ v
+  pub last : v ≤ vehicles
+  pub application : applicationType telegram ≡ 1
+  pub typed : isType (telegramType telegram) ≡ true
+  pub long : length telegram ≡ typeLength (telegramType telegram)
 
 -- "The age is now less stamp, modulo 4,294,967,296."
 abbrev pub turn : ℕ

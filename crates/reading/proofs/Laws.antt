@@ -11,18 +11,18 @@ use borrow.Author.Tests.{le-leb, eq-eqb, ne-eqb}
 use Rattle.paper.specs.Answer.{Answer, gives, refused}
 use Rattle.paper.specs.First.{firstOf}
 use Rattle.paper.specs.Telegrams.{forced}
-use Rattle.paper.specs.SignalList.{Signal, SignalList, Counts, fieldEnd, checkAt, signalAt, signalsPart, listOf}
-use Rattle.paper.specs.Extends.{placeOf, knows}
+use Rattle.paper.specs.SignalList.{Signal, SignalList, Counts, fieldEnd, checkAt, signalAt, signalsPart, listOf, placeOf, knows}
 use Rattle.paper.specs.Store.{Slot, telegramOctets}
 use Rattle.paper.specs.Reading.{Reading, hindrances, reasonOf, readingOf, markOf, codeOf}
 use Rattle.paper.proofs.FirstLaws.{first-front, first-back, first-low}
-use Rattle.paper.proofs.ListLaws.{Laid, kept-of, SignalKept}
+use Rattle.paper.specs.Accepted.{Laid, SignalKept}
+use Rattle.paper.proofs.ListLaws.{kept-of}
 use Rattle.paper.proofs.AnswerLaws.{one-answer}
 use Rattle.refusals.proofs.Laws.{numbered, numbered-of}
 use Rattle.octets.specs.Fields.{Within}
 use Rattle.reading.specs.declared.ReadOutcome.{ReadOutcome}
 use Rattle.reading.specs.declared.ReadOutcome.the-variants.{Read, Refused}
-use Rattle.reading.specs.Reading.{readAnswer, slotTests, telegramTests, telegramReason, telegramReading}
+use Rattle.reading.specs.Reading.{readAnswer, slotTests, markTests, telegramReason, telegramReading}
 
 -- ---- a reading in its two parts
 
@@ -44,7 +44,7 @@ module _ (l : SignalList) (slot : Slot) (now k : ℕ) where
   unfolding readingOf reasonOf hindrances
   slot-reading h =
       let e : reasonOf l slot now k ≡ early =
-      first-front 1 (slotTests slot now (l .signal k)) (telegramTests mark known) (cond (eqb mark forced) 1 0) h in
+      first-front 1 (slotTests slot now (l .signal k)) (markTests mark known) (cond (eqb mark forced) 1 0) h in
       rw e (simp (le-leb 2 early (first-low 2 (slotTests slot now (l .signal k)) h)))
 
   -- none does
@@ -52,7 +52,7 @@ module _ (l : SignalList) (slot : Slot) (now k : ℕ) where
   unfolding readingOf reasonOf hindrances telegramReading
   telegram-reads h =
       let e : reasonOf l slot now k ≡ telegramReason mark known =
-      first-back 1 (slotTests slot now (l .signal k)) (telegramTests mark known) (cond (eqb mark forced) 1 0) h in
+      first-back 1 (slotTests slot now (l .signal k)) (markTests mark known) (cond (eqb mark forced) 1 0) h in
       ap (given (l .signal k) (slot .telegram)) (sym e)
 
 -- what the code puts together there

@@ -6,8 +6,7 @@ use lib.Dec.{ltb, leb, eqb}
 use Rattle.paper.specs.Answer.{Answer, gives, refuseIf}
 use Rattle.paper.specs.First.{firstOf}
 use Rattle.paper.specs.Telegrams.{telegramType, versionOf, carries, error, forced, undefined}
-use Rattle.paper.specs.SignalList.{Signal, SignalList}
-use Rattle.paper.specs.Extends.{knows}
+use Rattle.paper.specs.SignalList.{Signal, SignalList, knows}
 use Rattle.paper.specs.Store.{Slot, isStore, isVehicle, age, inTime}
 use Rattle.paper.specs.Reading as paper
 use Rattle.refusals.specs.Refusal.{refusalOf}
@@ -32,12 +31,12 @@ slotTests slot now s =
     ∷ []
 
 -- the tests of the reasons 6 to 8, which go by the mark and the code
-abbrev pub telegramTests : ℕ → Bool → List Bool
-telegramTests mark known = eqb mark error ∷ eqb mark undefined ∷ not known ∷ []
+abbrev pub markTests : ℕ → Bool → List Bool
+markTests mark known = eqb mark error ∷ eqb mark undefined ∷ not known ∷ []
 
 -- the first of them, else 0 or 1
 abbrev pub telegramReason : ℕ → Bool → ℕ
-telegramReason mark known = firstOf 6 (telegramTests mark known) (cond (eqb mark forced) 1 0)
+telegramReason mark known = firstOf 6 (markTests mark known) (cond (eqb mark forced) 1 0)
 
 -- what is read where none of the reasons 2 to 5 applies
 unfoldable pub telegramReading : SignalList → List ℕ → ℕ → paper.Reading

@@ -6,7 +6,7 @@ ghost use Rattle.paper.specs.First.{firstOf};
 ghost use Rattle.paper.specs.SignalList.{signalAt, signalsPart, listOf};
 ghost use Rattle.paper.specs.Store.{vehicles, telegramOctets, slotOctets, storeOctets, slotFrom};
 ghost use Rattle.paper.specs.Reading.{markOf, readingAt, reading};
-ghost use Rattle.paper.proofs.ListLaws.{Laid};
+ghost use Rattle.paper.specs.Accepted.{Laid};
 ghost use Rattle.entries.specs.Entries.{signalOf};
 ghost use Rattle.lists.specs.Judged.{countsOf};
 ghost use Rattle.known.specs.Known.{Entries};
@@ -40,10 +40,10 @@ fn slot_reason(slot: &[u8], clock: u32, s: Signal) -> u8
         return 3;
     }
     let t = store::telegram(slot);
-    if !store::is_carried(store::telegram_type(t), s.kind) {
+    if !telegrams::is_carried(telegrams::telegram_type(t), s.kind) {
         return 4;
     }
-    if store::data_version(t) < s.since {
+    if telegrams::data_version(t) < s.since {
         return 5;
     }
     0
@@ -163,13 +163,13 @@ fn read_under(
     ensures { λ r. ⌜ readAnswer r ≡ readingUnder (listOf (now (list .entry)) (countsOf n)) (now (store .entry)) clock vehicle signal ⌝ }
 {
     if !store::is_store(store) {
-        return ReadOutcome::Refused(Refusal::StoreLength);
+        return ReadOutcome::Refused(Refusal::STORE_LENGTH);
     }
     if !store::is_vehicle(vehicle) {
-        return ReadOutcome::Refused(Refusal::Vehicle);
+        return ReadOutcome::Refused(Refusal::VEHICLE);
     }
     if n.signals <= signal {
-        return ReadOutcome::Refused(Refusal::NoSuchSignal);
+        return ReadOutcome::Refused(Refusal::NO_SUCH_SIGNAL);
     }
     ReadOutcome::Read(read_at(list, n, store, clock, vehicle, signal))
 }

@@ -10,7 +10,7 @@ use lib.Dec.{leb}
 use lib.ListN.{length, drop, getD}
 use lib.Seq.{drop-cons, drop-length}
 use borrow.Author.Tests.{leb-true, le-leb, lt-leb}
-use Rattle.paper.proofs.ListLaws.{both}
+use Rattle.bools.proofs.Tests.{both}
 use Rattle.saying.specs.declared.argument.Number.the-variants.{Is, Not}
 use Rattle.saying.specs.Numbers.{andDigit, goesOn, numberFrom}
 

@@ -78,10 +78,10 @@ pub fn show(kind: Kind, width: u64, raw: u64) -> Showing
         return Showing::Shown(Shown::Code(raw));
     }
     if width != 16 {
-        return Showing::Refused(Refusal::ScaledKind);
+        return Showing::Refused(Refusal::SCALED_KIND);
     }
     if 65535 < raw {
-        return Showing::Refused(Refusal::ScaledKind);
+        return Showing::Refused(Refusal::SCALED_KIND);
     }
     Showing::Shown(value(kind, raw))
 }

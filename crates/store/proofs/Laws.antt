@@ -6,17 +6,21 @@ use native.Mathlib.Omega.{arith}
 use native.Mathlib.Numerals.{add-one}
 use lib.ListN.{length, set, take, drop, replicate, length-append, length-take, length-drop, length-replicate}
 use lib.Seq.{set-split}
-use Rattle.paper.specs.Answer.{gives, andThen}
+use Rattle.paper.specs.Answer.{Answer, gives, refused, andThen}
 use Rattle.paper.specs.Octets.{octetsOf, over}
-use Rattle.paper.specs.Store.{telegramOctets, slotHead, slotOctets, storeOctets, vehicles, slotStart, turn, age, slotTo, taken, taking}
-use Rattle.paper.proofs.AnswerLaws.{past}
+use Rattle.paper.specs.Store.{telegramOctets, slotHead, slotOctets, storeOctets, vehicles, slotStart, turn, age, slotTo, taken, taking, Takes}
+use Rattle.paper.specs.Reading as paper
+use Rattle.paper.proofs.AnswerLaws.{past, one-answer}
 use Rattle.paper.proofs.NumberLaws.{length-octetsOf, over-over}
-use Rattle.paper.proofs.StoreLaws.{Takes, takes}
+use Rattle.paper.proofs.StoreLaws.{takes}
 use Rattle.refusals.specs.declared.Refusal.{Refusal}
 use Rattle.refusals.specs.declared.Outcome.the-variants as O
 use Rattle.refusals.specs.Refusal.{refusalOf}
 use Rattle.refusals.specs.Outcome.{Written}
-use Rattle.store.specs.Store.{telegramTests, takingTests}
+use Rattle.refusals.proofs.Laws.{numbered, numbered-of}
+use Rattle.store.specs.declared.HeldOutcome.{HeldOutcome}
+use Rattle.store.specs.declared.HeldOutcome.the-variants as H
+use Rattle.store.specs.Store.{heldAnswer, telegramTests, takingTests}
 
 -- ---- the slot
 
@@ -66,6 +70,21 @@ module _ (store : List ℕ) (v now : ℕ) (telegram : List ℕ) where
 
   pub tested-takes : gives tt ≡ takingTests (length store) v telegram → Takes store v telegram
   tested-takes e = takes store v now telegram (taken store v now telegram) (rw (tested, ← e)) .0
+
+-- ---- what is held
+
+-- the outcome can be told from the paper's answer, so any two that the contract admits are equal
+told : Answer paper.Held → HeldOutcome
+told (gives h) = H.Held (record { heard = h .heard; kind = h .type; version = h .version; age = h .age })
+told (refused n at) = H.Refused (numbered n at)
+
+told-of : (r : HeldOutcome) → told (heldAnswer r) ≡ r
+unfolding told
+told-of (H.Held h) = refl
+told-of (H.Refused f) = ap H.Refused (numbered-of f)
+
+pub one-held : (a : Answer paper.Held) (v w : HeldOutcome) → heldAnswer v ≡ a → heldAnswer w ≡ a → v ≡ w
+one-held = one-answer heldAnswer told told-of
 
 -- ---- age
 

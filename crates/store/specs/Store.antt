@@ -1,4 +1,4 @@
--- The tests of taking a telegram, in the parts in which the code works them out.
+-- What a slot holds, as the paper says it, and the tests of taking a telegram in the parts in which the code works them out.
 use Prim.Native.Nat.{ℕ}
 use mathlib.Core.Bool.{not}
 use mathlib.Core.List.{List}
@@ -7,6 +7,18 @@ use lib.Dec.{ltb, eqb}
 use Rattle.paper.specs.Answer.{Answer, gives, refuseIf}
 use Rattle.paper.specs.Telegrams.{applicationType, telegramType, isType, typeLength}
 use Rattle.paper.specs.Store.{storeOctets, isVehicle}
+use Rattle.paper.specs.Reading as paper
+use Rattle.refusals.specs.Refusal.{refusalOf}
+use Rattle.store.specs.declared.Held.{Held}
+use Rattle.store.specs.declared.HeldOutcome.{HeldOutcome}
+use Rattle.store.specs.declared.HeldOutcome.the-variants as H
+
+abbrev pub asHeld : Held → paper.Held
+asHeld h = record { heard = h .heard; type = h .kind; version = h .version; age = h .age }
+
+abbrev pub heldAnswer : HeldOutcome → Answer paper.Held
+heldAnswer (H.Held h) = gives (asHeld h)
+heldAnswer (H.Refused f) = refusalOf f
 
 -- the tests of `taking`: those of the telegram alone, then all on a store of n octets
 unfoldable pub telegramTests : List ℕ → Answer (Unit {0})

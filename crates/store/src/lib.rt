@@ -2,23 +2,38 @@
 ghost use mathlib.Core.Path.{_≡_};
 ghost use Prim.Native.Nat.{_<_, _≤_};
 ghost use lib.ListN.{length, take, drop};
-ghost use Rattle.paper.specs.Telegrams.{applicationType, telegramType, isType, versionOf, typeLength, carries};
 ghost use Rattle.paper.specs.Store.{vehicles, telegramOctets, slotOctets, storeOctets, isStore, isVehicle, slotStart, slotFrom, taken, taking, age, inTime};
-ghost use Rattle.paper.specs.Reading.{heard};
+ghost use Rattle.paper.specs.Reading.{heard, heldIn, holding as heldOf};
 ghost use Rattle.refusals.specs.Outcome.{outcomeOf, Written};
-ghost use Rattle.store.specs.Store.{telegramTests, takingTests};
+ghost use Rattle.store.specs.Store.{asHeld, heldAnswer, telegramTests, takingTests};
 use refusals::Outcome;
 use refusals::Refusal;
 
-const VEHICLES: usize = 63;
+pub const VEHICLES: usize = 63;
 
-const TELEGRAM: usize = 128;
+// The longest telegram.
+pub const TELEGRAM: usize = 128;
 
+// The heard octet and the stamp.
 const HEAD: usize = 5;
 
 const SLOT: usize = HEAD + TELEGRAM;
 
-const STORE: usize = VEHICLES * SLOT;
+pub const STORE: usize = VEHICLES * SLOT;
+
+// Type, version and age of what was last heard of a vehicle; 0 where nothing was.
+pub struct Held {
+    pub heard: bool,
+    // The paper's type.
+    pub kind: usize,
+    pub version: usize,
+    pub age: u32,
+}
+
+pub enum HeldOutcome {
+    Held(Held),
+    Refused(Refusal),
+}
 
 pub fn is_store(store: &[u8]) -> bool
     ensures { λ r. ⌜ r ≡ isStore (now (store .entry)) ⌝ }
@@ -30,53 +45,6 @@ pub fn is_vehicle(vehicle: usize) -> bool
     ensures { λ r. ⌜ r ≡ isVehicle vehicle ⌝ }
 {
     (1 <= vehicle) & (vehicle <= VEHICLES)
-}
-
-pub fn is_type(kind: usize) -> bool
-    ensures { λ r. ⌜ r ≡ isType kind ⌝ }
-{
-    (1 <= kind) & (kind <= 3)
-}
-
-pub fn type_length(kind: usize) -> usize
-    ensures { λ r. ⌜ r ≡ typeLength kind ⌝ }
-{
-    if kind == 3 { 40 } else { 128 }
-}
-
-// Whether a telegram of a type carries a signal of a type.
-pub fn is_carried(telegram: usize, signal: usize) -> bool
-    ensures { λ r. ⌜ r ≡ carries telegram signal ⌝ }
-{
-    (signal == 0) | (signal == telegram)
-}
-
-// Inner: the first four bits of a telegram.
-pub fn application_type(telegram: &[u8]) -> usize
-    requires { ⌜ 2 ≤ length (now telegram) ⌝ }
-    ensures { λ r. ⌜ (r ≡ applicationType (now (telegram .entry))) × (r < 16) ⌝ }
-{
-    octets::read_field(telegram, 0, 4) as usize
-}
-
-// Inner: the next four.
-pub fn telegram_type(telegram: &[u8]) -> usize
-    requires { ⌜ 2 ≤ length (now telegram) ⌝ }
-    ensures { λ r. ⌜ (r ≡ telegramType (now (telegram .entry))) × (r < 16) ⌝ }
-{
-    octets::read_field(telegram, 4, 4) as usize
-}
-
-// Inner: octet 2, where 0 is read as 1.
-pub fn data_version(telegram: &[u8]) -> usize
-    requires { ⌜ 2 ≤ length (now telegram) ⌝ }
-    ensures { λ r. ⌜ (r ≡ versionOf (now (telegram .entry))) × (r < 256) ⌝ }
-{
-    let v = octets::wide(telegram[1]);
-    if v == 0 {
-        return 1;
-    }
-    v
 }
 
 // Inner: the octets of a vehicle's slot.
@@ -111,7 +79,44 @@ pub fn is_heard(slot: &[u8]) -> bool
     ensures { λ r. ⌜ r ≡ heard (slotFrom (now (slot .entry))) ⌝ }
 {
     let t = telegram(slot);
-    (slot[0] == 1) & (application_type(t) == 1) & is_type(telegram_type(t))
+    (slot[0] == 1)
+        & (telegrams::application_type(t) == 1)
+        & telegrams::is_type(telegrams::telegram_type(t))
+}
+
+// What a slot says of its telegram.
+fn held_in(slot: &[u8], clock: u32) -> Held
+    requires { ⌜ length (now slot) ≡ slotOctets ⌝ }
+    ensures { λ r. ⌜ asHeld r ≡ heldIn (slotFrom (now (slot .entry))) clock ⌝ }
+{
+    if !is_heard(slot) {
+        return Held {
+            heard: false,
+            kind: 0,
+            version: 0,
+            age: 0,
+        };
+    }
+    let t = telegram(slot);
+    Held {
+        heard: true,
+        kind: telegrams::telegram_type(t),
+        version: telegrams::data_version(t),
+        age: age(clock, stamp(slot)),
+    }
+}
+
+// What a vehicle's slot says of its telegram at `clock`. Refused: 5 and 6.
+pub fn holding(store: &[u8], clock: u32, vehicle: usize) -> HeldOutcome
+    ensures { λ r. ⌜ heldAnswer r ≡ heldOf (now (store .entry)) clock vehicle ⌝ }
+{
+    if !is_store(store) {
+        return HeldOutcome::Refused(Refusal::STORE_LENGTH);
+    }
+    if !is_vehicle(vehicle) {
+        return HeldOutcome::Refused(Refusal::VEHICLE);
+    }
+    HeldOutcome::Held(held_in(slot(store, vehicle), clock))
 }
 
 // A clock that went back gives a large age.
@@ -132,17 +137,17 @@ fn telegram_tests(telegram: &[u8]) -> Outcome
     ensures { λ r. ⌜ outcomeOf r ≡ telegramTests (now (telegram .entry)) ⌝ }
 {
     if telegram.len() < 2 {
-        return Outcome::Refused(Refusal::TelegramShort);
+        return Outcome::Refused(Refusal::TELEGRAM_SHORT);
     }
-    if application_type(telegram) != 1 {
-        return Outcome::Refused(Refusal::ApplicationType);
+    if telegrams::application_type(telegram) != 1 {
+        return Outcome::Refused(Refusal::APPLICATION_TYPE);
     }
-    let kind = telegram_type(telegram);
-    if !is_type(kind) {
-        return Outcome::Refused(Refusal::TelegramType);
+    let kind = telegrams::telegram_type(telegram);
+    if !telegrams::is_type(kind) {
+        return Outcome::Refused(Refusal::TELEGRAM_TYPE);
     }
-    if telegram.len() != type_length(kind) {
-        return Outcome::Refused(Refusal::TelegramLength);
+    if telegram.len() != telegrams::type_length(kind) {
+        return Outcome::Refused(Refusal::TELEGRAM_LENGTH);
     }
     Outcome::Done
 }
@@ -152,10 +157,10 @@ fn taking_tests(octets: usize, vehicle: usize, telegram: &[u8]) -> Outcome
     ensures { λ r. ⌜ outcomeOf r ≡ takingTests octets vehicle (now (telegram .entry)) ⌝ }
 {
     if octets != STORE {
-        return Outcome::Refused(Refusal::StoreLength);
+        return Outcome::Refused(Refusal::STORE_LENGTH);
     }
     if !is_vehicle(vehicle) {
-        return Outcome::Refused(Refusal::Vehicle);
+        return Outcome::Refused(Refusal::VEHICLE);
     }
     telegram_tests(telegram)
 }

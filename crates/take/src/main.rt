@@ -1,6 +1,9 @@
 // Takes a telegram of a vehicle into a store file, or makes a new store.
+use gateway::HeldOutcome;
+use gateway::Outcome;
+use gateway::STORE;
+use gateway::TELEGRAM;
 use libc::STDOUT_FILENO;
-use refusals::Outcome;
 use saying::Clock;
 use saying::Number;
 
@@ -10,7 +13,7 @@ fn help() {
         b"take STORE VEHICLE CLOCK TELEGRAM   takes a telegram of a vehicle into a store
 take new STORE                      makes a store in which no vehicle was heard
 
-STORE     the store: 8379 octets, 63 slots of 133
+STORE     a store, which `take new` makes
 VEHICLE   1 to 63
 CLOCK     the millisecond counter when the telegram was heard, 0 to 4294967295
 TELEGRAM  the octets of an R1 or R2 (128) or of an R3 (40)
@@ -24,28 +27,26 @@ then takes the name of STORE; while it is there no other take touches STORE.
 }
 
 fn make_store() {
-    let store = [0u8; 8379];
+    let store = [0u8; STORE];
     if files::make(2, b"STORE", &store) {
         io::write_all(STDOUT_FILENO, b"made a store, no vehicle heard\n");
     }
 }
 
-fn print_taken(vehicle: usize, clock: u32, telegram: &[u8]) {
-    if telegram.len() < 2 {
+fn print_taken(store: &[u8], vehicle: usize, clock: u32) {
+    let held = gateway::holding(store, clock, vehicle);
+    let HeldOutcome::Held(h) = held else {
         return;
-    }
+    };
     let l = saying::say(saying::empty(), b"taken ");
-    let l = words::say_telegram(l, store::telegram_type(telegram));
-    let l = saying::say_number(
-        saying::say(l, b" version "),
-        store::data_version(telegram) as u64,
-    );
+    let l = words::say_telegram(l, h.kind);
+    let l = saying::say_number(saying::say(l, b" version "), h.version as u64);
     let l = saying::say_number(saying::say(l, b" vehicle "), vehicle as u64);
     saying::print(saying::say_number(saying::say(l, b" at "), clock as u64));
 }
 
 fn take_store(fd: i32, vehicle: usize, clock: u32, telegram: &[u8], store: &mut [u8]) {
-    let outcome = store::take(store, vehicle, clock, telegram);
+    let outcome = gateway::take(store, vehicle, clock, telegram);
     match outcome {
         Outcome::Refused(f) => {
             files::drop_new(1, fd);
@@ -53,7 +54,7 @@ fn take_store(fd: i32, vehicle: usize, clock: u32, telegram: &[u8], store: &mut 
         }
         Outcome::Done => {
             if files::commit(1, b"STORE", fd, store) {
-                print_taken(vehicle, clock, telegram);
+                print_taken(store, vehicle, clock);
             }
         }
     }
@@ -61,7 +62,7 @@ fn take_store(fd: i32, vehicle: usize, clock: u32, telegram: &[u8], store: &mut 
 
 // The store is read and replaced while STORE.new, open as fd, keeps other takes away.
 fn take_into(fd: i32, vehicle: usize, clock: u32, telegram: &[u8]) {
-    let mut store = [0u8; 8380];
+    let mut store = [0u8; STORE + 1];
     let s = files::read(1, b"STORE", &mut store);
     if !s.ok {
         files::drop_new(1, fd);
@@ -78,7 +79,7 @@ fn take_words() {
     let Clock::At(clock) = saying::clock_argument(3) else {
         return;
     };
-    let mut telegram = [0u8; 129];
+    let mut telegram = [0u8; TELEGRAM + 1];
     let t = files::read(4, b"TELEGRAM", &mut telegram);
     if !t.ok {
         return;

@@ -13,7 +13,7 @@ use lib.Pow.{pow-mono}
 use Rattle.paper.specs.Answer.{Answer, gives, refused}
 use Rattle.paper.specs.Train.{Vehicle, Members, consistRule, isAddress, member, setTo, membersOf, resolving}
 use Rattle.paper.proofs.FirstLaws.{count-none, none-counted}
-use Rattle.paper.proofs.ListLaws.{neither}
+use Rattle.bools.proofs.Tests.{neither}
 use Rattle.paper.proofs.AnswerLaws.{refuses, goes-past, not-here, last-here, one-answer}
 use Rattle.refusals.proofs.Laws.{numbered, numbered-of}
 use Rattle.train.specs.declared.Resolved.{Resolved}

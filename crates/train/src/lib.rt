@@ -140,21 +140,21 @@ pub fn resolve(marks: &[u8], address: u64) -> Resolved
     ensures { λ r. ⌜ resolvedAnswer r ≡ resolving (map vehicleOf (now (marks .entry))) address ⌝ }
 {
     if marks.len() == 0 {
-        return Resolved::Refused(Refusal::ConsistLength);
+        return Resolved::Refused(Refusal::CONSIST_LENGTH);
     }
     if 63 < marks.len() {
-        return Resolved::Refused(Refusal::ConsistLength);
+        return Resolved::Refused(Refusal::CONSIST_LENGTH);
     }
     if !consist_ok(marks) {
-        return Resolved::Refused(Refusal::ConsistRule);
+        return Resolved::Refused(Refusal::CONSIST_RULE);
     }
     if !is_address(address) {
-        return Resolved::Refused(Refusal::AddressUnlisted);
+        return Resolved::Refused(Refusal::ADDRESS_UNLISTED);
     }
     let set = set_of(marks, address);
     let size = u64::count_ones(set);
     if size == 0 {
-        return Resolved::Refused(Refusal::NobodyMeets);
+        return Resolved::Refused(Refusal::NOBODY_MEETS);
     }
     Resolved::Members(Members { set, size })
 }

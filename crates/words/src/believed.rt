@@ -1,10 +1,10 @@
 // What stands in a store, and what is read out of it, in words.
-ghost use mathlib.Core.Path.{_≡_};
 ghost use Prim.Native.Nat.{_≤_, _<_};
-ghost use lib.ListN.{length};
-ghost use Rattle.paper.specs.Store.{slotOctets};
 use crate::said::say_reason;
 use crate::said::say_telegram;
+use gateway::Held;
+use gateway::HeldOutcome;
+use gateway::VEHICLES;
 use saying::Line;
 use saying::empty;
 use saying::print;
@@ -13,47 +13,18 @@ use saying::say;
 use saying::say_number;
 use saying::say_right;
 
-// What a vehicle's slot holds.
-struct Held {
-    pub heard: bool,
-    pub kind: usize,
-    pub version: usize,
-    pub age: u32,
-}
-
-fn nothing() -> Held {
-    Held {
-        heard: false,
-        kind: 0,
-        version: 0,
-        age: 0,
-    }
-}
-
-fn held_in(slot: &[u8], clock: u32) -> Held
-    requires { ⌜ length (now slot) ≡ slotOctets ⌝ }
-{
-    if !store::is_heard(slot) {
-        return nothing();
-    }
-    let t = store::telegram(slot);
-    Held {
-        heard: true,
-        kind: store::telegram_type(t),
-        version: store::data_version(t),
-        age: store::age(clock, store::stamp(slot)),
-    }
-}
-
 // What is held of a vehicle: nothing in what is no store.
 fn held_of(store: &[u8], clock: u32, vehicle: usize) -> Held {
-    if !store::is_store(store) {
-        return nothing();
+    let held = gateway::holding(store, clock, vehicle);
+    match held {
+        HeldOutcome::Held(h) => h,
+        HeldOutcome::Refused(_) => Held {
+            heard: false,
+            kind: 0,
+            version: 0,
+            age: 0,
+        },
     }
-    if !store::is_vehicle(vehicle) {
-        return nothing();
-    }
-    held_in(store::slot(store, vehicle), clock)
 }
 
 // The head line of a vehicle.
@@ -83,7 +54,7 @@ fn say_never(line: Line, store: &[u8], vehicle: usize) -> Line
     if (vehicle == 1) | is_heard(store, vehicle - 1) {
         return say_number(put(line, b' '), vehicle as u64);
     }
-    if (vehicle == 63) | is_heard(store, vehicle + 1) {
+    if (vehicle == VEHICLES) | is_heard(store, vehicle + 1) {
         return say_number(put(line, b'-'), vehicle as u64);
     }
     line
@@ -92,7 +63,7 @@ fn say_never(line: Line, store: &[u8], vehicle: usize) -> Line
 fn say_ranges(line: Line, store: &[u8]) -> Line {
     let mut l = line;
     let mut v = 1;
-    while v < 64 {
+    while v <= VEHICLES {
         l = say_never(l, store, v);
         v += 1;
     }

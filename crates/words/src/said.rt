@@ -1,5 +1,6 @@
 // Document 01's reasons, refusals and places in words.
-use refusals::Refusal;
+use gateway::Refusal;
+use gateway::STORE;
 use saying::Line;
 use saying::empty;
 use saying::print;
@@ -99,9 +100,22 @@ fn say_list_refusal(line: Line, number: u8) -> Line {
     }
 }
 
+// A number below a million, its thousands set off by a comma.
+fn say_grouped(line: Line, n: u64) -> Line {
+    if n < 1000 {
+        return say_number(line, n);
+    }
+    let l = put(say_number(line, n / 1000), b',');
+    let l = say_number(l, n / 100 % 10);
+    say_number(say_number(l, n / 10 % 10), n % 10)
+}
+
 fn say_taking_refusal(line: Line, number: u8) -> Line {
     match number {
-        5 => say(line, b"store not 8,379 octets"),
+        5 => say(
+            say_grouped(say(line, b"store not "), STORE as u64),
+            b" octets",
+        ),
         6 => say(line, b"vehicle not 1-63"),
         7 => say(line, b"R-telegram under 2 octets"),
         8 => say(line, b"application type not 1"),
@@ -149,9 +163,9 @@ fn say_carried(line: Line, number: u8, carried: usize) -> Line {
 
 // `of` says which file of several was refused.
 pub fn print_refused_of(f: Refusal, of: &[u8]) {
-    let number = refusals::number(f);
+    let number = gateway::number(f);
     let l = say_number(say(empty(), b"refused "), number as u64);
-    let l = say(say_carried(l, number, refusals::carried(f)), of);
+    let l = say(say_carried(l, number, gateway::carried(f)), of);
     print(say_refusal(say(l, b": "), number));
 }
 

@@ -100,8 +100,8 @@ pub fn read(
     unless_refused(r.refusal, r.carried, reading)
 }
 
-/// Writes every route's value into its field of the data and gives the number of live ones. Refusals 1 to 5, 12.
-pub fn marshal(list: &[u8], store: &[u8], now: u32, data: &mut [u8]) -> Result<u64, Refusal> {
+/// Writes every route's value into its field of the vehicle bus data and gives the number of live ones. Refusals 1 to 5, 12.
+pub fn marshal(list: &[u8], store: &[u8], now: u32, bus: &mut [u8]) -> Result<u64, Refusal> {
     let r = unsafe {
         raw::df_marshal(
             list.as_ptr(),
@@ -109,8 +109,8 @@ pub fn marshal(list: &[u8], store: &[u8], now: u32, data: &mut [u8]) -> Result<u
             store.as_ptr(),
             store.len(),
             now,
-            data.as_mut_ptr(),
-            data.len(),
+            bus.as_mut_ptr(),
+            bus.len(),
         )
     };
     unless_refused(r.refusal, r.carried, r.lives)

@@ -115,8 +115,8 @@ extern "C" {
         store: *const u8,
         store_len: usize,
         clock: u32,
-        data: *mut u8,
-        data_len: usize,
+        bus: *mut u8,
+        bus_len: usize,
     ) -> df_marshalled;
 
     pub fn df_compose(

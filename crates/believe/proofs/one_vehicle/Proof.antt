@@ -5,10 +5,10 @@ use Rattle.believe.proofs.one_vehicle.Statement.{statement}
 use Rattle.believe.proofs.one_vehicle.Tie as tie
 
 abbrev Inv-loop : tie.InvT-loop
-Inv-loop list n store clock vehicle t₀ k₀ t k = Unit {0}
+Inv-loop list signals store clock vehicle t₀ k₀ t k = Unit {0}
 
 abbrev μ-loop : tie.MeasureT-loop
-μ-loop list n store clock vehicle t₀ k₀ t k = n .signals - k
+μ-loop list signals store clock vehicle t₀ k₀ t k = signals - k
 
 pub one-vehicle-spec : {M : Type 1} → statement M
 one-vehicle-spec =
@@ -19,6 +19,9 @@ one-vehicle-spec =
     (λ c κs. search needs)
     (λ c. search needs)
     (λ c κs. search needs)
+    (λ c. search needs)
+    (λ c κs. search needs)
+    (λ c. search needs)
     (λ c. search needs)
     (λ c. search needs)
     (λ c. search needs)

@@ -6,13 +6,10 @@ use Rattle.compose.proofs.compose_under.Statement.{statement}
 use Rattle.compose.proofs.compose_under.Tie as tie
 
 slice-aggregate-compose-given : tie.Need-slice-aggregate-compose-given
-slice-aggregate-compose-given c = simp length-take (omega (arith, c .before .before .before .before .before .pre .signals .opens .within))
+slice-aggregate-compose-given c = simp length-take (omega arith)
 
 slice-aggregate-compose-given-2 : tie.Need-slice-aggregate-compose-given-2
-slice-aggregate-compose-given-2 c = simp length-take (omega (arith, c .before .before .before .before .before .before .pre .checks .opens .within))
-
-compose-given-requires : tie.Need-compose-given-requires
-compose-given-requires c κs = (search needs, simp length-take (omega arith))
+slice-aggregate-compose-given-2 c = simp length-take (omega arith)
 
 pub compose-under-spec : {M : Type 1} → statement M
 compose-under-spec =
@@ -24,5 +21,5 @@ compose-under-spec =
     slice-aggregate-compose-given
     (λ c. search needs)
     slice-aggregate-compose-given-2
-    compose-given-requires
+    (λ c κs. search needs)
     (λ c. search needs))

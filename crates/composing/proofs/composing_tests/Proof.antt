@@ -13,7 +13,7 @@ use Rattle.paper.specs.Telegrams.{isType}
 use Rattle.paper.specs.SignalList.{SignalList, listOf}
 use Rattle.paper.specs.Composing.{markFits, valueFits}
 use Rattle.paper.proofs.AnswerLaws.{refuses, goes-past}
-use Rattle.paper.proofs.ListLaws.{both}
+use Rattle.bools.proofs.Tests.{both}
 use Rattle.lists.specs.Judged.{countsOf}
 use Rattle.composing.specs.Composing.{composingTests}
 use Rattle.composing.proofs.composing_tests.Statement.{statement}

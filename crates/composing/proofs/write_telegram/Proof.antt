@@ -6,8 +6,7 @@ use native.Mathlib.Omega.{arith}
 use denote.Ref.{now}
 use borrow.Author.Needs.{needs}
 use Rattle.paper.specs.Octets.{puts}
-use Rattle.paper.specs.SignalList.{listOf}
-use Rattle.paper.specs.Extends.{version}
+use Rattle.paper.specs.SignalList.{listOf, version}
 use Rattle.paper.specs.Composing.{signalPut, checkPut, composed}
 use Rattle.paper.proofs.ListLaws.{kept-of}
 use Rattle.paper.proofs.ComposingLaws.{version-octet}

@@ -1,13 +1,37 @@
--- `differ::one_vehicle` is safe and ends. Assumes nothing.
+-- `differ::one_vehicle` is safe and ends: each pair's key is past the one before. Assumes nothing.
+use Prim.Native.Nat.{_-_, _≤_, _<_}
+use mathlib.Core.Path.{sym, ap, _∙_}
+use native.Mathlib.Omega.{arith}
+use denote.Ref.{now}
 use borrow.Author.Needs.{needs}
+use Rattle.paper.specs.Pairs.{signalKeys}
+use Rattle.paper.proofs.PairLaws.{pairing-within}
+use Rattle.pairing.specs.Pairing.{pairingAnswer, pairOf}
 use Rattle.differ.proofs.one_vehicle.Statement.{statement}
 use Rattle.differ.proofs.one_vehicle.Tie as tie
 
 abbrev Inv-loop : tie.InvT-loop
-Inv-loop first n second m store clock vehicle at₀ turns₀ at turns = Unit {0}
+Inv-loop first second store clock vehicle count₀ key₀ count key = Unit {0}
 
 abbrev μ-loop : tie.MeasureT-loop
-μ-loop first n second m store clock vehicle at₀ turns₀ at turns = turns
+μ-loop first second store clock vehicle count₀ key₀ count key = signalKeys - key
+
+-- where the next pair is known
+abbrev paired : tie.After-struct-known Inv-loop μ-loop → tie.After-pairing Inv-loop μ-loop
+paired c = c .before .before .before .before .before
+
+-- it lies where it was looked for
+within : (c : tie.After-pairing Inv-loop μ-loop)
+    → (c .before .before .before .before .loop .key ≤ c .pairing .given .0 .0 .key) × (c .pairing .given .0 .0 .key < signalKeys)
+within c =
+    let f = c .before .before in
+    pairing-within _ _ (f .before .before .loop .key) (pairOf (c .pairing .given .0 .0)) (sym (f .pair-from .ensures) ∙ ap pairingAnswer (c .pairing .given .1))
+
+add-key : tie.Need-add-key Inv-loop μ-loop
+add-key c = omega (arith, within (paired c) .1)
+
+loop-less : tie.Need-loop-less Inv-loop μ-loop
+loop-less c = omega (arith, within (paired c) .0, within (paired c) .1)
 
 pub one-vehicle-spec : {M : Type 1} → statement M
 one-vehicle-spec =
@@ -20,5 +44,10 @@ one-vehicle-spec =
     (λ c κs. search needs)
     (λ c. search needs)
     (λ c. search needs)
+    (λ c κs. search needs)
+    (λ c κs. search needs)
+    (λ c κs. search needs)
+    add-key
+    loop-less
     (λ c. search needs)
     (λ c. search needs))

@@ -1,4 +1,4 @@
-use borrow.Author.Tests.{lt-ltb, le-ltb, lt-leb}
+use borrow.Author.Tests.{lt-ltb, le-ltb, le-leb, lt-leb}
 use borrow.Author.Needs.{needs}
 use Rattle.entries.specs.Entries.{codeKeeps}
 use Rattle.entries.proofs.code_rule.Statement.{statement}
@@ -16,7 +16,7 @@ returns-3 : tie.Need-returns-3
 unfolding codeKeeps
 returns-3 c =
     let w = c .before .before .before .before in
-    rw (lt-ltb _ _ (w .before .if1 .left), ← (w .width-of .ensures .is), ← (c .before .pow2 .ensures), ← (c .in-order .ensures))
+    rw (lt-ltb _ _ (w .before .if1 .left), ← (w .width-of .ensures .is), le-leb _ _ (c .before .before .before .if2 .left), ← (c .before .pow2 .ensures), ← (c .in-order .ensures))
 
 pub code-rule-spec : {M : Type 1} → statement M
 code-rule-spec =

@@ -1,5 +1,5 @@
-use mathlib.Core.Bool.{and-false}
-use borrow.Author.Tests.{lt-leb}
+use mathlib.Core.Bool.{and-true, and-false}
+use borrow.Author.Tests.{lt-leb, le-leb}
 use borrow.Author.Needs.{needs}
 use Rattle.entries.specs.Entries.{ownRule}
 use Rattle.entries.proofs.signal_own.Statement.{statement}
@@ -13,7 +13,7 @@ returns-2 : tie.Need-returns-2
 unfolding ownRule
 returns-2 c =
     let v = c .before in
-    rw (← (v .before .before .place-rule .ensures), ← (v .before .named-rule .ensures), ← (v .value-rule .ensures), ← (c .in-order .ensures))
+    rw (le-leb _ _ (v .before .before .before .before .if1 .left), and-true, ← (v .before .before .place-rule .ensures), ← (v .before .named-rule .ensures), ← (v .value-rule .ensures), ← (c .in-order .ensures))
 
 pub signal-own-spec : {M : Type 1} → statement M
 signal-own-spec =

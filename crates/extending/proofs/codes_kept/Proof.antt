@@ -6,9 +6,9 @@ use native.Mathlib.Omega.{arith}
 use lib.Pow.{pow-pos}
 use denote.Ref.{now}
 use borrow.Author.Needs.{needs}
-use Rattle.paper.specs.SignalList.{Signal}
-use Rattle.paper.specs.Extends.{hasCodes}
-use Rattle.paper.proofs.ListLaws.{Kept, kept-of}
+use Rattle.paper.specs.SignalList.{Signal, hasCodes}
+use Rattle.paper.specs.Accepted.{Kept}
+use Rattle.paper.proofs.ListLaws.{kept-of}
 use Rattle.known.proofs.Laws.{ordered-of, has-none, has-some}
 use Rattle.extending.specs.Extending.{listed, rangeKept}
 use Rattle.extending.proofs.Laws.{kept-all, kept-ranges, kept-whole}

@@ -5,12 +5,13 @@ use native.Mathlib.Omega.{arith}
 use denote.Ref.{now}
 use borrow.Author.Needs.{needs}
 use borrow.Author.Tests.{not-true, not-false}
-use Rattle.paper.specs.SignalList.{SignalList}
-use Rattle.paper.specs.Extends.{version}
-use Rattle.paper.proofs.ListLaws.{Kept, kept-of}
+use Rattle.paper.specs.Pairs.{signalKey}
+use Rattle.paper.specs.SignalList.{SignalList, version}
+use Rattle.paper.specs.Accepted.{Kept}
+use Rattle.paper.proofs.ListLaws.{kept-of}
 use Rattle.known.specs.Known.{From}
 use Rattle.known.proofs.Laws.{ordered-of, past-own, from-later, from-none}
-use Rattle.extending.specs.Extending.{listed, signalKey, signalKeys, Newer}
+use Rattle.extending.specs.Extending.{listed, Newer}
 use Rattle.extending.proofs.Laws.{Along, along-none, along-newer, along-kept, stands-nowhere, not-along, all-along}
 use Rattle.extending.proofs.compared.Statement.{statement}
 use Rattle.extending.proofs.compared.Tie as tie
@@ -37,7 +38,7 @@ kept-b c = kept-of _ _ (c .pre .1)
 newer : (c : tie.After-past-newer Inv-loop μ-loop) →
     let l = c .before .before .before .before .before in
     let s = l .before .before .before in
-    Newer (second s) (l .loop .j) (signalKeys (first s) (l .loop .i)) (version (first s)) (c .past-newer .result)
+    Newer (second s) (l .loop .j) (signalKey (first s .signal (l .loop .i))) (version (first s)) (c .past-newer .result)
 unfolding version
 newer c =
     let k = c .before in
@@ -93,7 +94,8 @@ returns-2 c =
     let p = e .before .before in
     let t = p .before .before .before in
     let s = t .before .before .before .before .before in
-    not-along _ _ (kept-a s) (kept-b s) _ _ (along p) (t .if1 .taken) (e .if2 .left) (newer p .stops (e .if2 .left)) (sym (k .keeps-at .ensures) ∙ not-true _ (c .if3 .taken))
+    not-along _ _ (kept-a s) (kept-b s) _ _ (along p) (t .if1 .taken) (e .if2 .left) (newer p .stops (e .if2 .left))
+    (sym (k .keeps-at .ensures) ∙ not-true _ (c .if3 .taken))
 
 add-i : tie.Need-add-i Inv-loop μ-loop
 add-i c =

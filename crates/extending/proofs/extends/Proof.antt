@@ -7,11 +7,12 @@ use Rattle.paper.specs.SignalList.{judge}
 use Rattle.paper.specs.Extends.{extendsLists}
 use Rattle.lists.specs.Judged.{countsOf, judgedAnswer}
 use Rattle.lists.proofs.Laws.{accepted-laid}
-use Rattle.extending.proofs.Laws.{by-refusal, by-given}
+use Rattle.paper.proofs.AnswerLaws.{by-refusal, by-given}
 use Rattle.extending.proofs.extends.Statement.{statement}
 use Rattle.extending.proofs.extends.Tie as tie
 
-told : (c : tie.After-known-told2) → gives (countsOf (c .before .judged2 .given .0 .0)) ≡ judge (now (c .before .before .before .before .before .before .args .a))
+told : (c : tie.After-known-told2)
+    → gives (countsOf (c .before .judged2 .given .0 .0)) ≡ judge (now (c .before .before .before .before .before .before .args .a))
 told c = sym (ap judgedAnswer (c .before .judged2 .given .1)) ∙ c .before .before .before .judge .ensures
 
 extends-accepted-requires : tie.Need-extends-accepted-requires

@@ -4,9 +4,10 @@ use mathlib.Core.Path.{_≡_, ap, ap₂, _∙_}
 use native.Mathlib.Omega.{arith}
 use denote.Ref.{now}
 use borrow.Author.Needs.{needs}
-use Rattle.paper.specs.SignalList.{Signal}
-use Rattle.paper.specs.Extends.{placeOf, keeps}
-use Rattle.paper.proofs.ListLaws.{kept-of, stops-short, asks-on}
+use Rattle.paper.specs.SignalList.{Signal, placeOf}
+use Rattle.paper.specs.Extends.{keeps}
+use Rattle.paper.proofs.ListLaws.{kept-of}
+use Rattle.bools.proofs.Tests.{stops-short, asks-on}
 use Rattle.extending.specs.Extending.{listed, agreed}
 use Rattle.extending.proofs.keeps_at.Statement.{statement}
 use Rattle.extending.proofs.keeps_at.Tie as tie
@@ -15,14 +16,16 @@ place-in-requires : tie.Need-place-in-requires
 place-in-requires c κs =
     let s = c .before .before .before .before in (
       s .pre .0 .0,
-      omega (arith, ap (λ (x : Signal). x .check) (c .before .signal-in .ensures .is), kept-of _ _ (s .pre .0 .0) .signal (s .args .i) (s .pre .0 .1) .named .exists),
+      omega
+          (arith, ap (λ (x : Signal). x .check) (c .before .signal-in .ensures .is), kept-of _ _ (s .pre .0 .0) .signal (s .args .i) (s .pre .0 .1) .named .exists),
     )
 
 place-in-requires-2 : tie.Need-place-in-requires-2
 place-in-requires-2 c κs =
     let s = c .before .before .before .before .before in (
       s .pre .1 .0,
-      omega (arith, ap (λ (x : Signal). x .check) (c .before .signal-in2 .ensures .is), kept-of _ _ (s .pre .1 .0) .signal (s .args .j) (s .pre .1 .1) .named .exists),
+      omega
+          (arith, ap (λ (x : Signal). x .check) (c .before .signal-in2 .ensures .is), kept-of _ _ (s .pre .1 .0) .signal (s .args .j) (s .pre .1 .1) .named .exists),
     )
 
 tested : (c : tie.After-agrees) →

@@ -8,15 +8,16 @@ use lib.Dec.{ltb}
 use denote.Ref.{now}
 use borrow.Author.Needs.{needs}
 use borrow.Author.Tests.{ltb-true, not-true, not-false}
+use Rattle.paper.specs.Pairs.{signalKey}
 use Rattle.paper.specs.SignalList.{Signal}
-use Rattle.paper.proofs.ListLaws.{both}
-use Rattle.extending.specs.Extending.{listed, signalKey, signalKeys}
+use Rattle.bools.proofs.Tests.{both}
+use Rattle.extending.specs.Extending.{listed}
 use Rattle.extending.proofs.past_newer.Statement.{statement}
 use Rattle.extending.proofs.past_newer.Tie as tie
 
 abbrev Inv-loop : tie.InvT-loop
 Inv-loop list n j key version k₀ k =
-    (j ≤ k) × (k ≤ n .signals) × ((g : ℕ) → j ≤ g → g < k → (signalKeys (listed list n) g < key) × (version < listed list n .signal g .since))
+    (j ≤ k) × (k ≤ n .signals) × ((g : ℕ) → j ≤ g → g < k → (signalKey (listed list n .signal g) < key) × (version < listed list n .signal g .since))
 
 abbrev μ-loop : tie.MeasureT-loop
 μ-loop list n j key version k₀ k = n .signals - k
@@ -25,8 +26,9 @@ tested : (c : tie.After-struct-known2 Inv-loop μ-loop) →
     let r = c .before .before in
     let l = r .before .before .before in
     let a = l .before .before .args in
+    let s = listed (now (a .list)) (a .n) .signal (l .loop .k) in
     (ltb (c .before .signal-key .result) (a .key) && ltb (a .version) (r .signal-in .result .since))
-    ≡ (ltb (signalKeys (listed (now (a .list)) (a .n)) (l .loop .k)) (a .key) && ltb (a .version) (listed (now (a .list)) (a .n) .signal (l .loop .k) .since))
+    ≡ (ltb (signalKey s) (a .key) && ltb (a .version) (s .since))
 tested c =
     let r = c .before .before in
     let a = r .before .before .before .before .before .args in

@@ -7,8 +7,9 @@ use denote.Ref.{now}
 use borrow.Author.Needs.{needs}
 use Rattle.paper.specs.SignalList.{Code}
 use Rattle.paper.proofs.ListLaws.{kept-of}
+use Rattle.paper.specs.Search.{Cut}
 use Rattle.lists.specs.Judged.{countsOf}
-use Rattle.known.specs.Known.{codeKeys, Cut}
+use Rattle.known.specs.Known.{codeKeys}
 use Rattle.known.proofs.Laws.{laid-ordered, own-between}
 use Rattle.extending.specs.Extending.{listed}
 use Rattle.extending.proofs.Laws.{range-none, range-found}

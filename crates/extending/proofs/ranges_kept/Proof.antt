@@ -6,7 +6,8 @@ use denote.Ref.{now}
 use borrow.Author.Needs.{needs}
 use Rattle.paper.specs.SignalList.{Code, SignalList}
 use Rattle.paper.proofs.LoopLaws.{Passed, passed-more, not-all-here, passes-on}
-use Rattle.paper.proofs.ListLaws.{Kept, kept-of}
+use Rattle.paper.specs.Accepted.{Kept}
+use Rattle.paper.proofs.ListLaws.{kept-of}
 use Rattle.extending.specs.Extending.{listed, rangeKept, entryKept, rangesKept}
 use Rattle.extending.proofs.Laws.{entry-before, entry-past, entry-within}
 use Rattle.extending.proofs.ranges_kept.Statement.{statement}

@@ -5,9 +5,11 @@ use native.Mathlib.Omega.{arith}
 use denote.Ref.{now}
 use borrow.Author.Needs.{needs}
 use Rattle.paper.specs.SignalList.{listOf}
+use Rattle.paper.specs.Search.{Between, Rises}
+use Rattle.paper.proofs.SearchLaws.{none-between, low-raised, high-lowered}
 use Rattle.lists.specs.Judged.{countsOf}
-use Rattle.known.specs.Known.{codeKey, codeKeys, Between}
-use Rattle.known.proofs.Laws.{Rising, none-between, low-raised, high-lowered, codes-rise, laid-ordered}
+use Rattle.known.specs.Known.{codeKey, codeKeys}
+use Rattle.known.proofs.Laws.{codes-rise, laid-ordered}
 use Rattle.known.proofs.first_code.Statement.{statement}
 use Rattle.known.proofs.first_code.Tie as tie
 
@@ -17,7 +19,7 @@ Inv-loop list n from to key low₀ high₀ low high = Between (codeKeys (listOf 
 abbrev μ-loop : tie.MeasureT-loop
 μ-loop list n from to key low₀ high₀ low high = high - low
 
-rise : (c : tie.Start Inv-loop μ-loop) → Rising (codeKeys (listOf (now (c .args .list)) (countsOf (c .args .n)) .code)) (c .args .n .codes)
+rise : (c : tie.Start Inv-loop μ-loop) → Rises (codeKeys (listOf (now (c .args .list)) (countsOf (c .args .n)) .code)) (c .args .n .codes)
 rise c = codes-rise _ _ (laid-ordered (now (c .args .list)) (countsOf (c .args .n)) (c .pre .0))
 
 middle : (c : tie.After-code-key Inv-loop μ-loop) →

@@ -4,8 +4,7 @@ use native.Mathlib.Omega.{arith}
 use lib.Dec.{leb}
 use denote.Ref.{now}
 use borrow.Author.Needs.{needs}
-use Rattle.paper.specs.SignalList.{Code, listOf}
-use Rattle.paper.specs.Extends.{knows as listKnows}
+use Rattle.paper.specs.SignalList.{Code, listOf, knows as listKnows}
 use Rattle.lists.specs.Judged.{countsOf}
 use Rattle.known.specs.Known.{Ordered}
 use Rattle.known.proofs.Laws.{laid-ordered, knows-all, knows-below, own-between, knows-past, knows-here}

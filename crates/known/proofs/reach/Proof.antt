@@ -5,9 +5,10 @@ use native.Mathlib.Omega.{arith}
 use denote.Ref.{now}
 use borrow.Author.Needs.{needs}
 use Rattle.paper.specs.SignalList.{Code, listOf}
+use Rattle.paper.proofs.SearchLaws.{none-between}
 use Rattle.lists.specs.Judged.{countsOf}
 use Rattle.known.specs.Known.{From}
-use Rattle.known.proofs.Laws.{none-between, laid-ordered, reach-more, reach-here}
+use Rattle.known.proofs.Laws.{laid-ordered, reach-more, reach-here}
 use Rattle.known.proofs.reach.Statement.{statement}
 use Rattle.known.proofs.reach.Tie as tie
 

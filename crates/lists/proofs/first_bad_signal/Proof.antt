@@ -10,7 +10,7 @@ use denote.Ref.{now}
 use borrow.Author.Tests.{ltb-true}
 use borrow.Author.Needs.{needs}
 use Rattle.paper.specs.SignalList.{Signal, fieldEnd, entry, signalSize, checkAt, signalAt, signalRule}
-use Rattle.paper.proofs.ListLaws.{both}
+use Rattle.bools.proofs.Tests.{both}
 use Rattle.paper.proofs.LoopLaws.{Passed, passed-none, passed-more, fails-here, fails-nowhere}
 use Rattle.entries.specs.Entries.{signalOf}
 use Rattle.entries.proofs.Laws.{Before, before-first, before-next, own-breaks, own-passes}

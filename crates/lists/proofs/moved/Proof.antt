@@ -10,7 +10,7 @@ use Rattle.lists.proofs.moved.Tie as tie
 shifted-requires : tie.Need-shifted-requires
 shifted-requires c κs =
     let w = rw (c .before .rest2 .given .1) at (c .before .before .before .pre) in
-    (w .0, omega (arith, w .1))
+    omega (arith, w)
 
 returns : tie.Need-returns
 returns c = rw (c .before .rest .given .1)

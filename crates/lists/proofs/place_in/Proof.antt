@@ -1,7 +1,7 @@
 -- `lists::place_in` meets its contract. Assumes nothing.
 use borrow.Author.Needs.{needs}
 use borrow.Author.Tests.{eq-eqb, ne-eqb}
-use Rattle.paper.specs.Extends.{placeOf}
+use Rattle.paper.specs.SignalList.{placeOf}
 use Rattle.lists.proofs.place_in.Statement.{statement}
 use Rattle.lists.proofs.place_in.Tie as tie
 

@@ -10,7 +10,8 @@ use Rattle.paper.specs.Octets.{put}
 use Rattle.paper.specs.SignalList.{Route, SignalList, listOf}
 use Rattle.paper.specs.Reading.{Reading, readingAt}
 use Rattle.paper.specs.Marshalling.{routed, live}
-use Rattle.paper.proofs.ListLaws.{Kept, kept-of}
+use Rattle.paper.specs.Accepted.{Kept}
+use Rattle.paper.proofs.ListLaws.{kept-of}
 use Rattle.octets.specs.Fields.{Within}
 use Rattle.entries.specs.Entries.{routeOf}
 use Rattle.lists.specs.Judged.{countsOf}

@@ -1,4 +1,4 @@
-use Rattle.paper.proofs.FieldLaws.{fieldOf}
+use Rattle.paper.specs.Octets.{fieldOf}
 use borrow.Author.Needs.{needs}
 use Rattle.octets.proofs.field_of.Statement.{statement}
 use Rattle.octets.proofs.field_of.Tie as tie

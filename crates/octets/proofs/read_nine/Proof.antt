@@ -3,7 +3,7 @@ use Prim.Native.Nat.{ℕ, _+_, _-_, _*_, _/_, _^_}
 use native.Mathlib.Omega.{arith}
 use lib.ListN.{getD}
 use denote.Ref.{now}
-use Rattle.paper.proofs.FieldLaws.{fieldOf}
+use Rattle.paper.specs.Octets.{fieldOf}
 use Rattle.octets.proofs.Laws.{first-bits, field-last, joins}
 use borrow.Author.Needs.{needs}
 use Rattle.octets.proofs.read_nine.Statement.{statement}

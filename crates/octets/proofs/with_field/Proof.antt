@@ -3,7 +3,8 @@ use Prim.Native.Nat.{_+_, _*_, _^_, _-_}
 use native.Mathlib.Nat.{mod-lt}
 use native.Mathlib.Omega.{arith}
 use lib.Pow.{pow-mono, pow-pos}
-use Rattle.paper.proofs.FieldLaws.{withField, top-lt, withField-lt}
+use Rattle.paper.specs.Octets.{withField}
+use Rattle.paper.proofs.FieldLaws.{top-lt, withField-lt}
 use borrow.Author.Needs.{needs}
 use Rattle.octets.proofs.with_field.Statement.{statement}
 use Rattle.octets.proofs.with_field.Tie as tie

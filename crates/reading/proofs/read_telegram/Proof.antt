@@ -4,8 +4,7 @@ use native.Mathlib.Omega.{arith}
 use denote.Ref.{now}
 use borrow.Author.Needs.{needs}
 use borrow.Author.Tests.{le-leb, lt-leb}
-use Rattle.paper.specs.SignalList.{Signal, signalAt, signalsPart, listOf}
-use Rattle.paper.specs.Extends.{knows}
+use Rattle.paper.specs.SignalList.{Signal, signalAt, signalsPart, listOf, knows}
 use Rattle.paper.specs.Reading.{markOf, codeOf}
 use Rattle.octets.specs.Fields.{Within}
 use Rattle.lists.specs.Judged.{countsOf}

@@ -6,7 +6,7 @@ use borrow.Author.Needs.{needs}
 use borrow.Author.Tests.{lt-ltb, le-ltb, eqb-true, leb-true, not-false}
 use Rattle.paper.specs.Answer.{gives, refuseIf}
 use Rattle.paper.specs.Store.{isStore, isVehicle}
-use Rattle.paper.proofs.ListLaws.{both}
+use Rattle.bools.proofs.Tests.{both}
 use Rattle.reading.specs.Reading.{readingUnder}
 use Rattle.reading.proofs.read_under.Statement.{statement}
 use Rattle.reading.proofs.read_under.Tie as tie

@@ -6,7 +6,8 @@ use denote.Ref.{now}
 use borrow.Author.Needs.{needs}
 use Rattle.paper.specs.Answer.{gives}
 use Rattle.paper.specs.Telegrams.{telegramType}
-use Rattle.paper.proofs.StoreLaws.{Takes, type-short}
+use Rattle.paper.specs.Store.{Takes}
+use Rattle.paper.proofs.StoreLaws.{type-short}
 use Rattle.refusals.specs.Outcome.{outcomeOf}
 use Rattle.store.specs.Store.{takingTests}
 use Rattle.store.proofs.Laws.{took-refused, took-done, tested-takes}

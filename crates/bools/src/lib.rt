@@ -1,0 +1,1 @@
+// Laws of tests that are made of tests: no code.

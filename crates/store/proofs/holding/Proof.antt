@@ -1,0 +1,58 @@
+-- `store::holding` meets its contract. Assumes nothing.
+use mathlib.Core.Path.{_≡_, sym, ap, _∙_}
+use mathlib.Core.Bool.{true, not}
+use mathlib.Core.List.{List}
+use Prim.Native.Nat.{ℕ}
+use denote.Ref.{now}
+use borrow.Author.Needs.{needs}
+use borrow.Author.Tests.{eqb-true, leb-true, not-false}
+use Rattle.bools.proofs.Tests.{both}
+use Rattle.paper.specs.Answer.{gives, refuseIf}
+use Rattle.paper.specs.Store.{isStore, isVehicle, slotFrom, slotOf}
+use Rattle.paper.specs.Reading.{holding, heldIn}
+use Rattle.store.proofs.Laws.{slot-whole}
+use Rattle.store.proofs.holding.Statement.{statement}
+use Rattle.store.proofs.holding.Tie as tie
+
+whole : (c : tie.Else1) → isStore (now (c .before .before .before .args .store)) ≡ true
+whole c = sym (c .before .is-store .ensures) ∙ not-false _ (c .if1 .left)
+
+numbered : (c : tie.Else2) → isVehicle (c .before .before .before .before .before .args .vehicle) ≡ true
+numbered c = sym (c .before .is-vehicle .ensures) ∙ not-false _ (c .if2 .left)
+
+returns : tie.Need-returns
+unfolding holding refuseIf
+returns c = simp (ap not (sym (c .before .is-store .ensures)) ∙ c .if1 .taken)
+
+returns-2 : tie.Need-returns-2
+unfolding holding refuseIf
+returns-2 c = simp (whole (c .before .before), ap not (sym (c .before .is-vehicle .ensures)) ∙ c .if2 .taken)
+
+slot-requires : tie.Need-slot-requires
+slot-requires c κs =
+    let n = both _ _ (numbered c) in
+    (eqb-true _ _ (whole (c .before .before)), leb-true _ _ (n .0), leb-true _ _ (n .1))
+
+held-in-requires : tie.Need-held-in-requires
+held-in-requires c κs =
+    let r = slot-requires (c .before) κs in
+    rw (c .slot .ensures) (slot-whole _ _ (r .0) (r .1) (r .2))
+
+returns-3 : tie.Need-returns-3
+unfolding holding refuseIf slotOf
+returns-3 c =
+    let v = c .before .before in
+    let clock : ℕ = v .before .before .before .before .before .args .clock in
+    simp (whole (v .before .before), numbered v) (ap gives (c .held-in .ensures ∙ ap (λ (s : List ℕ). heldIn (slotFrom s) clock) (c .before .slot .ensures)))
+
+pub holding-spec : {M : Type 1} → statement M
+holding-spec =
+    tie.close
+    (tie.spec
+    (λ c κs. search needs)
+    returns
+    (λ c κs. search needs)
+    returns-2
+    slot-requires
+    held-in-requires
+    returns-3)

@@ -1,2 +1,0 @@
--- What the contracts of the programs cite.
-pub mod Ready
