@@ -52,7 +52,8 @@ tested xs type values marks room =
     same-then (judge xs) _ _ (λ n. past _ 9 0 _ _ _ (past _ 13 0 _ _ _ (past _ 14 0 _ _ _ (past _ 15 _ _ _ _ (past _ 16 0 _ _ _ refl)))))
 
 -- what the tests ask of the sizes
-pub sized : (xs : List ℕ) (n : Counts) (type : ℕ) (values marks : List ℕ) (room : ℕ) → Laid xs n → gives tt ≡ composingTests (listOf xs n) type values marks room
+pub sized : (xs : List ℕ) (n : Counts) (type : ℕ) (values marks : List ℕ) (room : ℕ)
+    → Laid xs n → gives tt ≡ composingTests (listOf xs n) type values marks room
     → (Values xs n values) × (Marks xs n marks) × (Room type room)
 unfolding composingTests
 sized xs n type values marks room h e =

@@ -11,7 +11,7 @@ use Rattle.paper.specs.Telegrams.{carries, ok, forced}
 use Rattle.paper.specs.SignalList.{Counts, judge, listOf}
 use Rattle.paper.specs.Extends.{same, Related}
 use Rattle.paper.specs.Store.{vehicles, storeOctets, taking, taken, turn, age, inTime}
-use Rattle.paper.specs.Reading.{Reading, reading}
+use Rattle.paper.specs.Reading.{Reading}
 use Rattle.paper.specs.Composing.{composing}
 use Rattle.paper.specs.Demands.{Step, offer, run, NoneLater, Standing, givenMark, delivered, withheld, Named}
 use Rattle.paper.proofs.StoreLaws.{takes}
@@ -60,7 +60,8 @@ steps {v} (rejected {store = store} {last = last} w now telegram f t rest) =
     let q = subst (Steps v last) (t .octets) (steps rest) in
     (offer w now telegram ∷ q .0, ((inr (numberOf f, (carriedOf f, written-not _ store f _ t)), q .1 .0), q .1 .1))
 
-module _ (xs : List ℕ) (type : ℕ) (values marks : List ℕ) (v stamp : ℕ) (ys : List ℕ) (now k : ℕ) (r : ReadOutcome) (c : Calls xs type values marks v stamp ys now k r) where
+module _ (xs : List ℕ) (type : ℕ) (values marks : List ℕ) (v stamp : ℕ) (ys : List ℕ) (now k : ℕ) (r : ReadOutcome)
+    (c : Calls xs type values marks v stamp ys now k r) where
   sent : composing xs type values marks (length (c .out)) ≡ gives (c .telegram)
   sent = written-gives _ (c .out) (c .telegram) (c .composed)
 
@@ -81,12 +82,11 @@ module _ (xs : List ℕ) (type : ℕ) (values marks : List ℕ) (v stamp : ℕ) 
 
   -- DEMAND 3: a signal that both lists have and the type carries
   pub both-have : (m n : Counts) → judge xs ≡ gives m → judge ys ≡ gives n → Related (listOf xs m) (listOf ys n)
-      → (i : ℕ) → i < m .signals → k < n .signals → same (listOf xs m .signal i) (listOf ys n .signal k) ≡ true → carries type (listOf ys n .signal k .type) ≡ true
-      → inTime (age now stamp) (listOf ys n .signal k .limit) ≡ true
+      → (i : ℕ) → i < m .signals → k < n .signals → same (listOf xs m .signal i) (listOf ys n .signal k) ≡ true
+      → carries type (listOf ys n .signal k .type) ≡ true → inTime (age now stamp) (listOf ys n .signal k .limit) ≡ true
       → readAnswer r ≡ gives (delivered (listOf ys n) k (givenMark marks (listOf xs m .signal i)) (getD values i 0))
   both-have m n writer reader related i hi hk one carried within =
-      c .read
-      ∙ paper.both-have xs type values marks (length (c .out)) (c .telegram) sent m writer ys n reader v stamp now k (c .store) hk (standing _ within) related i hi one carried
+      c .read ∙ paper.both-have _ _ _ _ _ _ sent m writer _ n reader _ _ _ _ _ hk (standing _ within) related i hi one carried
 
   -- DEMAND 3: a signal that only the reader's list has, or that the type doesn't carry
   pub only-reader : (m n : Counts) → judge xs ≡ gives m → judge ys ≡ gives n → Related (listOf xs m) (listOf ys n) → k < n .signals
@@ -94,15 +94,14 @@ module _ (xs : List ℕ) (type : ℕ) (values marks : List ℕ) (v stamp : ℕ) 
       → inTime (age now stamp) (listOf ys n .signal k .limit) ≡ true
       → readAnswer r ≡ gives (withheld (listOf ys n) type k)
   only-reader m n writer reader related hk d within =
-      c .read
-      ∙ paper.only-reader xs type values marks (length (c .out)) (c .telegram) sent m writer ys n reader v stamp now k (c .store) hk (standing _ within) related d
+      c .read ∙ paper.only-reader _ _ _ _ _ _ sent m writer _ n reader _ _ _ _ _ hk (standing _ within) related d
 
   -- DEMAND 3, whole: every signal of the reader's list comes with one of the readings that the demand names. Never another value
   pub never-another : (m n : Counts) → judge xs ≡ gives m → judge ys ≡ gives n → Related (listOf xs m) (listOf ys n) → k < n .signals
       → inTime (age now stamp) (listOf ys n .signal k .limit) ≡ true
       → (given : Reading) × ((Named (listOf xs m) (listOf ys n) type values marks k given) × (readAnswer r ≡ gives given))
   never-another m n writer reader related hk within =
-      let t = paper.never-another xs type values marks (length (c .out)) (c .telegram) sent m writer ys n reader v stamp now k (c .store) hk (standing _ within) related in
+      let t = paper.never-another _ _ _ _ _ _ sent m writer _ n reader _ _ _ _ _ hk (standing _ within) related in
       (t .0, (t .1 .0, c .read ∙ t .1 .1))
 
 -- DEMAND 2, reading back under the list that it was composed with: a signal that the type carries, with a mark ok or forced, or no check,
@@ -114,7 +113,7 @@ pub read-back : (xs : List ℕ) (type : ℕ) (values marks : List ℕ) (v stamp 
     → readAnswer r ≡ gives (record { value = getD values k 0; reason = cond (eqb (givenMark marks (listOf xs m .signal k)) forced) 1 0 })
 read-back xs type values marks v stamp now k r c m e hk carried mark within =
     c .read
-    ∙ paper.read-back xs type values marks (length (c .out)) (c .telegram) (sent xs type values marks v stamp xs now k r c) m e v stamp now k (c .store) hk carried mark
+    ∙ paper.read-back _ _ _ _ _ _ (sent xs type values marks v stamp xs now k r c) m e _ _ _ _ _ hk carried mark
     (standing xs type values marks v stamp xs now k r c _ within)
 
 -- what `compose` wrote, `take` never refuses for a vehicle of the 63 and a store of the right length

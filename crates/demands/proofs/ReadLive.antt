@@ -28,7 +28,7 @@ module _ (xs store : List ℕ) (now v k : ℕ) (g : Reading) (read : readAnswer 
     -- "A value is live exactly when its telegram was heard, is within its time limit, carries the signal and is new enough, its mark .. is
     -- ok or forced, and the code is known."
     pub live-exactly : (g .reason ≤ 1) ↔ paper.Live (listOf xs n) (slotOf store v) now k
-    live-exactly = subst (λ (x : paper.Reading). (x .reason ≤ 1) ↔ paper.Live (listOf xs n) (slotOf store v) now k) is (laws.live-exactly (listOf xs n) (slotOf store v) now k)
+    live-exactly = rw is at (laws.live-exactly (listOf xs n) (slotOf store v) now k)
 
     -- "the first reason that applies": reason 2 + i exactly when test i is the first to hold
     pub reason-exactly : (i : ℕ) → i < 7 → (g .reason ≡ 2 + i) ↔ FirstAt (paper.hindrances (listOf xs n) (slotOf store v) now k) i
@@ -39,10 +39,7 @@ module _ (xs store : List ℕ) (now v k : ℕ) (g : Reading) (read : readAnswer 
 
     -- a live value is the code in the signal's field, and any other the replacement
     pub live-value : g .reason ≤ 1 → g .value ≡ paper.codeOf (listOf xs n .signal k) (slotOf store v .telegram)
-    live-value =
-        subst (λ (x : paper.Reading). x .reason ≤ 1 → x .value ≡ paper.codeOf (listOf xs n .signal k) (slotOf store v .telegram)) is
-        (laws.live-value (listOf xs n) (slotOf store v) now k)
+    live-value = rw is at (laws.live-value (listOf xs n) (slotOf store v) now k)
 
     pub replaced-value : 2 ≤ g .reason → g .value ≡ listOf xs n .signal k .replacement
-    replaced-value =
-        subst (λ (x : paper.Reading). 2 ≤ x .reason → x .value ≡ listOf xs n .signal k .replacement) is (laws.replaced-value (listOf xs n) (slotOf store v) now k)
+    replaced-value = rw is at (laws.replaced-value (listOf xs n) (slotOf store v) now k)

@@ -10,7 +10,8 @@ use Rattle.refusals.specs.Outcome.{Written}
 use Rattle.reading.specs.Reading.{readAnswer}
 use Rattle.demands.specs.declared.Answers.{Answers}
 
-pub record Told (writer : List ℕ) (type : ℕ) (values marks out store : List ℕ) (v stamp : ℕ) (reader : List ℕ) (now k : ℕ) (sent held : List ℕ) (r : Answers) : Type 0 where
+pub record Told (writer : List ℕ) (type : ℕ) (values marks out store : List ℕ) (v stamp : ℕ) (reader : List ℕ) (now k : ℕ)
+    (sent held : List ℕ) (r : Answers) : Type 0 where
   -- the output after composing, and the store after that was taken
   pub composed : Written (composing writer type values marks (length out)) out (r .composed) sent
   pub taken : Written (taking store v stamp sent) store (r .taken) held

@@ -23,7 +23,8 @@ module _ {f : ℕ → ℕ} where
   before-next k e = let y : k + 1 - 1 ≡ k = omega arith in record { first = λ z. absurd (omega arith); next = λ h. rw y e }
 
 -- a test of what is carried, which 0 passes, is the rule's test of the entry before, if there is one
-asks-before : (ok : ℕ → ℕ → Bool) → ok 0 0 ≡ true → {f g : ℕ → ℕ} {a b : ℕ} (k : ℕ) → Before f k a → Before g k b → ok a b ≡ (eqb k 0 || ok (f (k - 1)) (g (k - 1)))
+asks-before : (ok : ℕ → ℕ → Bool) → ok 0 0 ≡ true → {f g : ℕ → ℕ} {a b : ℕ} (k : ℕ) → Before f k a → Before g k b
+    → ok a b ≡ (eqb k 0 || ok (f (k - 1)) (g (k - 1)))
 asks-before ok free zero x y = rw (x .first refl, y .first refl) free
 asks-before ok free (suc k) x y = rw (ne-eqb (suc k) 0 (λ z. omega arith), x .next (omega arith), y .next (omega arith))
 
@@ -31,8 +32,8 @@ first-in-order : (group start : ℕ) → inOrder 0 0 group start ≡ true
 first-in-order zero start = rw (le-leb 0 start (omega arith))
 first-in-order (suc group) start = rw (lt-ltb 0 (suc group) (omega arith))
 
-module _ (checks : ℕ) (check : ℕ → ℕ) (signal : ℕ → Signal) (k : ℕ) {kind past : ℕ} {s : Signal} (type : Before (λ j. signal j .type) k kind) (end : Before (λ j. fieldEnd (signal j)) k past)
-    (here : s ≡ signal k) where
+module _ (checks : ℕ) (check : ℕ → ℕ) (signal : ℕ → Signal) (k : ℕ) {kind past : ℕ} {s : Signal}
+    (type : Before (λ j. signal j .type) k kind) (end : Before (λ j. fieldEnd (signal j)) k past) (here : s ≡ signal k) where
   in-two : signalRule checks check signal k ≡ (ownRule checks check kind past s && clearRule checks check s)
   unfolding signalRule ownRule
   in-two = rw (here, asks-before (λ a b. inOrder a b (signal k .type) (signal k .start)) (first-in-order (signal k .type) (signal k .start)) k type end)
@@ -46,7 +47,8 @@ module _ (checks : ℕ) (check : ℕ → ℕ) (signal : ℕ → Signal) (k : ℕ
     own-passes e q = rw in-two (asks-on is _ e _ q)
 
 module _ (signals : ℕ) (signal : ℕ → Signal) where
-  pub code-keeps : (code : ℕ → Code) (k : ℕ) {last least : ℕ} {c : Code} → Before (λ j. code j .signal) k last → Before (λ j. code j .high + 2) k least → c ≡ code k
+  pub code-keeps : (code : ℕ → Code) (k : ℕ) {last least : ℕ} {c : Code}
+      → Before (λ j. code j .signal) k last → Before (λ j. code j .high + 2) k least → c ≡ code k
       → codeKeeps signals signal last least c ≡ codeRule signals signal code k
   unfolding codeKeeps codeRule
   code-keeps code k x y here = rw (here, asks-before (λ a b. inOrder a b (code k .signal) (code k .low)) (first-in-order (code k .signal) (code k .low)) k x y)

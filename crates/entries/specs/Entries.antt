@@ -4,7 +4,8 @@ use mathlib.Core.Path.{_≡_}
 use mathlib.Core.Bool.{Bool, _&&_, _||_}
 use mathlib.Core.List.{List}
 use lib.Dec.{ltb, leb, eqb}
-use Rattle.paper.specs.SignalList.{Signal as PaperSignal, Code as PaperCode, Route as PaperRoute, checkAt, signalAt, codeAt, routeAt, widthRule, typeRule, placeRule, namedRule, valueRule, routeEnd}
+use Rattle.paper.specs.SignalList.{Signal as PaperSignal, Code as PaperCode, Route as PaperRoute, checkAt, signalAt, codeAt, routeAt}
+use Rattle.paper.specs.SignalList.{widthRule, typeRule, placeRule, namedRule, valueRule, routeEnd}
 use Rattle.entries.specs.declared.Signal.{Signal}
 use Rattle.entries.specs.declared.Code.{Code}
 use Rattle.entries.specs.declared.Route.{Route}

@@ -4,8 +4,10 @@ ghost use Prim.Native.Nat.{_+_, _-_, _^_, _<_, _≤_};
 ghost use mathlib.Core.Bool.{_&&_};
 ghost use lib.ListN.{length, getD};
 ghost use lib.Dec.{ltb};
-ghost use Rattle.paper.specs.SignalList.{entry, checkSize, signalSize, codeSize, routeSize, widest, checkAt, signalAt, checkRule, placeRule, namedRule, valueRule, routeEnd};
-ghost use Rattle.entries.specs.Entries.{signalOf, codeOf, routeOf, CheckRead, SignalRead, CodeRead, RouteRead, OctetRead, Placeable, inOrder, ownRule, codeKeeps, routeKeeps};
+ghost use Rattle.paper.specs.SignalList.{entry, checkSize, signalSize, codeSize, routeSize, widest, checkAt, signalAt};
+ghost use Rattle.paper.specs.SignalList.{checkRule, placeRule, namedRule, valueRule, routeEnd};
+ghost use Rattle.entries.specs.Entries.{signalOf, codeOf, routeOf, CheckRead, SignalRead, CodeRead, RouteRead, OctetRead};
+ghost use Rattle.entries.specs.Entries.{Placeable, inOrder, ownRule, codeKeeps, routeKeeps};
 
 // The octets of an entry of each section.
 pub const CHECK_SIZE: usize = 2;

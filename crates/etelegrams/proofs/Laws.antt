@@ -58,7 +58,8 @@ chain-some b [] c = sym (ap (λ (y : Bool). b || y) (some-false (λ i. eqb (getD
 chain-some b (x ∷ l) c =
     chain-some (b || eqb c x) l c
     ∙ either-of-three b (eqb c x) (some (λ i. eqb (getD l i 0) c) (length l))
-    ∙ ap (λ (y : Bool). b || y) (ap (λ (y : Bool). y || some (λ i. eqb (getD l i 0) c) (length l)) (swap c x) ∙ sym (some-first (λ i. eqb (getD (x ∷ l) i 0) c) (length l)))
+    ∙ ap (λ (y : Bool). b || y)
+    (ap (λ (y : Bool). y || some (λ i. eqb (getD l i 0) c) (length l)) (swap c x) ∙ sym (some-first (λ i. eqb (getD (x ∷ l) i 0) c) (length l)))
 
 pub is-request : (code : ℕ) → chain false requests code ≡ isRequest code
 unfolding isRequest requests
@@ -84,7 +85,9 @@ is-report code = simp same-shift
 
 pub small-report : (code : ℕ) → code < 0x0A00 → isReport code ≡ false
 unfolding isReport
-small-report code h = some-false (λ i. eqb (reportTo (getD requests i 0)) code) (length requests) (λ k _. ne-eqb (reportTo (getD requests k 0)) code (λ e. omega arith))
+small-report code h =
+    let report : ℕ → ℕ = λ i. reportTo (getD requests i 0) in
+    some-false (λ i. eqb (report i) code) (length requests) (λ k _. ne-eqb (report k) code (λ e. omega arith))
 
 -- one computed test: no report's code is a request's
 no-meeting : all (λ i. all (λ j. not (eqb (reportTo (getD requests i 0)) (getD requests j 0))) 25) 25 ≡ true

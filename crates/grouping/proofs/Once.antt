@@ -71,15 +71,12 @@ none-after a z b (r ∷ rs) t h =
 one-inside : (a z b : ℕ) (rs : List Row) → T (runs a z rs) → a ≤ b → b < z → coverings rs b ≡ 1
 unfolding coverings
 one-inside a z b [] t h k = omega (arith, eqb→eq a z t)
-one-inside a z b (r ∷ rs) t h k = elim (decLt b (r .end)) [
-  | yes l ↦
-      let from : r .from ≤ b = omega (arith, starts a z r rs t) in
-      simp (covers-yes r b from l, none-before (r .end) z b rs (rest a z r rs t) l)
-  | no n ↦
-      let g : r .end ≤ b = omega arith in
-      let from : r .from ≤ b = omega (arith, starts a z r rs t) in
-      simp (covers-high r b from g, one-inside (r .end) z b rs (rest a z r rs t) g k)
-]
+one-inside a z b (r ∷ rs) t h k =
+    let from : r .from ≤ b = omega (arith, starts a z r rs t) in
+    elim (decLt b (r .end)) [
+      | yes l ↦ simp (covers-yes r b from l, none-before (r .end) z b rs (rest a z r rs t) l)
+      | no n ↦ let g : r .end ≤ b = omega arith in simp (covers-high r b from g, one-inside (r .end) z b rs (rest a z r rs t) g k)
+    ]
 
 -- the one computed test
 pub covered-once : (b : ℕ) → CoveredOnce b
@@ -96,7 +93,8 @@ unfolding coverings placeIn
 no-place b [] e = refl
 no-place b (r ∷ rs) e = by (covers r b) e (no-place b rs)
   where
-    by : (t : Bool) → cond t 1 0 + coverings rs b ≡ 0 → (coverings rs b ≡ 0 → placeIn rs b ≡ refused 27 0) → cond t (gives (r .place)) (placeIn rs b) ≡ refused 27 0
+    by : (t : Bool) → cond t 1 0 + coverings rs b ≡ 0 → (coverings rs b ≡ 0 → placeIn rs b ≡ refused 27 0)
+        → cond t (gives (r .place)) (placeIn rs b) ≡ refused 27 0
     by true e later = absurd (omega arith)
     by false e later = later (omega arith)
 
@@ -105,7 +103,8 @@ unfolding coverings placeIn
 a-place b [] h = absurd (omega arith)
 a-place b (r ∷ rs) h = by (covers r b) h (a-place b rs)
   where
-    by : (t : Bool) → 0 < cond t 1 0 + coverings rs b → (0 < coverings rs b → (p : ℕ) × (placeIn rs b ≡ gives p)) → (p : ℕ) × (cond t (gives (r .place)) (placeIn rs b) ≡ gives p)
+    by : (t : Bool) → 0 < cond t 1 0 + coverings rs b → (0 < coverings rs b → (p : ℕ) × (placeIn rs b ≡ gives p))
+        → (p : ℕ) × (cond t (gives (r .place)) (placeIn rs b) ≡ gives p)
     by true h later = (r .place, refl)
     by false h later = later (omega arith)
 

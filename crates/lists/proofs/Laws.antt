@@ -1,4 +1,5 @@
--- How a judge puts its answer together, which checks a field need not be tested against, and that an accepted list is laid out as its counts say. Assumes nothing.
+-- How a judge puts its answer together, which checks a field need not be tested against, and that an accepted list is laid out as its counts say.
+-- Assumes nothing.
 use Prim.Native.Nat.{ℕ, zero, suc, _+_, _-_, _*_, _≤_, _<_}
 use mathlib.Core.Path.{_≡_, refl, sym, ap, _∙_}
 use mathlib.Core.Bool.{Bool, true, false, cond, _&&_, or-true}
@@ -12,7 +13,8 @@ use borrow.Author.Count.{below-none, below-more}
 use borrow.Author.Tests.{lt-ltb, le-ltb, le-leb, lt-leb, ltb-true, ltb-false, leb-true}
 use Rattle.paper.specs.Answer.{Answer, gives, refused, refuseIf, andThen, shift}
 use Rattle.paper.specs.First.{firstBad, all}
-use Rattle.paper.specs.SignalList.{Signal, Counts as PaperCounts, fieldEnd, entry, rest, checkRule, apart, clearRule, opening, judgeEntries, judgeSection, judge}
+use Rattle.paper.specs.SignalList.{Signal, Counts as PaperCounts, fieldEnd, entry, rest, checkRule, apart, clearRule}
+use Rattle.paper.specs.SignalList.{opening, judgeEntries, judgeSection, judge}
 use Rattle.paper.proofs.AnswerLaws.{one-answer}
 use Rattle.paper.proofs.FirstLaws.{first-most, first-passed, all-true, all-false, all-at}
 use Rattle.bools.proofs.Tests.{both}
@@ -147,7 +149,8 @@ module _ (checks : ℕ) (check : ℕ → ℕ) where
     pub shares-one : (ltb j checks && ltb (check j) (fieldEnd s)) ≡ true → s .start < check j + 2 → false ≡ clearRule checks check s
     shares-one e h =
         let p = both _ _ e in
-        sym (all-false (λ m. apart s (check m)) checks j (ltb-true _ _ (p .0)) (rw (lt-leb (fieldEnd s) (check j) (ltb-true _ _ (p .1)), lt-leb (check j + 2) (s .start) h)))
+        sym (all-false (λ m. apart s (check m)) checks j (ltb-true _ _ (p .0))
+        (rw (lt-leb (fieldEnd s) (check j) (ltb-true _ _ (p .1)), lt-leb (check j + 2) (s .start) h)))
 
 -- ---- what an accepted list keeps
 

@@ -44,7 +44,8 @@ pub last-short : (l : SignalList) → Kept l → (octets : ℕ) → 0 < l .route
 last-short l h octets some-route =
     elim (decLt (8 * octets) (end last)) [
       | yes lt ↦ lt-ltb _ _ lt ∙ sym (some-true (isShort l octets) (l .routes) last (omega arith) (lt-ltb _ _ lt))
-      | no ge ↦ le-ltb (8 * octets) (end last) (omega arith) ∙ sym (some-false (isShort l octets) (l .routes) (λ r hr. le-ltb (8 * octets) (end r) (omega (arith, ends r hr))))
+      | no ge ↦ le-ltb (8 * octets) (end last) (omega arith)
+          ∙ sym (some-false (isShort l octets) (l .routes) (λ r hr. le-ltb (8 * octets) (end r) (omega (arith, ends r hr))))
     ]
   where
     last : ℕ
@@ -131,5 +132,6 @@ unfolding told
 told-of (Live m) = refl
 told-of (Refused f) = ap Refused (numbered-of f)
 
-pub one-delivered : (a : Answer paper.Marshalled) (old : List ℕ) (r s : Marshalled) (new other : List ℕ) → Delivered a old r new → Delivered a old s other → (r ≡ s) × (new ≡ other)
+pub one-delivered : (a : Answer paper.Marshalled) (old : List ℕ) (r s : Marshalled) (new other : List ℕ)
+    → Delivered a old r new → Delivered a old s other → (r ≡ s) × (new ≡ other)
 one-delivered a old r s new other t u = (one-answer liveAnswer told told-of _ r s (t .lives) (u .lives), t .octets ∙ sym (u .octets))

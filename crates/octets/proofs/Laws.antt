@@ -15,7 +15,8 @@ use lib.Pow as pow
 use Rattle.paper.specs.Octets.{bit, field, put, number, octetsOf, over, Octets, fieldOf, withField}
 use Rattle.octets.specs.Fields.{FieldRead, merged}
 use Rattle.paper.proofs.FieldLaws.{field-lt, field-split, field-octet, field-bits, put-split, put-octet, put-unique}
-use Rattle.paper.proofs.NumberLaws.{number-lt, number-field, number-octetsOf, octetsOf-number, length-octetsOf, octets-octetsOf, length-over, octets-over, over-other, number-over}
+use Rattle.paper.proofs.NumberLaws.{number-lt, number-field, number-octetsOf, octetsOf-number, length-octetsOf, octets-octetsOf}
+use Rattle.paper.proofs.NumberLaws.{length-over, octets-over, over-other, number-over}
 
 -- the b bits above, the w bits and the k bits below of a number of 64 bits
 module _ (b w k : ℕ) (all : b + w + k ≡ 64) where

@@ -1,8 +1,6 @@
 -- A refusal can be told from its number and what it carries. Assumes nothing.
-use Prim.Native.Nat.{ℕ, _+_, _-_}
+use Prim.Native.Nat.{ℕ, _+_}
 use mathlib.Core.Path.{_≡_, refl, ap₂, _∙_}
-use mathlib.Core.List.{[], _∷_}
-use lib.ListN.{getD}
 use Rattle.paper.specs.Answer.{Answer, refused, shift}
 use Rattle.refusals.specs.declared.Refusal.{Refusal}
 use Rattle.refusals.specs.Refusal.{numberOf, carriedOf, refusalOf}
@@ -16,5 +14,6 @@ pub numbered-of : (f : Refusal) → numbered (numberOf f) (carriedOf f) ≡ f
 numbered-of f = refl
 
 -- what `shifted` answers is the part's refusal, moved to where the part starts
-pub moved : {A : Type 0} (f r : Refusal) (by : ℕ) (x : Answer A) → numberOf r ≡ numberOf f → carriedOf r ≡ by + carriedOf f → refusalOf f ≡ x → refusalOf r ≡ shift by x
+pub moved : {A : Type 0} (f r : Refusal) (by : ℕ) (x : Answer A) → numberOf r ≡ numberOf f → carriedOf r ≡ by + carriedOf f
+    → refusalOf f ≡ x → refusalOf r ≡ shift by x
 moved f r by x p q e = ap₂ refused p q ∙ stays-shifted by (numberOf f) (carriedOf f) x e

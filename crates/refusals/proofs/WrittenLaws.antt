@@ -45,5 +45,6 @@ told-of (O.Refused f) = ap O.Refused (numbered-of f)
 pub one-outcome : (a : Answer (Unit {0})) (v w : Outcome) → outcomeOf v ≡ a → outcomeOf w ≡ a → v ≡ w
 one-outcome = one-answer outcomeOf told told-of
 
-pub one-written : (a : Answer (List ℕ)) (old : List ℕ) (r s : Outcome) (new other : List ℕ) → Written a old r new → Written a old s other → (r ≡ s) × (new ≡ other)
+pub one-written : (a : Answer (List ℕ)) (old : List ℕ) (r s : Outcome) (new other : List ℕ)
+    → Written a old r new → Written a old s other → (r ≡ s) × (new ≡ other)
 one-written a old r s new other t u = (one-outcome _ r s (t .outcome) (u .outcome), t .octets ∙ sym (u .octets))

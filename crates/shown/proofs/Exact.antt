@@ -11,7 +11,8 @@ use lib.Ieee.Fits.{round-fits}
 use borrow.Author.Tests.{ltb-false, leb-true}
 use Rattle.paper.specs.Answer.{gives, refuseIf}
 use Rattle.paper.proofs.AnswerLaws.{never-both}
-use Rattle.paper.specs.Shown.{Kind, code, speed, percentage, signedPercentage, current, Shown, asCode, asSpeed, asPercentage, asCurrent, nearest, signedPercent, shownAs, scaled, showing, SignedExactly, Exact}
+use Rattle.paper.specs.Shown.{Kind, code, speed, percentage, signedPercentage, current, Shown, asCode, asSpeed, asPercentage, asCurrent}
+use Rattle.paper.specs.Shown.{nearest, signedPercent, shownAs, scaled, showing, SignedExactly, Exact}
 use Rattle.shown.proofs.Scales.{exact, zero-bits}
 
 -- each value on its scale is exact: one law, at each scale

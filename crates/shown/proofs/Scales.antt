@@ -3,7 +3,8 @@
 use mathlib.Core.Path.{_≡_, refl, sym, ap, _∙_, subst}
 use mathlib.Core.Bool.{Bool, true, false, cond, true≢false}
 use Prim.Native.Nat.{ℕ, zero, suc, _+_, _-_, _*_, _^_, _<_, _≤_}
-use native.Mathlib.Nat.{mul-one, one-mul, mul-assoc, mul-comm, mul-right-comm, eq-of-mul-eq-mul-right, zero-lt-suc, zero-mul, lt-irrefl, le-of-lt, lt-of-lt-of-le, mul-pos}
+use native.Mathlib.Nat.{mul-one, one-mul, mul-assoc, mul-comm, mul-right-comm, eq-of-mul-eq-mul-right, zero-mul, mul-pos}
+use native.Mathlib.Nat.{zero-lt-suc, lt-irrefl, le-of-lt, lt-of-lt-of-le}
 use native.Mathlib.Omega.{arith}
 use lib.IntN.{pos}
 use lib.Dec.{T, eqb, le→leb}
@@ -101,7 +102,8 @@ quotient s n k h = go (round binary32 false n 1) (round-whole binary32 false n (
         ap (λ (x : Bool). round binary32 x (m * up e * 1) (1 * 2 ^ k * down e)) (sign s)
         ∙ round-same binary32 s (m * up e * 1) (1 * 2 ^ k * down e) n (2 ^ k)
         (mul-pos (mul-pos (zero-lt-suc 0) (pow-pos k)) (down-pos e)) (pow-pos k)
-        (ap (λ (x : ℕ). x * 2 ^ k) (w .1) ∙ mul-assoc n (down e) (2 ^ k) ∙ ap (λ (x : ℕ). n * x) (mul-comm (down e) (2 ^ k) ∙ ap (λ (x : ℕ). x * down e) (sym (one-mul (2 ^ k)))))
+        (ap (λ (x : ℕ). x * 2 ^ k) (w .1) ∙ mul-assoc n (down e) (2 ^ k)
+        ∙ ap (λ (x : ℕ). n * x) (mul-comm (down e) (2 ^ k) ∙ ap (λ (x : ℕ). x * down e) (sym (one-mul (2 ^ k)))))
 
 -- a number of 24 bits casts to an f32 with nothing lost
 pub casts : (n : ℕ) → n < 2 ^ 24 → T (inFloat binary32 (pos n))

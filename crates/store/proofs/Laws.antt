@@ -34,7 +34,8 @@ run l a x y b e h = ap (λ (n : ℕ). over (over l a x) n y) (sym e) ∙ over-ov
 
 -- heard, stamp, telegram and zeros
 pub four-runs : (store : List ℕ) (at now : ℕ) (telegram : List ℕ) → at + slotOctets ≤ length store → length telegram ≤ telegramOctets
-    → over (over (over (set store at 1) (at + 1) (octetsOf 4 now)) (at + slotHead) telegram) (at + slotHead + length telegram) (replicate (telegramOctets - length telegram) 0)
+    → let n = length telegram in
+    over (over (over (set store at 1) (at + 1) (octetsOf 4 now)) (at + slotHead) telegram) (at + slotHead + n) (replicate (telegramOctets - n) 0)
     ≡ over store at (slotTo now telegram)
 four-runs store at now telegram h short =
     let stamp : List ℕ = 1 ∷ octetsOf 4 now in

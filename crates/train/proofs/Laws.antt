@@ -41,15 +41,18 @@ pub record Asked (train : List Vehicle) (a : ℕ) : Type 0 where
   pub listed : isAddress a ≡ true
 
 -- 20 exactly if no vehicle of the train meets a known address
-pub nobody-meets : (train : List Vehicle) (a : ℕ) → Asked train a → ((v : ℕ) → 1 ≤ v → v ≤ length train → member train a v ≡ false) → resolving train a ≡ refused 20 0
+pub nobody-meets : (train : List Vehicle) (a : ℕ) → Asked train a → ((v : ℕ) → 1 ≤ v → v ≤ length train → member train a v ≡ false)
+    → resolving train a ≡ refused 20 0
 unfolding resolving membersOf
 nobody-meets train a h n =
     let z : membersOf train a .size ≡ 0 = count-none (λ i. member train a (suc i)) (length train) (λ k l. n (suc k) (omega arith) (omega arith)) in
     let some : eqb (length train) 0 ≡ false = ne-eqb (length train) 0 (λ e. lt-irrefl 0 (omega (arith, h .some))) in
     let few : ltb 63 (length train) ≡ false = le-ltb 63 (length train) (h .few) in
-    sym (goes-past _ 17 0 _ _ (ap₂ _||_ some few) (goes-past _ 18 0 _ _ (ap not (h .ruled)) (goes-past _ 19 0 _ _ (ap not (h .listed)) (refuses _ 20 0 _ (eq-eqb _ 0 z)))))
+    sym (goes-past _ 17 0 _ _ (ap₂ _||_ some few)
+    (goes-past _ 18 0 _ _ (ap not (h .ruled)) (goes-past _ 19 0 _ _ (ap not (h .listed)) (refuses _ 20 0 _ (eq-eqb _ 0 z)))))
 
-pub refused-20 : (train : List Vehicle) (a : ℕ) → resolving train a ≡ refused 20 0 → Asked train a × ((v : ℕ) → 1 ≤ v → v ≤ length train → member train a v ≡ false)
+pub refused-20 : (train : List Vehicle) (a : ℕ) → resolving train a ≡ refused 20 0
+    → Asked train a × ((v : ℕ) → 1 ≤ v → v ≤ length train → member train a v ≡ false)
 unfolding resolving membersOf
 refused-20 train a e =
     let p = not-here _ 17 0 _ 20 0 (λ h. lt-irrefl 0 (omega arith)) e in

@@ -135,7 +135,8 @@ fn set_of(marks: &[u8], address: u64) -> u64
     }
 }
 
-// The vehicles of the train that meet the address. Refused: 17 for the number of vehicles, 18 for the consist's rule, 19 for the address, 20 if nobody meets it.
+// The vehicles of the train that meet the address. Refused: 17 for the number of vehicles, 18 for the consist's rule,
+// 19 for the address, 20 if nobody meets it.
 pub fn resolve(marks: &[u8], address: u64) -> Resolved
     ensures { λ r. ⌜ resolvedAnswer r ≡ resolving (map vehicleOf (now (marks .entry))) address ⌝ }
 {

@@ -1,6 +1,5 @@
 -- `composing::compose` meets its contract. Assumes nothing.
 use mathlib.Core.Path.{_≡_, sym, ap, _∙_}
-use lib.ListN.{length}
 use denote.Ref.{now}
 use borrow.Author.Needs.{needs}
 use Rattle.paper.specs.SignalList.{judge}
@@ -13,7 +12,9 @@ use Rattle.composing.proofs.Laws.{tested}
 use Rattle.composing.proofs.compose.Statement.{statement}
 use Rattle.composing.proofs.compose.Tie as tie
 
-accepted : (c : tie.After-judged2) → judgedAnswer (Accepted (c .judged2 .given .0 .0)) ≡ judge (now (c .before .before .before .before .before .before .before .args .list))
+accepted : (c : tie.After-judged2) →
+    let k = c .before .before .before in
+    judgedAnswer (Accepted (c .judged2 .given .0 .0)) ≡ judge (now (k .before .before .before .before .args .list))
 accepted c = sym (ap judgedAnswer (c .judged2 .given .1)) ∙ c .before .before .judge .ensures
 
 compose-under-requires : tie.Need-compose-under-requires
@@ -22,18 +23,12 @@ compose-under-requires c κs = accepted-laid _ _ (accepted (c .before .before))
 returns : tie.Need-returns
 returns c =
     let f = c .before .judged .given in
-    let j = c .before .before .before in
-    let a = j .before .before .before .before .before .args in
-    rw (tested (now (a .list)) (a .kind) (now (a .values)) (now (a .marks)) (length (now (a .out))))
-    (written-refused (f .0 .0) _ _ (stays _ _ _ _ (sym (ap judgedAnswer (f .1)) ∙ j .judge .ensures)))
+    rw tested (written-refused (f .0 .0) _ _ (stays _ _ _ _ (sym (ap judgedAnswer (f .1)) ∙ c .before .before .before .judge .ensures)))
 
 returns-2 : tie.Need-returns-2
 returns-2 c =
     let u = c .before .before in
-    let g = u .before .before .before in
-    let a = g .before .before .before .before .before .before .before .args in
-    rw (tested (now (a .list)) (a .kind) (now (a .values)) (now (a .marks)) (length (now (a .out))))
-    (written-on _ _ _ _ _ _ (accepted g) (u .compose-under .ensures))
+    rw tested (written-on _ _ _ _ _ _ (accepted (u .before .before .before)) (u .compose-under .ensures))
 
 pub compose-spec : {M : Type 1} → statement M
 compose-spec =

@@ -14,15 +14,16 @@ use Rattle.composing.proofs.Laws.{sized}
 use Rattle.composing.proofs.compose_under.Statement.{statement}
 use Rattle.composing.proofs.compose_under.Tie as tie
 
+abbrev start : tie.After-enum-told → tie.Start
+start c = c .before .before .before .before .before .before .before
+
 passed : (c : tie.After-enum-told) →
-    let a = c .before .before .before .before .before .before .before .args in
+    let a = start c .args in
     gives tt ≡ composingTests (listOf (now (a .list)) (countsOf (a .n))) (a .kind) (now (a .values)) (now (a .marks)) (length (now (a .out)))
 passed c = sym (ap outcomeOf (c .enum-told .given .1)) ∙ c .before .before .composing-tests .ensures
 
 write-telegram-requires : tie.Need-write-telegram-requires
-write-telegram-requires c κs =
-    let s = c .before .before .before .before .before .before .before .before in
-    sized (now (s .args .list)) (countsOf (s .args .n)) (s .args .kind) (now (s .args .values)) (now (s .args .marks)) _ (s .pre) (passed (c .before))
+write-telegram-requires c κs = sized _ _ _ _ _ _ (start (c .before) .pre) (passed (c .before))
 
 returns : tie.Need-returns
 returns c =

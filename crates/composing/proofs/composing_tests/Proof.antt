@@ -7,9 +7,9 @@ use lib.Dec.{ltb, eqb}
 use denote.Ref.{now}
 use borrow.Author.Needs.{needs}
 use borrow.Author.Tests.{lt-ltb, le-ltb, eq-eqb, ne-eqb, eqb-true, not-false}
-use Rattle.paper.specs.Answer.{Answer, refused, refuseIf}
+use Rattle.paper.specs.Answer.{Answer, gives, refused, refuseIf}
 use Rattle.paper.specs.First.{firstBad}
-use Rattle.paper.specs.Telegrams.{isType}
+use Rattle.paper.specs.Telegrams.{isType, typeLength}
 use Rattle.paper.specs.SignalList.{SignalList, listOf}
 use Rattle.paper.specs.Composing.{markFits, valueFits}
 use Rattle.paper.proofs.AnswerLaws.{refuses, goes-past}
@@ -56,6 +56,18 @@ module _ (y rest : Answer (Unit {0})) (e : y ≡ rest) where
   valued : (c : tie.Else4) → let s = start-4 c in y ≡ refuseIf (ltb (bad-value s) (s .args .n .signals)) 15 (bad-value s) rest
   valued c = goes-past _ 15 _ rest y (le-ltb _ _ (rw (c .before .before .first-bad-value .ensures) at (c .if4 .left))) e
 
+-- behind the first four tests the output's length decides
+passed : (c : tie.Else4) {y : Answer (Unit {0})} →
+    let s = start-4 c in
+    let a = s .args in
+    y ≡ refuseIf (not (eqb (a .room) (typeLength (a .kind)))) 16 0 (gives tt)
+    → y ≡ composingTests (under s) (a .kind) (now (a .values)) (now (a .marks)) (a .room)
+unfolding composingTests
+passed c e =
+    let q = c .before .before .before in
+    let p = q .before .before .before in
+    typed _ _ (sized _ _ (marked _ _ (valued _ _ e c) q) p) (p .before .before .before)
+
 counted : (c : tie.Else2) →
     let a = start-2 c .args in
     (eqb (length (now (a .values))) (a .n .signals) ≡ true) × (eqb (length (now (a .marks))) (a .n .checks) ≡ true)
@@ -90,24 +102,10 @@ returns-4 c =
     typed _ _ (sized _ _ (marked _ _ (ap (refused 15) e ∙ refuses _ 15 _ _ (lt-ltb _ _ (rw e at (c .if4 .taken)))) q) p) (p .before .before .before)
 
 returns-5 : tie.Need-returns-5
-unfolding composingTests
-returns-5 c =
-    let r = c .before .before in
-    let q = r .before .before .before in
-    let p = q .before .before .before in
-    typed _ _
-    (sized _ _ (marked _ _ (valued _ _ (refuses _ 16 0 _ (ap not (ne-eqb _ _ (λ e. c .if5 .taken (e ∙ sym (c .before .type-length .ensures)))))) r) q) p)
-    (p .before .before .before)
+returns-5 c = passed (c .before .before) (refuses _ 16 0 _ (ap not (ne-eqb _ _ (λ e. c .if5 .taken (e ∙ sym (c .before .type-length .ensures))))))
 
 returns-6 : tie.Need-returns-6
-unfolding composingTests
-returns-6 c =
-    let r = c .before .before in
-    let q = r .before .before .before in
-    let p = q .before .before .before in
-    typed _ _
-    (sized _ _ (marked _ _ (valued _ _ (goes-past _ 16 0 _ _ (ap not (eq-eqb _ _ (c .if5 .left ∙ c .before .type-length .ensures))) refl) r) q) p)
-    (p .before .before .before)
+returns-6 c = passed (c .before .before) (goes-past _ 16 0 _ _ (ap not (eq-eqb _ _ (c .if5 .left ∙ c .before .type-length .ensures))) refl)
 
 pub composing-tests-spec : {M : Type 1} → statement M
 composing-tests-spec =

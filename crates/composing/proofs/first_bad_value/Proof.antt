@@ -29,7 +29,9 @@ entries-from-requires c κs =
     (l .before .before .before .pre .laid, c .if1 .taken, l .loop .inv .1)
 
 value-fits-requires : tie.Need-value-fits-requires Inv-loop μ-loop
-value-fits-requires c κs = let t = c .before in (t .before .before .before .before .before .pre, t .if1 .taken, c .entries-from .ensures)
+value-fits-requires c κs =
+    let l = c .before .before .before in
+    (l .before .before .before .pre, c .before .if1 .taken, c .entries-from .ensures)
 
 returns : tie.Need-returns Inv-loop μ-loop
 returns c =
@@ -40,10 +42,9 @@ loop-again : tie.Need-loop-again Inv-loop μ-loop
 loop-again c =
     let o = c .before .before in
     let t = o .before in
-    let l = t .before .before in
-    let s = l .before .before .before in (
+    let l = t .before .before in (
       passed-more (l .loop .inv .0) (t .if1 .taken) (c .before .value-fits .ensures) (c .if2 .left),
-      past-own _ _ (laid-ordered (now (s .args .list)) (countsOf (s .args .n)) (s .pre .laid)) _ _ _ _ (o .entries-from .ensures) (omega arith),
+      past-own _ _ (laid-ordered _ _ (l .before .before .before .pre .laid)) _ _ _ _ (o .entries-from .ensures) (omega arith),
     )
 
 pub first-bad-value-spec : {M : Type 1} → statement M

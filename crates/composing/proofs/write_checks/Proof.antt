@@ -1,16 +1,13 @@
 -- `composing::write_checks` meets its contract: the checks passed are put. Assumes nothing.
-use Prim.Native.Nat.{ℕ, _≤_, _+_, _-_, _*_}
-use mathlib.Core.Path.{_≡_, refl, sym, ap, subst⁻¹, _∙_}
+use Prim.Native.Nat.{_≤_, _-_}
+use mathlib.Core.Path.{_≡_, refl, sym, _∙_}
 use native.Mathlib.Omega.{arith}
-use lib.Dec.{leb}
 use denote.Ref.{now}
 use borrow.Author.Needs.{needs}
-use Rattle.paper.specs.Telegrams.{typeLength, markWidth}
 use Rattle.paper.specs.SignalList.{listOf}
 use Rattle.paper.specs.Composing.{writesCheck, checkPut}
 use Rattle.paper.proofs.PutsLaws.{PutSoFar, none-put, one-put, all-put}
 use Rattle.paper.proofs.ListLaws.{kept-of}
-use Rattle.octets.specs.Fields.{Within}
 use Rattle.lists.specs.Judged.{countsOf}
 use Rattle.composing.proofs.Laws.{check-there}
 use Rattle.composing.proofs.write_checks.Statement.{statement}
@@ -27,27 +24,25 @@ loop-holds : tie.Need-loop-holds Inv-loop μ-loop
 loop-holds c = (search needs, none-put _ _)
 
 cast-write-where : tie.Need-cast-write-where Inv-loop μ-loop
-cast-write-where c = omega (arith, c .shared-slice-known3 .given (c .before .before .before .before .before .before .loop .j))
+cast-write-where c =
+    let g = c .before .before .before in
+    omega (arith, c .shared-slice-known3 .given (g .before .before .before .loop .j))
 
 -- whether check j is written
 within : (c : tie.After-is-within Inv-loop μ-loop) →
-    let p = c .before .before .before .before .before in
+    let g = c .before .before in
+    let p = g .before .before .before in
     let a = p .before .before .before .before .args in
     c .is-within .result ≡ writesCheck (listOf (now (a .list)) (countsOf (a .n))) (a .kind) (p .loop .j)
-within c =
-    let g = c .before .before in
-    c .is-within .ensures ∙ ap (λ (x : ℕ). leb (x + markWidth) (8 * typeLength (g .before .before .before .before .before .before .before .args .kind))) (g .check-at .ensures .is)
+within c = rw (← (c .before .before .check-at .ensures .is)) (c .is-within .ensures)
 
 write-where-requires : tie.Need-write-where-requires Inv-loop μ-loop
 write-where-requires c κs = λ w.
     let g = c .before .before .before in
     let p = g .before .before .before in
     let s = p .before .before .before .before in
-    let xs = now (s .args .list) in
-    let n = countsOf (s .args .n) in
-    subst⁻¹ (λ (x : ℕ). Within (p .loop .out) x markWidth) (g .check-at .ensures .is)
-    (check-there (listOf xs n) (kept-of xs n (s .pre .0 .laid)) (s .args .kind) (p .loop .out) (p .loop .inv .1 .long ∙ s .pre .1 .long) (p .loop .j)
-    (sym (within (c .before)) ∙ w))
+    let there = check-there _ (kept-of _ _ (s .pre .0 .laid)) (s .args .kind) (p .loop .out) (p .loop .inv .1 .long ∙ s .pre .1 .long) in
+    rw (g .check-at .ensures .is) (there (p .loop .j) (sym (within (c .before)) ∙ w))
 
 loop-again : tie.Need-loop-again Inv-loop μ-loop
 loop-again c =

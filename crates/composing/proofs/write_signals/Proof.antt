@@ -4,7 +4,6 @@ use mathlib.Core.Path.{_≡_, refl, sym, ap, subst⁻¹, _∙_}
 use native.Mathlib.Omega.{arith}
 use denote.Ref.{now}
 use borrow.Author.Needs.{needs}
-use Rattle.paper.specs.Telegrams.{carries}
 use Rattle.paper.specs.SignalList.{Signal, listOf}
 use Rattle.paper.specs.Composing.{writesSignal, signalPut}
 use Rattle.paper.proofs.PutsLaws.{PutSoFar, none-put, one-put, all-put}
@@ -27,23 +26,20 @@ loop-holds c = (search needs, none-put _ _)
 
 -- whether signal k is written
 carried : (c : tie.After-is-carried Inv-loop μ-loop) →
-    let p = c .before .before .before .before .before in
+    let g = c .before .before in
+    let p = g .before .before .before in
     let a = p .before .before .before .before .args in
     c .is-carried .result ≡ writesSignal (listOf (now (a .list)) (countsOf (a .n))) (a .kind) (p .loop .k)
-carried c =
-    let g = c .before .before in
-    c .is-carried .ensures ∙ ap (λ (x : Signal). carries (g .before .before .before .before .before .before .before .args .kind) (x .type)) (g .signal-in .ensures .is)
+carried c = rw (← (c .before .before .signal-in .ensures .is)) (c .is-carried .ensures)
 
 write-where-requires : tie.Need-write-where-requires Inv-loop μ-loop
 write-where-requires c κs = λ w.
     let g = c .before .before .before in
     let p = g .before .before .before in
     let s = p .before .before .before .before in
-    let xs = now (s .args .list) in
-    let n = countsOf (s .args .n) in
+    let there = signal-there _ (kept-of _ _ (s .pre .0 .laid)) (s .args .kind) (p .loop .out) (p .loop .inv .1 .long ∙ s .pre .1 .long) in
     subst⁻¹ (λ (x : Signal). Within (p .loop .out) (x .start) (x .width)) (g .signal-in .ensures .is)
-    (signal-there (listOf xs n) (kept-of xs n (s .pre .0 .laid)) (s .args .kind) (p .loop .out) (p .loop .inv .1 .long ∙ s .pre .1 .long) (p .loop .k) (omega arith)
-    (sym (carried (c .before)) ∙ w))
+    (there (p .loop .k) (omega arith) (sym (carried (c .before)) ∙ w))
 
 loop-again : tie.Need-loop-again Inv-loop μ-loop
 loop-again c =
@@ -51,8 +47,11 @@ loop-again c =
     let q = w .before .before in
     let g = q .before .before in
     let p = g .before .before .before in
-    let is = g .signal-in .ensures .is in
-    (search needs, one-put _ _ (p .loop .k) (p .loop .out) _ _ _ _ _ (p .loop .inv .1) (w .write-where .ensures) (carried q) (ap (λ (x : Signal). x .start) is) (ap (λ (x : Signal). x .width) is) refl)
+    let is = g .signal-in .ensures .is in (
+      search needs,
+      one-put _ _ (p .loop .k) (p .loop .out) _ _ _ _ _ (p .loop .inv .1) (w .write-where .ensures) (carried q)
+          (ap (λ (x : Signal). x .start) is) (ap (λ (x : Signal). x .width) is) refl,
+    )
 
 returns : tie.Need-returns Inv-loop μ-loop
 returns c =

@@ -15,8 +15,9 @@ returns-2 c = simp (lt-ltb _ _ (c .before .before .if1 .left), ← (c .before .w
 returns-3 : tie.Need-returns-3
 unfolding codeKeeps
 returns-3 c =
-    let w = c .before .before .before .before in
-    rw (lt-ltb _ _ (w .before .if1 .left), ← (w .width-of .ensures .is), le-leb _ _ (c .before .before .before .if2 .left), ← (c .before .pow2 .ensures), ← (c .in-order .ensures))
+    let e = c .before .before .before in
+    let w = e .before in
+    rw (lt-ltb _ _ (w .before .if1 .left), ← (w .width-of .ensures .is), le-leb _ _ (e .if2 .left), ← (c .before .pow2 .ensures), ← (c .in-order .ensures))
 
 pub code-rule-spec : {M : Type 1} → statement M
 code-rule-spec =

@@ -10,7 +10,9 @@ returns c = simp (le-ltb _ _ (c .if1 .taken))
 
 returns-2 : tie.Need-returns-2
 unfolding routeKeeps
-returns-2 c = rw (lt-ltb _ _ (c .before .before .before .before .before .if1 .left), ← (c .before .route-end .ensures))
+returns-2 c =
+    let e = c .before in
+    rw (lt-ltb _ _ (e .before .before .before .before .if1 .left), ← (e .route-end .ensures))
 
 pub route-rule-spec : {M : Type 1} → statement M
 route-rule-spec = tie.close (tie.spec returns (λ c κs. search needs) returns-2)

@@ -12,16 +12,11 @@ returns c = simp (lt-leb _ _ (c .if1 .taken), and-false)
 returns-2 : tie.Need-returns-2
 unfolding ownRule
 returns-2 c =
-    let v = c .before in
-    rw (le-leb _ _ (v .before .before .before .before .if1 .left), and-true, ← (v .before .before .place-rule .ensures), ← (v .before .named-rule .ensures), ← (v .value-rule .ensures), ← (c .in-order .ensures))
+    let n = c .before .before in
+    let p = n .before in
+    let narrow = le-leb _ _ (p .before .before .if1 .left) in
+    rw (narrow, and-true, ← (p .place-rule .ensures), ← (n .named-rule .ensures), ← (c .before .value-rule .ensures), ← (c .in-order .ensures))
 
 pub signal-own-spec : {M : Type 1} → statement M
 signal-own-spec =
-    tie.close
-    (tie.spec
-    returns
-    (λ c κs. search needs)
-    (λ c κs. search needs)
-    (λ c κs. search needs)
-    (λ c κs. search needs)
-    returns-2)
+    tie.close (tie.spec returns (λ c κs. search needs) (λ c κs. search needs) (λ c κs. search needs) (λ c κs. search needs) returns-2)

@@ -1,14 +1,10 @@
 -- `etelegrams::answer` meets its contract. Assumes nothing.
-use mathlib.Core.Path.{ap, _∙_}
-use mathlib.Core.List.{List}
-use Prim.Native.Nat.{ℕ}
+use mathlib.Core.Path.{ap}
 use native.Mathlib.Omega.{arith}
-use lib.ListN.{length, set, length-set}
-use denote.Ref.{now}
+use lib.ListN.{length-set}
 use borrow.Author.Tests.{ne-eqb, eq-eqb, lt-ltb, le-ltb}
 use Rattle.paper.specs.Answer.{gives, refuseIf}
-use Rattle.paper.specs.Octets.{octetsOf, over}
-use Rattle.paper.specs.ETelegrams.{reportTo, answerTo}
+use Rattle.paper.specs.ETelegrams.{answerTo}
 use Rattle.etelegrams.specs.Answers.{answerOn}
 use Rattle.etelegrams.proofs.Laws.{nine-octets}
 use Rattle.refusals.proofs.WrittenLaws.{written-refused, written-done}
@@ -28,21 +24,22 @@ returns-3 : tie.Need-returns-3
 unfolding answerOn refuseIf
 returns-3 c = written-refused _ _ _ (simp (c .before .before .if1 .left, eq-eqb _ _ (c .before .if2 .left), lt-ltb _ _ (c .if3 .taken)))
 
+abbrev copied : tie.After-write16 → tie.After-copy-over
+copied w = w .before .before .before .before .before
+
 same-length : tie.Need-same-length
 same-length c =
-    simp length-set (omega (arith, c .before .before .write16 .kept .0, c .before .before .before .before .before .before .before .copy-over .kept .0))
+    let w = c .before .before in
+    simp length-set (omega (arith, w .write16 .kept .0, copied w .copy-over .kept .0))
 
 returns-4 : tie.Need-returns-4
 unfolding answerOn refuseIf answerTo
 returns-4 c =
     let w = c .before .before in
-    let o = w .before .before .before .before .before in
+    let o = copied w in
     let g = o .before .before in
-    let a = g .before .before .before .before .before .args in
-    written-done _ _ _ (simp (g .before .before .if1 .left, eq-eqb _ _ (g .before .if2 .left), le-ltb (length (now (a .out))) 9 (omega arith))
-    (ap gives (
-    ap (λ (l : List ℕ). set l 8 (a .status)) (w .write16 .ensures ∙ ap (λ (l : List ℕ). over l 6 (octetsOf 2 (reportTo (a .read .code)))) (o .copy-over .ensures))
-    ∙ nine-octets (now (a .out)) (now (a .head)) (reportTo (a .read .code)) (a .status) (g .before .if2 .left) (g .if3 .left))))
+    written-done _ _ _ (simp (g .before .before .if1 .left, eq-eqb _ _ (g .before .if2 .left), le-ltb _ _ (g .if3 .left))
+    (ap gives (rw (w .write16 .ensures, o .copy-over .ensures) (nine-octets _ _ _ _ (g .before .if2 .left) (g .if3 .left)))))
 
 pub answer-spec : {M : Type 1} → statement M
 answer-spec =

@@ -12,9 +12,9 @@ use Rattle.etelegrams.proofs.e_answer.Tie as tie
 returns : tie.Need-returns
 unfolding answering answerOn
 returns c =
-    let m = c .before .before .before .before .before in
-    let e = m .before .before in
-    written-on _ _ _ _ _ _ (sym (ap eReadAnswer (m .read .given .1)) ∙ e .e-read .ensures) (c .before .before .answer .ensures)
+    let w = c .before .before in
+    let m = w .before .before .before in
+    written-on _ _ _ _ _ _ (sym (ap eReadAnswer (m .read .given .1)) ∙ m .before .before .e-read .ensures) (w .answer .ensures)
 
 returns-2 : tie.Need-returns-2
 unfolding answering

@@ -15,15 +15,18 @@ use Rattle.etelegrams.proofs.Laws.{by-request, by-report, by-neither}
 use Rattle.etelegrams.proofs.e_read.Statement.{statement}
 use Rattle.etelegrams.proofs.e_read.Tie as tie
 
-limit : (c : tie.After-e-limit) → c .e-limit .result ≡ eLimit (eCode (now (c .before .before .before .before .args .telegram)))
+abbrev lent : tie.After-e-limit → List ℕ
+lent c = now (c .before .before .before .before .args .telegram)
+
+limit : (c : tie.After-e-limit) → c .e-limit .result ≡ eLimit (eCode (lent c))
 limit c = c .e-limit .ensures ∙ ap eLimit (c .before .read16 .ensures .value)
 
-lent : tie.Else2 → List ℕ
-lent c = now (c .before .before .before .before .before .args .telegram)
-
-long : (c : tie.Else2) → (ltb (length (lent c)) 9 || ltb (eLimit (eCode (lent c))) (length (lent c))) ≡ false
-unfolding lent
-long c = simp (le-ltb (length (lent c)) 9 (omega arith), le-ltb (eLimit (eCode (lent c))) (length (lent c)) (omega (arith, limit (c .before))))
+long : (c : tie.Else2) →
+    let t = lent (c .before) in
+    (ltb (length t) 9 || ltb (eLimit (eCode t)) (length t)) ≡ false
+long c =
+    let t = lent (c .before) in
+    simp (le-ltb (length t) 9 (omega arith), le-ltb (eLimit (eCode t)) (length t) (omega (arith, limit (c .before))))
 
 returns : tie.Need-returns
 unfolding eReading refuseIf
@@ -32,33 +35,29 @@ returns c = simp (lt-ltb _ _ (c .if1 .taken))
 returns-2 : tie.Need-returns-2
 unfolding eReading refuseIf
 returns-2 c =
-    let l = c .before .before .before in
-    let t = now (l .before .before .args .telegram) in
+    let t = lent (c .before) in
     simp (le-ltb (length t) 9 (omega arith), lt-ltb (eLimit (eCode t)) (length t) (omega (arith, limit (c .before))))
 
 returns-3 : tie.Need-returns-3
-unfolding lent
 returns-3 c =
     let q = c .before in
     let x = q .before .before in
-    by-request (lent x) _ (long x) (x .before .before .read16 .ensures .value) (sym (q .is-request .ensures) ∙ c .if3 .taken)
+    by-request _ _ (long x) (x .before .before .read16 .ensures .value) (sym (q .is-request .ensures) ∙ c .if3 .taken)
 
 returns-4 : tie.Need-returns-4
-unfolding lent
 returns-4 c =
     let p = c .before in
     let q = p .before .before in
     let x = q .before .before in
-    by-neither (lent x) _ (long x) (x .before .before .read16 .ensures .value) (sym (q .is-request .ensures) ∙ p .before .if3 .left)
+    by-neither _ _ (long x) (x .before .before .read16 .ensures .value) (sym (q .is-request .ensures) ∙ p .before .if3 .left)
     (sym (p .is-report .ensures) ∙ not-true _ (c .if4 .taken))
 
 returns-5 : tie.Need-returns-5
-unfolding lent
 returns-5 c =
     let p = c .before in
     let q = p .before .before in
     let x = q .before .before in
-    by-report (lent x) _ (long x) (x .before .before .read16 .ensures .value) (sym (q .is-request .ensures) ∙ p .before .if3 .left)
+    by-report _ _ (long x) (x .before .before .read16 .ensures .value) (sym (q .is-request .ensures) ∙ p .before .if3 .left)
     (sym (p .is-report .ensures) ∙ not-false _ (c .if4 .left))
 
 pub e-read-spec : {M : Type 1} → statement M

@@ -6,7 +6,7 @@ use borrow.Author.Needs.{needs}
 use mathlib.Core.List.{List, map}
 use lib.ListN.{getD, drop, List·getD-map}
 use mathlib.Core.Logic.{⊎-elim}
-use mathlib.Core.Bool.{true, false}
+use mathlib.Core.Bool.{false}
 use Rattle.paper.specs.Answer.{gives}
 use Rattle.paper.specs.Telegrams.{Row, rows, covers, placeIn, checkPlace}
 use Rattle.grouping.specs.declared.Row as code
@@ -36,13 +36,13 @@ loop-holds c = (omega arith, refl)
 returns : tie.Need-returns Inv-loop μ-loop
 unfolding rows
 returns c =
-    let e = c .before .before .before .before .before in
+    let t = c .before .before in
+    let e = t .before .before .before in
     let b = e .before .before .args .bit in
     let i = e .before .loop .i in
     let same = row-is rows i in
-    let hit : covers (getD rows i nothing) b ≡ true = covers-yes (getD rows i nothing) b
-    (subst (λ (r : code.Row). r .from ≤ b) same (c .before .before .if1 .taken))
-    (subst (λ (r : code.Row). b < r .end) same (c .if2 .taken)) in
+    let hit = covers-yes (getD rows i nothing) b
+    (subst (λ (r : code.Row). r .from ≤ b) same (t .if1 .taken)) (subst (λ (r : code.Row). b < r .end) same (c .if2 .taken)) in
     ap (λ (r : code.Row). gives (r .place)) same ∙ sym (e .before .loop .inv .1 ∙ step rows nothing i b (e .loop-test .taken) ∙ simp hit)
 
 loop-again : tie.Need-loop-again Inv-loop μ-loop

@@ -11,7 +11,8 @@ use Rattle.lists.proofs.first_bad_code.Tie as tie
 
 abbrev Inv-loop : tie.InvT-loop
 Inv-loop sig signals tail n last₀ least₀ k₀ last least k =
-    (Passed (codeRule signals (signalAt sig) (codeAt tail)) n k) × ((Before (λ j. codeAt tail j .signal) k last) × (Before (λ j. codeAt tail j .high + 2) k least))
+    (Passed (codeRule signals (signalAt sig) (codeAt tail)) n k)
+    × ((Before (λ j. codeAt tail j .signal) k last) × (Before (λ j. codeAt tail j .high + 2) k least))
 
 abbrev μ-loop : tie.MeasureT-loop
 μ-loop sig signals tail n last₀ least₀ k₀ last least k = n - k

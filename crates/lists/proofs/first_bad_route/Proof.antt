@@ -31,18 +31,20 @@ returns c =
     let t = c .before .before .before in
     fails-here (t .before .loop .inv .0) (t .loop-test .taken) (tested (c .before)) (c .if1 .taken)
 
-exists : (c : tie.Else1 Inv-loop μ-loop) → c .before .before .route-at .result .signal < c .before .before .before .before .before .before .before .args .signals
-exists c =
+exists : (c : tie.Else1 Inv-loop μ-loop) →
     let e = c .before .before in
-    rw (ap (λ (r : Route). r .signal) (e .route-at .ensures .is)) (route-kept _ _ _ _ (sym (tested (c .before)) ∙ not-false _ (c .if1 .left)) .exists)
+    let l = e .before .before in
+    e .route-at .result .signal < l .before .before .before .args .signals
+exists c =
+    rw (ap (λ (r : Route). r .signal) (c .before .before .route-at .ensures .is))
+    (route-kept _ _ _ _ (sym (tested (c .before)) ∙ not-false _ (c .if1 .left)) .exists)
 
 loop-again : tie.Need-loop-again Inv-loop μ-loop
 loop-again c =
     let e = c .before .before .before in
-    let t = e .before in
-    let s = now (t .before .before .before .before .args .sig) in (
+    let t = e .before in (
       passed-more (t .before .loop .inv .0) (t .loop-test .taken) (tested (c .before .before)) (c .before .if1 .left),
-      before-next _ (c .route-end .ensures ∙ ap (routeEnd (signalAt s)) (e .route-at .ensures .is)),
+      before-next _ (rw (← (e .route-at .ensures .is)) (c .route-end .ensures)),
     )
 
 returns-2 : tie.Need-returns-2 Inv-loop μ-loop

@@ -40,30 +40,38 @@ signals-holds : tie.Need-signals-holds Inv-loop μ-loop Inv-signals μ-signals
 signals-holds c = record { passed = passed-none _ _; type = before-first; end = before-first; behind = behind-none _ }
 
 loop-holds : tie.Need-loop-holds Inv-loop μ-loop Inv-signals μ-signals
-loop-holds c = rw (c .resumed .ensures) (behind-resumed (c .before .before .before .before .before .before .signals .inv .behind) _)
+loop-holds c =
+    let s = c .before .before .before .before in
+    rw (c .resumed .ensures) (behind-resumed (s .before .before .signals .inv .behind) _)
+
+-- where the signal of the inner loop was read, and the call
+abbrev reading : tie.At-loop Inv-loop μ-loop Inv-signals μ-signals → tie.After-signal-at Inv-loop μ-loop Inv-signals μ-signals
+reading l = l .before .before .before .before .before
+
+abbrev start : tie.After-signal-at Inv-loop μ-loop Inv-signals μ-signals → tie.Start Inv-loop μ-loop Inv-signals μ-signals
+start s = s .before .before .before .before .before
 
 -- the check that the inner loop stands at lies before the signal's end, and exists
 lies : (c : tie.Then3 Inv-loop μ-loop Inv-signals μ-signals) →
     let l = c .before .before in
-    let b = l .before .before .before .before .before in
-    let a = b .before .before .before .before .before .args in
-    (ltb (l .loop .j) (a .checks) && ltb (checkAt (now (a .list)) (l .loop .j)) (fieldEnd (signalOf (b .signal-at .result)))) ≡ true
+    let s = reading l in
+    let a = start s .args in
+    (ltb (l .loop .j) (a .checks) && ltb (checkAt (now (a .list)) (l .loop .j)) (fieldEnd (signalOf (s .signal-at .result)))) ≡ true
 lies c = sym (c .before .check-before .ensures) ∙ c .if3 .taken
 
-below : (c : tie.Then3 Inv-loop μ-loop Inv-signals μ-signals) → let l = c .before .before in l .loop .j < l .before .before .before .before .before .before .before .before .before .before .args .checks
+below : (c : tie.Then3 Inv-loop μ-loop Inv-signals μ-signals) → c .before .before .loop .j < start (reading (c .before .before)) .args .checks
 below c = ltb-true _ _ (both _ _ (lies c) .0)
 
 check-at-requires : tie.Need-check-at-requires Inv-loop μ-loop Inv-signals μ-signals
 check-at-requires c κs = omega (arith, below c)
 
-small : (c : tie.Else1 Inv-loop μ-loop Inv-signals μ-signals) → entry signalSize (c .before .signals .k) < 2 ^ 64
-small c = omega arith
+small : (c : tie.Then3 Inv-loop μ-loop Inv-signals μ-signals) → entry signalSize (reading (c .before .before) .before .before .signals .k) < 2 ^ 64
+small c = let s = reading (c .before .before) in omega arith
 
 add-j : tie.Need-add-j Inv-loop μ-loop Inv-signals μ-signals
 add-j c =
     let t = c .before .before .before in
-    let b = t .before .before .before .before .before .before .before in
-    omega (arith, below t, b .before .before .before .before .before .fits)
+    omega (arith, below t, start (reading (t .before .before)) .fits)
 
 loop-less : tie.Need-loop-less Inv-loop μ-loop Inv-signals μ-signals
 loop-less c = omega (arith, below (c .before .before .before))
@@ -77,12 +85,13 @@ signals-again : tie.Need-signals-again Inv-loop μ-loop Inv-signals μ-signals
 signals-again c =
     let l = c .before .before in
     let e = l .before .before .before in
-    let s = e .before .before in
-    let o = s .before .before in
+    let s = reading l in
+    let i = s .before .before .signals .inv in
     record {
-      passed = passed-more (o .signals .inv .passed) (s .before .if1 .left)
-          (own-passes _ _ _ _ (o .signals .inv .type) (o .signals .inv .end) (s .signal-at .ensures .is) (e .before .signal-own .ensures) (e .if2 .left)
-          (shares-none _ _ (signalOf (s .signal-at .result)) _ (o .before .before .before .pre .0 .1) (l .loop .inv) (sym (c .before .check-before .ensures) ∙ c .if3 .left))) refl;
+      passed = passed-more (i .passed) (s .before .if1 .left)
+          (own-passes _ _ _ _ (i .type) (i .end) (s .signal-at .ensures .is) (e .before .signal-own .ensures) (e .if2 .left)
+          (shares-none _ _ (signalOf (s .signal-at .result)) _ (start s .pre .0 .1) (l .loop .inv)
+          (sym (c .before .check-before .ensures) ∙ c .if3 .left))) refl;
       type = before-next _ (ap (λ (x : Signal). x .type) (s .signal-at .ensures .is));
       end = before-next _ (ap fieldEnd (s .signal-at .ensures .is));
       behind = behind-later (l .loop .inv) _ (omega arith);
@@ -96,17 +105,19 @@ returns-2 c =
     let o = c .before .before in
     let i = o .before .before .signals .inv in
     ap (entry signalSize)
-    (fails-here (i .passed) (o .before .if1 .left) (own-breaks _ _ _ _ (i .type) (i .end) (o .signal-at .ensures .is) (c .before .signal-own .ensures) (c .if2 .taken)) refl)
+    (fails-here (i .passed) (o .before .if1 .left)
+    (own-breaks _ _ _ _ (i .type) (i .end) (o .signal-at .ensures .is) (c .before .signal-own .ensures) (c .if2 .taken)) refl)
 
 returns-3 : tie.Need-returns-3 Inv-loop μ-loop Inv-signals μ-signals
 returns-3 c =
     let t = c .before .before .before in
-    let e = t .before .before .before .before .before in
-    let s = e .before .before in
-    let o = s .before .before in
+    let l = t .before .before in
+    let e = l .before .before .before in
+    let s = reading l in
+    let i = s .before .before .signals .inv in
     ap (entry signalSize)
-    (fails-here (o .signals .inv .passed) (s .before .if1 .left)
-    (own-passes _ _ _ _ (o .signals .inv .type) (o .signals .inv .end) (s .signal-at .ensures .is) (e .before .signal-own .ensures) (e .if2 .left)
+    (fails-here (i .passed) (s .before .if1 .left)
+    (own-passes _ _ _ _ (i .type) (i .end) (s .signal-at .ensures .is) (e .before .signal-own .ensures) (e .if2 .left)
     (shares-one _ _ (signalOf (s .signal-at .result)) _ (lies t) (rw (c .before .before .check-at .ensures .is) at (c .if4 .taken)))) refl)
 
 pub first-bad-signal-spec : {M : Type 1} → statement M
@@ -130,8 +141,8 @@ first-bad-signal-spec =
     (λ c κs. search needs)
     check-at-requires
     (λ c. search needs)
-    (λ c. omega (arith, small (c .before .before .before .before .before .before .before .before .before .before .before)))
-    (λ c. omega (arith, small (c .before .before .before .before .before .before .before .before .before .before .before)))
+    (λ c. omega (arith, small (c .before .before .before)))
+    (λ c. omega (arith, small (c .before .before .before)))
     add-j
     loop-less
     loop-again

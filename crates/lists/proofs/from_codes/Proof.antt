@@ -13,21 +13,24 @@ use Rattle.lists.proofs.from_codes.Statement.{statement}
 use Rattle.lists.proofs.from_codes.Tie as tie
 
 -- the judge of the rest, and the section before it
-abbrev from : tie.Start → ℕ → List ℕ → Answer Counts
-from s n ys = fromRoutes (s .args .signals) (signalAt (now (s .args .sig))) (s .args .checks) n ys
+abbrev from : tie.After-open → ℕ → List ℕ → Answer Counts
+from o n ys =
+    let a = o .before .before .before .args in
+    fromRoutes (a .signals) (signalAt (now (a .sig))) (a .checks) n ys
 
-abbrev part : tie.Start → Part
-part s =
+abbrev part : tie.After-open → Part
+part o =
+    let a = o .before .before .before .args in
     record {
       limit = mostCodes;
       size = codeSize;
-      rule = codeRule (s .args .signals) (signalAt (now (s .args .sig))) (codeAt (now (s .args .tail)));
-      octets = now (s .args .tail);
-      next = onward codeSize (now (s .args .tail)) (from s);
+      rule = codeRule (a .signals) (signalAt (now (a .sig))) (codeAt (now (a .tail)));
+      octets = now (a .tail);
+      next = onward codeSize (now (a .tail)) (from o);
     }
 
-opened : (c : tie.After-known-told2) → Opens (part (c .before .before .before .before .before .before)) (c .before .opened2 .given .0 .0)
-opened c = opens (part (c .before .before .before .before .before .before)) (c .before .before .before .«open» .ensures) _ (c .before .opened2 .given .1)
+opened : (c : tie.After-known-told2) → Opens (part (c .before .before .before)) (c .before .opened2 .given .0 .0)
+opened c = opens _ (c .before .before .before .«open» .ensures) _ (c .before .opened2 .given .1)
 
 returns : tie.Need-returns
 unfolding fromCodes
@@ -36,11 +39,11 @@ returns c = entry-broken (opened (c .before .before)) (ap (entry codeSize) (c .b
 moved-requires : tie.Need-moved-requires
 moved-requires c κs =
     let t = c .before .before .before .before in
-    moves (opened t) (from (t .before .before .before .before .before .before)) (c .from-routes .ensures) (c .before .rest .ensures) (search needs) (routes-within _ _ _ _ _)
+    moves (opened t) (from (t .before .before .before)) (c .from-routes .ensures) (c .before .rest .ensures) (search needs) (routes-within _ _ _ _ _)
 
 returns-2 : tie.Need-returns-2
 unfolding fromCodes
-returns-2 c = not-opened (part (c .before .before .before .before .before .before)) (c .before .before .before .«open» .ensures) _ (c .before .opened .given .1)
+returns-2 c = not-opened _ (c .before .before .before .«open» .ensures) _ (c .before .opened .given .1)
 
 returns-3 : tie.Need-returns-3
 unfolding fromCodes
@@ -49,7 +52,7 @@ returns-3 c =
     let e = r .before .before in
     let t = e .before .before in
     entries-kept (opened t) (ap (entry codeSize) (e .before .first-bad-code .ensures)) (omega arith) (e .if1 .left) _
-    (follows (opened t) (from (t .before .before .before .before .before .before)) (r .from-routes .ensures) (r .before .rest .ensures) (c .moved .ensures))
+    (follows (opened t) (from (t .before .before .before)) (r .from-routes .ensures) (r .before .rest .ensures) (c .moved .ensures))
 
 pub from-codes-spec : {M : Type 1} → statement M
 from-codes-spec =

@@ -10,9 +10,9 @@ use Rattle.lists.proofs.Laws.{Part, Opens, opens, not-opened, found-sma
 use Rattle.lists.proofs.from_routes.Statement.{statement}
 use Rattle.lists.proofs.from_routes.Tie as tie
 
-abbrev part : tie.Start → Part
-part s =
-    let a = s .args in
+abbrev part : tie.After-open → Part
+part o =
+    let a = o .before .before .before .args in
     let signal = signalAt (now (a .sig)) in
     let xs = now (a .tail) in
     record {
@@ -23,8 +23,8 @@ part s =
       next = ending (a .signals) signal (a .checks) (a .codes) xs;
     }
 
-opened : (c : tie.After-known-told2) → Opens (part (c .before .before .before .before .before .before)) (c .before .opened2 .given .0 .0)
-opened c = opens (part (c .before .before .before .before .before .before)) (c .before .before .before .«open» .ensures) _ (c .before .opened2 .given .1)
+opened : (c : tie.After-known-told2) → Opens (part (c .before .before .before)) (c .before .opened2 .given .0 .0)
+opened c = opens _ (c .before .before .before .«open» .ensures) _ (c .before .opened2 .given .1)
 
 returns : tie.Need-returns
 unfolding fromRoutes
@@ -34,11 +34,12 @@ returns-2 : tie.Need-returns-2
 unfolding fromRoutes ending refuseIf
 returns-2 c =
     let e = c .before in
-    entries-kept (opened (e .before .before)) (ap (entry routeSize) (e .before .first-bad-route .ensures)) (omega arith) (e .if1 .left) _ (simp (lt-ltb _ _ (c .if2 .taken)))
+    entries-kept (opened (e .before .before)) (ap (entry routeSize) (e .before .first-bad-route .ensures)) (omega arith) (e .if1 .left) _
+    (simp (lt-ltb _ _ (c .if2 .taken)))
 
 returns-3 : tie.Need-returns-3
 unfolding fromRoutes
-returns-3 c = not-opened (part (c .before .before .before .before .before .before)) (c .before .before .before .«open» .ensures) _ (c .before .opened .given .1)
+returns-3 c = not-opened _ (c .before .before .before .«open» .ensures) _ (c .before .opened .given .1)
 
 returns-4 : tie.Need-returns-4
 unfolding fromRoutes ending refuseIf

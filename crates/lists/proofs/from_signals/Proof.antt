@@ -12,21 +12,24 @@ use Rattle.lists.proofs.from_signals.Statement.{statement}
 use Rattle.lists.proofs.from_signals.Tie as tie
 
 -- the judge of the rest, and the section before it
-abbrev from : tie.Start → ℕ → List ℕ → Answer Counts
-from s n ys = fromCodes n (signalAt (now (s .args .tail))) (s .args .checks) ys
+abbrev from : tie.After-open → ℕ → List ℕ → Answer Counts
+from o n ys =
+    let a = o .before .before .before .args in
+    fromCodes n (signalAt (now (a .tail))) (a .checks) ys
 
-abbrev part : tie.Start → Part
-part s =
+abbrev part : tie.After-open → Part
+part o =
+    let a = o .before .before .before .args in
     record {
       limit = mostSignals;
       size = signalSize;
-      rule = signalRule (s .args .checks) (checkAt (now (s .args .list))) (signalAt (now (s .args .tail)));
-      octets = now (s .args .tail);
-      next = onward signalSize (now (s .args .tail)) (from s);
+      rule = signalRule (a .checks) (checkAt (now (a .list))) (signalAt (now (a .tail)));
+      octets = now (a .tail);
+      next = onward signalSize (now (a .tail)) (from o);
     }
 
-opened : (c : tie.After-known-told2) → Opens (part (c .before .before .before .before .before .before)) (c .before .opened2 .given .0 .0)
-opened c = opens (part (c .before .before .before .before .before .before)) (c .before .before .before .«open» .ensures) _ (c .before .opened2 .given .1)
+opened : (c : tie.After-known-told2) → Opens (part (c .before .before .before)) (c .before .opened2 .given .0 .0)
+opened c = opens _ (c .before .before .before .«open» .ensures) _ (c .before .opened2 .given .1)
 
 returns : tie.Need-returns
 unfolding fromSignals
@@ -35,11 +38,11 @@ returns c = entry-broken (opened (c .before .before)) (c .before .first-bad-sign
 moved-requires : tie.Need-moved-requires
 moved-requires c κs =
     let t = c .before .before .before .before in
-    moves (opened t) (from (t .before .before .before .before .before .before)) (c .from-codes .ensures) (c .before .rest .ensures) (search needs) (codes-within _ _ _ _)
+    moves (opened t) (from (t .before .before .before)) (c .from-codes .ensures) (c .before .rest .ensures) (search needs) (codes-within _ _ _ _)
 
 returns-2 : tie.Need-returns-2
 unfolding fromSignals
-returns-2 c = not-opened (part (c .before .before .before .before .before .before)) (c .before .before .before .«open» .ensures) _ (c .before .opened .given .1)
+returns-2 c = not-opened _ (c .before .before .before .«open» .ensures) _ (c .before .opened .given .1)
 
 returns-3 : tie.Need-returns-3
 unfolding fromSignals
@@ -48,7 +51,7 @@ returns-3 c =
     let e = r .before .before in
     let t = e .before .before in
     entries-kept (opened t) (e .before .first-bad-signal .ensures) (omega arith) (e .if1 .left) _
-    (follows (opened t) (from (t .before .before .before .before .before .before)) (r .from-codes .ensures) (r .before .rest .ensures) (c .moved .ensures))
+    (follows (opened t) (from (t .before .before .before)) (r .from-codes .ensures) (r .before .rest .ensures) (c .moved .ensures))
 
 pub from-signals-spec : {M : Type 1} → statement M
 from-signals-spec =
@@ -57,7 +60,7 @@ from-signals-spec =
     (λ c κs. search needs)
     (λ c. search needs)
     (λ c. search needs)
-    (λ c κs. (c .before .before .before .before .before .before .pre, opened c .present))
+    (λ c κs. (search needs, opened c .present))
     (λ c. omega (arith, opened (c .before)))
     (λ c. omega (arith, opened (c .before)))
     returns

@@ -13,21 +13,16 @@ use Rattle.lists.proofs.judge.Statement.{statement}
 use Rattle.lists.proofs.judge.Tie as tie
 
 -- the judge of the rest, and the section before it
-abbrev from : tie.Start → ℕ → List ℕ → Answer Counts
-from s n ys = fromSignals n (checkAt (now (s .args .list))) ys
+abbrev from : tie.After-open → ℕ → List ℕ → Answer Counts
+from o n ys = fromSignals n (checkAt (now (o .before .before .args .list))) ys
 
-abbrev part : tie.Start → Part
-part s =
-    record {
-      limit = mostChecks;
-      size = checkSize;
-      rule = checkRule (checkAt (now (s .args .list)));
-      octets = now (s .args .list);
-      next = onward checkSize (now (s .args .list)) (from s);
-    }
+abbrev part : tie.After-open → Part
+part o =
+    let xs = now (o .before .before .args .list) in
+    record { limit = mostChecks; size = checkSize; rule = checkRule (checkAt xs); octets = xs; next = onward checkSize xs (from o) }
 
-opened : (c : tie.After-known-told2) → Opens (part (c .before .before .before .before .before)) (c .before .opened2 .given .0 .0)
-opened c = opens (part (c .before .before .before .before .before)) (c .before .before .before .«open» .ensures) _ (c .before .opened2 .given .1)
+opened : (c : tie.After-known-told2) → Opens (part (c .before .before .before)) (c .before .opened2 .given .0 .0)
+opened c = opens _ (c .before .before .before .«open» .ensures) _ (c .before .opened2 .given .1)
 
 returns : tie.Need-returns
 unfolding judge
@@ -42,11 +37,11 @@ from-signals-requires c κs =
 moved-requires : tie.Need-moved-requires
 moved-requires c κs =
     let t = c .before .before .before .before in
-    moves (opened t) (from (t .before .before .before .before .before)) (c .from-signals .ensures) (c .before .rest .ensures) (search needs) (signals-within _ _ _)
+    moves (opened t) (from (t .before .before .before)) (c .from-signals .ensures) (c .before .rest .ensures) (search needs) (signals-within _ _ _)
 
 returns-2 : tie.Need-returns-2
 unfolding judge
-returns-2 c = not-opened (part (c .before .before .before .before .before)) (c .before .before .before .«open» .ensures) _ (c .before .opened .given .1)
+returns-2 c = not-opened _ (c .before .before .before .«open» .ensures) _ (c .before .opened .given .1)
 
 returns-3 : tie.Need-returns-3
 unfolding judge
@@ -55,7 +50,7 @@ returns-3 c =
     let e = r .before .before in
     let t = e .before .before in
     entries-kept (opened t) (ap (entry checkSize) (e .before .first-bad-check .ensures)) (omega arith) (e .if1 .left) _
-    (follows (opened t) (from (t .before .before .before .before .before)) (r .from-signals .ensures) (r .before .rest .ensures) (c .moved .ensures))
+    (follows (opened t) (from (t .before .before .before)) (r .from-signals .ensures) (r .before .rest .ensures) (c .moved .ensures))
 
 pub judge-spec : {M : Type 1} → statement M
 judge-spec =

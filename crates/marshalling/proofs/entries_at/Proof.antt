@@ -1,9 +1,7 @@
 -- `marshalling::entries_at` meets its contract. Assumes nothing.
 use Prim.Native.Nat.{_+_}
 use native.Mathlib.Omega.{arith}
-use denote.Ref.{now}
 use borrow.Author.Needs.{needs}
-use Rattle.lists.specs.Judged.{countsOf}
 use Rattle.known.proofs.Laws.{laid-ordered, own-from}
 use Rattle.marshalling.proofs.entries_at.Statement.{statement}
 use Rattle.marshalling.proofs.entries_at.Tie as tie
@@ -22,7 +20,7 @@ returns : tie.Need-returns
 returns c =
     let s = c .before .before in
     let k = s .args .k in
-    own-from _ _ (laid-ordered (now (s .args .list)) (countsOf (s .args .n)) (s .pre .0)) _ _ _ (s .pre .1 .each k (omega (arith, s .pre .2))) (s .pre .1 .each (k + 1) (omega (arith, s .pre .2)))
+    own-from _ _ (laid-ordered _ _ (s .pre .0)) _ _ _ (s .pre .1 .each k (omega (arith, s .pre .2))) (s .pre .1 .each (k + 1) (omega (arith, s .pre .2)))
 
 pub entries-at-spec : {M : Type 1} → statement M
 entries-at-spec =

@@ -11,7 +11,9 @@ use Rattle.marshalling.proofs.Laws.{delivered-refused, delivered-on, un
 use Rattle.marshalling.proofs.marshal.Statement.{statement}
 use Rattle.marshalling.proofs.marshal.Tie as tie
 
-accepted : (c : tie.After-judged2) → judgedAnswer (Accepted (c .judged2 .given .0 .0)) ≡ judge (now (c .before .before .before .before .before .before .args .list))
+accepted : (c : tie.After-judged2) →
+    let j = c .before .before in
+    judgedAnswer (Accepted (c .judged2 .given .0 .0)) ≡ judge (now (j .before .before .before .before .args .list))
 accepted c = sym (ap judgedAnswer (c .judged2 .given .1)) ∙ c .before .before .judge .ensures
 
 marshal-under-requires : tie.Need-marshal-under-requires
@@ -20,18 +22,12 @@ marshal-under-requires c κs = accepted-laid _ _ (accepted (c .before .before))
 returns : tie.Need-returns
 returns c =
     let f = c .before .judged .given in
-    let j = c .before .before .before in
-    let a = j .before .before .before .before .args in
-    rw (under (now (a .list)) (now (a .store)) (a .clock) (now (a .bus)))
-    (delivered-refused (f .0 .0) _ _ (stays _ _ _ _ (sym (ap judgedAnswer (f .1)) ∙ j .judge .ensures)))
+    rw under (delivered-refused (f .0 .0) _ _ (stays _ _ _ _ (sym (ap judgedAnswer (f .1)) ∙ c .before .before .before .judge .ensures)))
 
 returns-2 : tie.Need-returns-2
 returns-2 c =
     let u = c .before .before in
-    let g = u .before .before .before in
-    let a = g .before .before .before .before .before .before .args in
-    rw (under (now (a .list)) (now (a .store)) (a .clock) (now (a .bus)))
-    (delivered-on _ _ _ _ _ _ (accepted g) (u .marshal-under .ensures))
+    rw under (delivered-on _ _ _ _ _ _ (accepted (u .before .before .before)) (u .marshal-under .ensures))
 
 pub marshal-spec : {M : Type 1} → statement M
 marshal-spec =

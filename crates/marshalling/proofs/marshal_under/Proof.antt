@@ -56,7 +56,8 @@ returns-3 : tie.Need-returns-3
 unfolding marshallingUnder
 returns-3 c =
     let w = c .before .before in
-    let p = w .before .before .before .before .before .before in
+    let i = w .before .before .before .before in
+    let p = i .before .before in
     delivered-live _ _ _ _ _ (w .write-routes .ensures .lives) (w .write-routes .ensures .octets)
     (goes-past _ 5 0 _ _ (whole (p .before .before)) (goes-past _ 12 0 _ _ (none-short p) refl))
 

@@ -1,11 +1,10 @@
 -- `octets::read_rest` meets its contract. The measure is the width: the last octet of the field is taken off. Assumes nothing.
 use mathlib.Core.Path.{sym, _∙_}
 use native.Mathlib.Omega.{arith}
-use denote.Ref.{now}
 use Rattle.paper.proofs.FieldLaws.{field-octet}
 use Rattle.octets.proofs.Laws.{field-at, field-is, field-last, joins}
 use borrow.Author.Needs.{needs}
-use Prim.Native.Nat.{ℕ, _+_, _-_, _/_, _%_, _<_}
+use Prim.Native.Nat.{ℕ, _<_}
 use borrow.Fn.Kinds.{In}
 use borrow.Fn.PlainCycle.{Measures, is, falls, and}
 use Rattle.octets.proofs.read_rest.Reads as read-rest
@@ -47,9 +46,7 @@ pub +read-rest-spec : {M : Type 1} → statement M
     (λ c. search needs)
     (λ c. search needs)
     (λ c κs. search needs)
-    (λ c.
-    let a = c .before .before .before .before .before .args in
-    field-at _ _ _ _ _ _ (omega arith) (c .field-of .ensures ∙ sym (field-octet (now (a .s)) (a .start / 8) (a .start % 8) (a .width) (omega arith))))
+    (λ c. field-at _ _ _ _ _ _ (omega arith) (c .field-of .ensures ∙ sym (field-octet _ _ _ _ (omega arith))))
     (λ c. search needs)
     (λ c. search needs)
     (λ c. search needs)
@@ -57,13 +54,8 @@ pub +read-rest-spec : {M : Type 1} → statement M
     (λ c. search needs)
     (λ c κs. search needs)
     (λ c κs.
-    let a = c .before .before .before .before .before .before .args in
-    let f = a .start % 8 + a .width - 1 in
-    joins (now (a .s)) (a .start) (a .width - (f % 8 + 1)) (f % 8 + 1) (a .width) (a .start / 8 + f / 8) (omega arith) (omega arith) (omega arith)
-    (omega arith) _ _ (c .read-rest .ensures .value) (c .before .field-of2 .ensures))
+    let width = c .before .before .before .before .before .before .args .width in
+    joins _ _ _ _ width _ (omega arith) (omega arith) (omega arith) (omega arith) _ _ (c .read-rest .ensures .value) (c .before .field-of2 .ensures))
     (λ c.
-    let a = c .before .before .before .before .before .before .before .args in
-    let f = a .start % 8 + a .width - 1 in
     field-is (c .join .ensures
-    ∙ field-last (now (a .s)) (a .start) (a .width - (f % 8 + 1)) (f % 8 + 1) (a .width) (a .start / 8 + f / 8) (omega arith) (omega arith) (omega arith)
-    _ _ (c .before .read-rest .ensures .value) (c .before .before .field-of2 .ensures)))
+    ∙ field-last _ _ _ _ _ _ (omega arith) (omega arith) (omega arith) _ _ (c .before .read-rest .ensures .value) (c .before .before .field-of2 .ensures)))

@@ -1,12 +1,10 @@
 -- `octets::write_rest` meets its contract, as `read_rest` does. Assumes nothing.
-use mathlib.Core.Path.{sym, ap, _∙_}
+use mathlib.Core.Path.{sym}
 use native.Mathlib.Omega.{arith}
-use lib.ListN.{set}
-use denote.Ref.{now}
 use Rattle.paper.proofs.FieldLaws.{put-octet}
 use Rattle.octets.proofs.Laws.{put-at, put-last}
 use borrow.Author.Needs.{needs}
-use Prim.Native.Nat.{ℕ, _+_, _-_, _/_, _%_, _<_}
+use Prim.Native.Nat.{ℕ, _<_}
 use borrow.Fn.Kinds.{In}
 use borrow.Fn.PlainCycle.{Measures, is, falls, and}
 use Rattle.octets.proofs.write_rest.Reads as write-rest
@@ -49,10 +47,7 @@ pub +write-rest-spec : {M : Type 1} → statement M
     (λ c κs. search needs)
     (λ c. search needs)
     (λ c. search needs)
-    (λ c.
-    let a = c .before .before .before .before .before .args in
-    let q = a .start / 8 in
-    put-at _ _ q (a .start % 8) _ _ (omega arith) (ap (set (now (a .s)) q) (c .with-field .ensures) ∙ sym (put-octet (now (a .s)) q (a .start % 8) (a .width) (a .v) (omega arith) (omega arith))))
+    (λ c. rw (c .with-field .ensures) (put-at _ _ _ _ _ _ (omega arith) (sym (put-octet _ _ _ _ _ (omega arith) (omega arith)))))
     (λ c. search needs)
     (λ c. search needs)
     (λ c. search needs)
@@ -64,10 +59,5 @@ pub +write-rest-spec : {M : Type 1} → statement M
     (λ c. search needs)
     (λ c. search needs)
     (λ c.
-    let p = c .before .before .before .before in
-    let a = p .before .before .before .before .before .args in
-    let m = p .write-rest .last .0 in
-    let f = a .start % 8 + a .width - 1 in
-    ap (set m (a .start / 8 + f / 8)) (c .with-field2 .ensures)
-    ∙ put-last (now (a .s)) (a .start) (a .width - (f % 8 + 1)) (f % 8 + 1) (a .width) (a .start / 8 + f / 8) (omega arith) (omega arith) (omega arith)
-    m (a .v) (p .write-rest .ensures) (omega arith))
+    rw (c .with-field2 .ensures)
+    (put-last _ _ _ _ _ _ (omega arith) (omega arith) (omega arith) _ _ (c .before .before .before .before .write-rest .ensures) (omega arith)))

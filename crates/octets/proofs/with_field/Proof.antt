@@ -12,11 +12,13 @@ use Rattle.octets.proofs.with_field.Tie as tie
 join-requires : tie.Need-join-requires
 join-requires c κs =
     let a = c .before .args in
-    omega (arith, top-lt (a .x) (a .b) (a .n) (a .v) (omega arith) (omega arith), pow-mono {i = a .b + a .n} {j = 64} (omega arith), mod-lt (a .v) (pow-pos (a .n)))
+    let fits = pow-mono {i = a .b + a .n} {j = 64} (omega arith) in
+    omega (arith, top-lt (a .x) (a .b) (a .n) (a .v) (omega arith) (omega arith), mod-lt (a .v) (pow-pos (a .n)))
 
 -- what the last `join` is handed makes up the octet
-whole : (c : tie.After-low2) → c .before .join .result * 2 ^ (8 - (c .before .before .before .args .b + c .before .before .before .args .n)) + c .low2 .result
-    ≡ withField (c .before .before .before .args .x) (c .before .before .before .args .b) (c .before .before .before .args .n) (c .before .before .before .args .v)
+whole : (c : tie.After-low2) →
+    let a = c .before .before .before .args in
+    c .before .join .result * 2 ^ (8 - (a .b + a .n)) + c .low2 .result ≡ withField (a .x) (a .b) (a .n) (a .v)
 unfolding withField
 whole c = cc
 

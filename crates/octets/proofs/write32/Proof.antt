@@ -1,9 +1,6 @@
-use mathlib.Core.Path.{sym, ap, _∙_}
-use Prim.Native.Nat.{ℕ, _+_, _/_}
-use mathlib.Core.List.{List}
+use mathlib.Core.Path.{_∙_}
 use native.Mathlib.Omega.{arith}
-use denote.Ref.{now}
-use Rattle.paper.specs.Octets.{octetsOf, over}
+use Rattle.paper.specs.Octets.{octetsOf}
 use Rattle.paper.proofs.NumberLaws.{over-over, octetsOf-split}
 use borrow.Author.Needs.{needs}
 use Rattle.octets.proofs.write32.Statement.{statement}
@@ -12,11 +9,9 @@ use Rattle.octets.proofs.write32.Tie as tie
 returns : tie.Need-returns
 unfolding octetsOf
 returns c =
-    let a = c .before .before .before .before .before .before .before .before .before .args in
-    c .before .before .write162 .ensures
-    ∙ ap (λ (l : List ℕ). over l (a .at + 2) (octetsOf 2 (a .v))) (c .before .before .before .before .before .before .write16 .ensures)
-    ∙ over-over (now (a .d)) (a .at) (octetsOf 2 (a .v / 65536)) (octetsOf 2 (a .v)) (omega arith)
-    ∙ ap (over (now (a .d)) (a .at)) (sym (octetsOf-split 2 2 (a .v)))
+    let second = c .before .before in
+    let first = second .before .before .before .before in
+    second .write162 .ensures ∙ rw (first .write16 .ensures, octetsOf-split 2 2) (over-over _ _ _ _ (omega arith))
 
 pub write32-spec : {M : Type 1} → statement M
 write32-spec =

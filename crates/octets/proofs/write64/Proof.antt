@@ -1,9 +1,6 @@
-use mathlib.Core.Path.{sym, ap, ap₂, _∙_}
-use Prim.Native.Nat.{ℕ, _+_, _/_}
-use mathlib.Core.List.{List}
+use mathlib.Core.Path.{_∙_}
 use native.Mathlib.Omega.{arith}
-use denote.Ref.{now}
-use Rattle.paper.specs.Octets.{octetsOf, over}
+use Rattle.paper.specs.Octets.{octetsOf}
 use Rattle.paper.proofs.NumberLaws.{over-over, octetsOf-split}
 use Rattle.octets.proofs.Laws.{octetsOf-mod}
 use borrow.Author.Needs.{needs}
@@ -13,11 +10,9 @@ use Rattle.octets.proofs.write64.Tie as tie
 returns : tie.Need-returns
 unfolding octetsOf
 returns c =
-    let a = c .before .before .before .before .before .before .before .before .before .args in
-    c .before .before .write322 .ensures
-    ∙ ap₂ (λ (l m : List ℕ). over l (a .at + 4) m) (c .before .before .before .before .before .before .write32 .ensures) (octetsOf-mod 4 (a .v))
-    ∙ over-over (now (a .d)) (a .at) (octetsOf 4 (a .v / 4294967296)) (octetsOf 4 (a .v)) (omega arith)
-    ∙ ap (over (now (a .d)) (a .at)) (sym (octetsOf-split 4 4 (a .v)))
+    let second = c .before .before in
+    let first = second .before .before .before .before in
+    second .write322 .ensures ∙ rw (first .write32 .ensures, octetsOf-mod 4, octetsOf-split 4 4) (over-over _ _ _ _ (omega arith))
 
 pub write64-spec : {M : Type 1} → statement M
 write64-spec =

@@ -1,14 +1,9 @@
 -- `reading::mark_in` meets its contract. Assumes nothing.
-use mathlib.Core.Path.{ap, _∙_}
-use Prim.Native.Nat.{ℕ}
 use native.Mathlib.Omega.{arith}
-use denote.Ref.{now}
 use borrow.Author.Needs.{needs}
 use borrow.Author.Tests.{eq-eqb, ne-eqb}
-use Rattle.paper.specs.Octets.{field}
 use Rattle.paper.specs.Reading.{markOf}
 use Rattle.entries.specs.Entries.{signalOf}
-use Rattle.lists.specs.Judged.{countsOf}
 use Rattle.reading.proofs.Laws.{place-within}
 use Rattle.reading.proofs.mark_in.Statement.{statement}
 use Rattle.reading.proofs.mark_in.Tie as tie
@@ -23,15 +18,14 @@ read-field-requires c κs =
     record {
       some = search needs;
       wide = search needs;
-      inside = omega (arith, c .place-in .ensures, place-within (now (s .args .list)) (countsOf (s .args .n)) (signalOf (s .args .s)) (s .pre .0) (s .pre .1));
+      inside = omega (arith, c .place-in .ensures, place-within _ _ (signalOf (s .args .s)) (s .pre .0) (s .pre .1));
     }
 
 returns-2 : tie.Need-returns-2
 unfolding markOf
 returns-2 c =
     let k = c .before in
-    let a = k .before .before .before .before .before .args in
-    simp (ne-eqb _ _ (k .before .if1 .left)) (c .read-field .ensures .value ∙ ap (λ (x : ℕ). field (now (a .telegram)) x 2) (k .place-in .ensures))
+    simp (ne-eqb _ _ (k .before .if1 .left), ← (k .place-in .ensures)) (c .read-field .ensures .value)
 
 pub mark-in-spec : {M : Type 1} → statement M
 mark-in-spec =

@@ -13,7 +13,9 @@ use Rattle.reading.specs.Reading.{readingUnder}
 use Rattle.reading.proofs.read.Statement.{statement}
 use Rattle.reading.proofs.read.Tie as tie
 
-accepted : (c : tie.After-judged2) → gives (countsOf (c .judged2 .given .0 .0)) ≡ judge (now (c .before .before .before .before .before .args .list))
+accepted : (c : tie.After-judged2) →
+    let j = c .before .before in
+    gives (countsOf (c .judged2 .given .0 .0)) ≡ judge (now (j .before .before .before .args .list))
 accepted c = sym (ap judgedAnswer (c .judged2 .given .1)) ∙ c .before .before .judge .ensures
 
 read-under-requires : tie.Need-read-under-requires

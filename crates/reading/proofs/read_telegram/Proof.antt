@@ -1,10 +1,10 @@
 -- `reading::read_telegram` meets its contract. Assumes nothing.
-use mathlib.Core.Path.{_≡_, sym, ap, ap₂, _∙_, subst}
+use mathlib.Core.Path.{_≡_, sym, ap, subst}
 use native.Mathlib.Omega.{arith}
 use denote.Ref.{now}
 use borrow.Author.Needs.{needs}
 use borrow.Author.Tests.{le-leb, lt-leb}
-use Rattle.paper.specs.SignalList.{Signal, signalAt, signalsPart, listOf, knows}
+use Rattle.paper.specs.SignalList.{Signal, SignalList, listOf, knows}
 use Rattle.paper.specs.Reading.{markOf, codeOf}
 use Rattle.octets.specs.Fields.{Within}
 use Rattle.lists.specs.Judged.{countsOf}
@@ -12,6 +12,12 @@ use Rattle.reading.specs.Reading.{telegramReason}
 use Rattle.reading.proofs.Laws.{field-there, check-there, telegram-given}
 use Rattle.reading.proofs.read_telegram.Statement.{statement}
 use Rattle.reading.proofs.read_telegram.Tie as tie
+
+abbrev start : tie.After-read-field → tie.Start
+start c = c .before .before .before
+
+abbrev under : tie.Start → SignalList
+under s = listOf (now (s .args .list)) (countsOf (s .args .n))
 
 read-field-requires : tie.Need-read-field-requires
 read-field-requires c κs =
@@ -22,44 +28,35 @@ read-field-requires c κs =
 
 mark-in-requires : tie.Need-mark-in-requires
 mark-in-requires c κs =
-    let b = c .before .before .before .before in
+    let b = start (c .before) in
     let a = b .args in
     let check = check-there (now (a .list)) (countsOf (a .n)) (a .k) (now (a .telegram)) (b .pre .0 .0) (b .pre .0 .1) (b .pre .1 .1) in
     (b .pre .0 .0, omega (arith, ap (λ (x : Signal). x .check) (b .pre .1 .0), check), b .pre .1 .1)
 
 code-is : (c : tie.After-read-field) →
-    let a = c .before .before .before .args in
-    c .read-field .result ≡ codeOf (signalAt (signalsPart (now (a .list)) (countsOf (a .n))) (a .k)) (now (a .telegram))
+    let b = start c in
+    c .read-field .result ≡ codeOf (under b .signal (b .args .k)) (now (b .args .telegram))
 unfolding codeOf
-code-is c =
-    let b = c .before .before .before in
-    c .read-field .ensures .value ∙ ap (λ (x : Signal). codeOf x (now (b .args .telegram))) (b .pre .1 .0)
+code-is c = rw (← (start c .pre .1 .0)) (c .read-field .ensures .value)
 
 known-is : (c : tie.After-knows) →
-    let a = c .before .before .before .before .args in
-    let l = listOf (now (a .list)) (countsOf (a .n)) in
-    c .knows .result ≡ knows l (a .k) (codeOf (l .signal (a .k)) (now (a .telegram)))
-known-is c =
-    let a = c .before .before .before .before .args in
-    c .knows .ensures ∙ ap (knows (listOf (now (a .list)) (countsOf (a .n))) (a .k)) (code-is (c .before))
+    let b = start (c .before) in
+    c .knows .result ≡ knows (under b) (b .args .k) (codeOf (under b .signal (b .args .k)) (now (b .args .telegram)))
+known-is c = rw (← (code-is (c .before))) (c .knows .ensures)
 
 reason-is : (c : tie.After-telegram-reason) →
-    let a = c .before .before .before .before .before .before .args in
-    let l = listOf (now (a .list)) (countsOf (a .n)) in
+    let b = start (c .before .before .before) in
+    let l = under b in
+    let s = l .signal (b .args .k) in
     c .telegram-reason .result
-    ≡ telegramReason (markOf l (l .signal (a .k)) (now (a .telegram))) (knows l (a .k) (codeOf (l .signal (a .k)) (now (a .telegram))))
+    ≡ telegramReason (markOf l s (now (b .args .telegram))) (knows l (b .args .k) (codeOf s (now (b .args .telegram))))
 reason-is c =
     let m = c .before in
-    let b = m .before .before .before .before .before in
-    let a = b .args in
-    c .telegram-reason .ensures
-    ∙ ap₂ telegramReason
-    (m .mark-in .ensures ∙ ap (λ (x : Signal). markOf (listOf (now (a .list)) (countsOf (a .n))) x (now (a .telegram))) (b .pre .1 .0))
-    (known-is (m .before))
+    rw (← (known-is (m .before)), ← (start (m .before .before) .pre .1 .0), ← (m .mark-in .ensures)) (c .telegram-reason .ensures)
 
 returns : tie.Need-returns
 returns c =
-    let b = c .before .before .before .before .before .before .before in
+    let b = start (c .before .before .before .before) in
     telegram-given _ _ _ _ _ (reason-is (c .before)) (simp (le-leb _ _ (c .if1 .taken)) (ap (λ (x : Signal). x .replacement) (b .pre .1 .0)))
 
 returns-2 : tie.Need-returns-2

@@ -11,10 +11,13 @@ use Rattle.reading.specs.Reading.{readingUnder}
 use Rattle.reading.proofs.read_under.Statement.{statement}
 use Rattle.reading.proofs.read_under.Tie as tie
 
-whole : (c : tie.Else1) → isStore (now (c .before .before .before .before .args .store)) ≡ true
+abbrev start : tie.Else1 → tie.Start
+start c = c .before .before .before .before
+
+whole : (c : tie.Else1) → isStore (now (start c .args .store)) ≡ true
 whole c = sym (c .before .is-store .ensures) ∙ not-false _ (c .if1 .left)
 
-numbered : (c : tie.Else2) → isVehicle (c .before .before .before .before .before .before .args .vehicle) ≡ true
+numbered : (c : tie.Else2) → isVehicle (start (c .before .before) .args .vehicle) ≡ true
 numbered c = sym (c .before .is-vehicle .ensures) ∙ not-false _ (c .if2 .left)
 
 returns : tie.Need-returns
@@ -34,8 +37,9 @@ returns-3 c =
 read-at-requires : tie.Need-read-at-requires
 read-at-requires c κs =
     let v = c .before .before in
+    let e = v .before .before in
     let n = both _ _ (numbered v) in
-    ((v .before .before .before .before .before .before .pre, c .if3 .left), (eqb-true _ _ (whole (v .before .before)), leb-true _ _ (n .0), leb-true _ _ (n .1)))
+    ((start e .pre, c .if3 .left), (eqb-true _ _ (whole e), leb-true _ _ (n .0), leb-true _ _ (n .1)))
 
 returns-4 : tie.Need-returns-4
 unfolding readingUnder refuseIf

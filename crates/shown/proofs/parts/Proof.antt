@@ -1,5 +1,4 @@
--- `shown::parts` meets its contract: the cast loses nothing, nor does the quotient by 2 ^ 12.
--- Assumes nothing.
+-- `shown::parts` meets its contract: the cast loses nothing, nor does the quotient by 2 ^ 12. Assumes nothing.
 use mathlib.Core.Bool.{false}
 use lib.Ieee.{ofBits}
 use Rattle.shown.proofs.Scales.{casts, quotient}

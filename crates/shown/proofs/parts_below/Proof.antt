@@ -1,5 +1,4 @@
--- `shown::parts_below` meets its contract, as `parts` does.
--- Assumes nothing.
+-- `shown::parts_below` meets its contract, as `parts` does. Assumes nothing.
 use mathlib.Core.Bool.{true}
 use lib.Ieee.{ofBits, neg}
 use Rattle.shown.proofs.Scales.{casts, quotient}

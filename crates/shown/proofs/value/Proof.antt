@@ -1,5 +1,4 @@
--- `shown::value` meets its contract: each scale is a whole number of 4096ths, and equal fractions have one nearest f32.
--- Assumes nothing.
+-- `shown::value` meets its contract: each scale is a whole number of 4096ths, and equal fractions have one nearest f32. Assumes nothing.
 use mathlib.Core.Path.{_≡_, ap, _∙_}
 use mathlib.Core.Bool.{false}
 use Prim.Native.Nat.{ℕ, _*_, _<_}

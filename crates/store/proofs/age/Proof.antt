@@ -5,7 +5,7 @@ use Rattle.store.proofs.age.Statement.{statement}
 use Rattle.store.proofs.age.Tie as tie
 
 returns : tie.Need-returns
-returns c = age-wraps (c .before .args .clock) (c .before .args .stamp) _ (c .before .fits .clock .fits) (c .before .fits .stamp .fits) (search needs) (c .wrapping-sub-u32 .ensures)
+returns c = age-wraps _ _ _ (c .before .fits .clock .fits) (c .before .fits .stamp .fits) (search needs) (c .wrapping-sub-u32 .ensures)
 
 pub age-spec : {M : Type 1} → statement M
 age-spec = tie.close (tie.spec (λ c κs. search needs) returns)

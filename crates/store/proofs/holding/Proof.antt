@@ -1,23 +1,24 @@
 -- `store::holding` meets its contract. Assumes nothing.
 use mathlib.Core.Path.{_≡_, sym, ap, _∙_}
 use mathlib.Core.Bool.{true, not}
-use mathlib.Core.List.{List}
-use Prim.Native.Nat.{ℕ}
 use denote.Ref.{now}
 use borrow.Author.Needs.{needs}
 use borrow.Author.Tests.{eqb-true, leb-true, not-false}
 use Rattle.bools.proofs.Tests.{both}
-use Rattle.paper.specs.Answer.{gives, refuseIf}
-use Rattle.paper.specs.Store.{isStore, isVehicle, slotFrom, slotOf}
-use Rattle.paper.specs.Reading.{holding, heldIn}
+use Rattle.paper.specs.Answer.{refuseIf}
+use Rattle.paper.specs.Store.{isStore, isVehicle, slotOf}
+use Rattle.paper.specs.Reading.{holding}
 use Rattle.store.proofs.Laws.{slot-whole}
 use Rattle.store.proofs.holding.Statement.{statement}
 use Rattle.store.proofs.holding.Tie as tie
 
-whole : (c : tie.Else1) → isStore (now (c .before .before .before .args .store)) ≡ true
+abbrev start : tie.Else1 → tie.Start
+start c = c .before .before .before
+
+whole : (c : tie.Else1) → isStore (now (start c .args .store)) ≡ true
 whole c = sym (c .before .is-store .ensures) ∙ not-false _ (c .if1 .left)
 
-numbered : (c : tie.Else2) → isVehicle (c .before .before .before .before .before .args .vehicle) ≡ true
+numbered : (c : tie.Else2) → isVehicle (start (c .before .before) .args .vehicle) ≡ true
 numbered c = sym (c .before .is-vehicle .ensures) ∙ not-false _ (c .if2 .left)
 
 returns : tie.Need-returns
@@ -42,8 +43,7 @@ returns-3 : tie.Need-returns-3
 unfolding holding refuseIf slotOf
 returns-3 c =
     let v = c .before .before in
-    let clock : ℕ = v .before .before .before .before .before .args .clock in
-    simp (whole (v .before .before), numbered v) (ap gives (c .held-in .ensures ∙ ap (λ (s : List ℕ). heldIn (slotFrom s) clock) (c .before .slot .ensures)))
+    simp (whole (v .before .before), numbered v, c .held-in .ensures, c .before .slot .ensures)
 
 pub holding-spec : {M : Type 1} → statement M
 holding-spec =

@@ -6,7 +6,6 @@ use denote.Ref.{now}
 use borrow.Author.Needs.{needs}
 use Rattle.paper.specs.Answer.{gives}
 use Rattle.paper.specs.Telegrams.{telegramType}
-use Rattle.paper.specs.Store.{Takes}
 use Rattle.paper.proofs.StoreLaws.{type-short}
 use Rattle.refusals.specs.Outcome.{outcomeOf}
 use Rattle.store.specs.Store.{takingTests}
@@ -14,15 +13,18 @@ use Rattle.store.proofs.Laws.{took-refused, took-done, tested-takes}
 use Rattle.store.proofs.take.Statement.{statement}
 use Rattle.store.proofs.take.Tie as tie
 
+abbrev start : tie.After-enum-told → tie.Start
+start c = c .before .before .before .before .before
+
 passed : (c : tie.After-enum-told) →
-    let a = c .before .before .before .before .before .args in
+    let a = start c .args in
     gives tt ≡ takingTests (length (now (a .store))) (a .vehicle) (now (a .telegram))
 passed c = sym (ap outcomeOf (c .enum-told .given .1)) ∙ c .before .before .taking-tests .ensures
 
 write-slot-requires : tie.Need-write-slot-requires
 write-slot-requires c κs =
-    let a = c .before .before .before .before .before .before .args in
-    let t : Takes (now (a .store)) (a .vehicle) (now (a .telegram)) = tested-takes (now (a .store)) (a .vehicle) (a .clock) (now (a .telegram)) (passed (c .before)) in
+    let a = start (c .before) .args in
+    let t = tested-takes (now (a .store)) (a .vehicle) (a .clock) (now (a .telegram)) (passed (c .before)) in
     (t .whole, t .first, t .last, omega (arith, t .long, type-short (telegramType (now (a .telegram)))))
 
 returns : tie.Need-returns

@@ -31,14 +31,11 @@ more : (c : tie.After-mark Inv-loop μ-loop) →
 more c =
     let l = c .before .before .before in
     let a = l .before .before .args in
-    let marks = now (a .marks) in
     let i = l .loop .i in
-    above-more (withMark marks (a .k)) (length marks) i (i - 1) 1 _ _ (omega arith) (l .loop .inv .3) (above-mark marks (a .k) i (i - 1) _ (omega arith) (c .mark .ensures .0))
+    above-more _ _ i (i - 1) 1 _ _ (omega arith) (l .loop .inv .3) (above-mark (now (a .marks)) (a .k) i (i - 1) _ (omega arith) (c .mark .ensures .0))
 
 fits : (c : tie.After-mark Inv-loop μ-loop) → (c .before .before .before .loop .set * 2 + c .mark .result) * 2 < 2 ^ 64
-fits c =
-    let a = c .before .before .before .before .before .args in
-    above-fits (withMark (now (a .marks)) (a .k)) (length (now (a .marks))) _ _ (search needs) (more c)
+fits c = above-fits _ _ _ _ (search needs) (more c)
 
 mul-set : tie.Need-mul-set Inv-loop μ-loop
 mul-set c = omega (arith, fits c)

@@ -10,7 +10,7 @@ use lib.Dec.{eqb, ltb}
 use lib.ListN.{length}
 use denote.Ref.{now}
 use Rattle.paper.specs.Answer.{Answer, gives, refuseIf}
-use Rattle.paper.specs.Train.{Members, consistRule, isAddress, member, membersOf, resolving}
+use Rattle.paper.specs.Train.{Vehicle, Members, consistRule, isAddress, membersOf, resolving}
 use Rattle.paper.proofs.AnswerLaws.{refuses, goes-past}
 use Rattle.train.specs.Marks.{vehicleOf}
 use Rattle.train.proofs.Sets.{ones-count}
@@ -23,54 +23,55 @@ lengths : (marks : List ℕ) (e l : Bool) → eqb (length marks) 0 ≡ e → ltb
     → (eqb (length (map vehicleOf marks)) 0 || ltb 63 (length (map vehicleOf marks))) ≡ (e || l)
 lengths marks e l p q = rw map-length (ap₂ _||_ p q)
 
+abbrev train : tie.Start → List Vehicle
+train s = map vehicleOf (now (s .args .marks))
+
 fits : (c : tie.Else2) →
-    let train = map vehicleOf (now (c .before .before .before .args .marks)) in
-    (eqb (length train) 0 || ltb 63 (length train)) ≡ false
+    let vehicles = length (train (c .before .before .before)) in
+    (eqb vehicles 0 || ltb 63 vehicles) ≡ false
 fits c =
     let marks = now (c .before .before .before .args .marks) in
-    lengths marks false false (ne-eqb (length marks) 0 (c .before .if1 .left)) (le-ltb 63 (length marks) (c .if2 .left))
+    lengths marks false false (ne-eqb _ 0 (c .before .if1 .left)) (le-ltb 63 _ (c .if2 .left))
+
+abbrev start : tie.After-consist-ok → tie.Start
+start c = c .before .before .before .before
 
 -- 18: the consist's rule
-rules : (c : tie.After-consist-ok) → not (consistRule (map vehicleOf (now (c .before .before .before .before .args .marks)))) ≡ not (c .consist-ok .result)
+rules : (c : tie.After-consist-ok) → not (consistRule (train (start c))) ≡ not (c .consist-ok .result)
 rules c = ap not (sym (c .consist-ok .ensures))
 
 -- 19: the address
-listed : (c : tie.After-is-address) → not (isAddress (c .before .before .before .before .before .before .args .address)) ≡ not (c .is-address .result)
+listed : (c : tie.After-is-address) → not (isAddress (start (c .before .before) .args .address)) ≡ not (c .is-address .result)
 listed c = ap not (sym (c .is-address .ensures))
 
 -- the members: the ones of the set are the vehicles in it
 members : (c : tie.After-set-of) →
-    let a = c .before .before .before .before .before .before .before .before .args in
-    _≡_ {A = Members} (record { set = c .set-of .result; size = ones (c .set-of .result) }) (membersOf (map vehicleOf (now (a .marks))) (a .address))
+    let s = start (c .before .before .before .before) in
+    _≡_ {A = Members} (record { set = c .set-of .result; size = ones (c .set-of .result) }) (membersOf (train s) (s .args .address))
 unfolding membersOf
-members c =
-    let a = c .before .before .before .before .before .before .before .before .args in
-    let train = map vehicleOf (now (a .marks)) in
-    ap₂ (λ (s n : ℕ). record { set = s; size = n }) (c .set-of .ensures)
-    (ap ones (c .set-of .ensures) ∙ ones-count (member train (a .address)) (length train))
+members c = rw (c .set-of .ensures, ones-count)
 
 -- past 17, 18 and 19 the answer is what is left
 past : (c : tie.After-set-of) (x : Answer Members) →
-    let a = c .before .before .before .before .before .before .before .before .args in
-    let train = map vehicleOf (now (a .marks)) in
-    x ≡ refuseIf (eqb (membersOf train (a .address) .size) 0) 20 0 (gives (membersOf train (a .address))) → x ≡ resolving train (a .address)
+    let s = start (c .before .before .before .before) in
+    let m = membersOf (train s) (s .args .address) in
+    x ≡ refuseIf (eqb (m .size) 0) 20 0 (gives m) → x ≡ resolving (train s) (s .args .address)
 unfolding resolving
 past c x e =
     let d = c .before in
     let r = d .before .before in
-    goes-past _ 17 0 _ _ (fits (r .before .before)) (goes-past _ 18 0 _ _ (rules (r .before) ∙ r .if3 .left) (goes-past _ 19 0 _ _ (listed (d .before) ∙ d .if4 .left) e))
+    goes-past _ 17 0 _ _ (fits (r .before .before))
+    (goes-past _ 18 0 _ _ (rules (r .before) ∙ r .if3 .left) (goes-past _ 19 0 _ _ (listed (d .before) ∙ d .if4 .left) e))
 
 returns : tie.Need-returns
 unfolding resolving
-returns c =
-    let marks = now (c .before .before .args .marks) in
-    refuses _ 17 0 _ (lengths marks true (ltb 63 (length marks)) (eq-eqb (length marks) 0 (c .if1 .taken)) refl)
+returns c = refuses _ 17 0 _ (lengths (now (c .before .before .args .marks)) true _ (eq-eqb _ 0 (c .if1 .taken)) refl)
 
 returns-2 : tie.Need-returns-2
 unfolding resolving
 returns-2 c =
     let marks = now (c .before .before .before .args .marks) in
-    refuses _ 17 0 _ (lengths marks false true (ne-eqb (length marks) 0 (c .before .if1 .left)) (lt-ltb 63 (length marks) (c .if2 .taken)))
+    refuses _ 17 0 _ (lengths marks false true (ne-eqb _ 0 (c .before .if1 .left)) (lt-ltb 63 _ (c .if2 .taken)))
 
 returns-3 : tie.Need-returns-3
 unfolding resolving
@@ -80,7 +81,8 @@ returns-4 : tie.Need-returns-4
 unfolding resolving
 returns-4 c =
     let r = c .before .before in
-    goes-past _ 17 0 _ _ (fits (r .before .before)) (goes-past _ 18 0 _ _ (rules (r .before) ∙ r .if3 .left) (refuses _ 19 0 _ (listed (c .before) ∙ c .if4 .taken)))
+    goes-past _ 17 0 _ _ (fits (r .before .before))
+    (goes-past _ 18 0 _ _ (rules (r .before) ∙ r .if3 .left) (refuses _ 19 0 _ (listed (c .before) ∙ c .if4 .taken)))
 
 returns-5 : tie.Need-returns-5
 unfolding resolving

@@ -61,8 +61,10 @@ unfolding meets
 returns-8 c =
     let a = c .before .before .before .args in
     let r = c .match .rest in
+    let q = r .0 .0 .0 in
+    let past = lt-leb _ _ (c .before .if1 .left) in
     set-none (λ v. false) (length (now (a .marks))) (λ i h. refl) ∙ set-meets (now (a .marks)) (a .address) (λ v. false) (λ i.
-    simp (lt-leb _ _ (c .before .if1 .left), ne-eqb _ _ (r .1), ne-eqb _ _ (r .0 .1), ne-eqb _ _ (r .0 .0 .1), ne-eqb _ _ (r .0 .0 .0 .1), ne-eqb _ _ (r .0 .0 .0 .0 .1), ne-eqb _ _ (r .0 .0 .0 .0 .0 .1)))
+    simp (past, ne-eqb _ _ (r .1), ne-eqb _ _ (r .0 .1), ne-eqb _ _ (r .0 .0 .1), ne-eqb _ _ (q .1), ne-eqb _ _ (q .0 .1), ne-eqb _ _ (q .0 .0 .1)))
 
 pub set-of-spec : {M : Type 1} → statement M
 set-of-spec =

@@ -27,16 +27,12 @@ more : (c : tie.After-four Inv-loop μ-loop) →
     above (withMark (now (a .marks)) (a .k)) (length (now (a .marks))) ((l .loop .fours - 1) * 4) (l .loop .set * 16 + c .four .result)
 more c =
     let l = c .before .before in
-    let a = l .before .before .before .args in
     let f = l .loop .fours in
     let e : f * 4 ≡ (f - 1) * 4 + 4 = omega arith in
-    let p = withMark (now (a .marks)) (a .k) in
-    above-more p (length (now (a .marks))) ((f - 1) * 4 + 4) ((f - 1) * 4) 4 _ _ (omega arith) (rw e at (l .loop .inv .1)) (c .four .ensures)
+    above-more _ _ ((f - 1) * 4 + 4) ((f - 1) * 4) 4 _ _ (omega arith) (rw e at (l .loop .inv .1)) (c .four .ensures)
 
 fits : (c : tie.After-four Inv-loop μ-loop) → (c .before .before .loop .set * 16 + c .four .result) * 2 < 2 ^ 64
-fits c =
-    let a = c .before .before .before .before .before .args in
-    above-fits (withMark (now (a .marks)) (a .k)) (length (now (a .marks))) _ _ (search needs) (more c)
+fits c = above-fits _ _ _ _ (search needs) (more c)
 
 mul-set : tie.Need-mul-set Inv-loop μ-loop
 mul-set c = omega (arith, fits c)
@@ -49,17 +45,14 @@ loop-again c = (omega arith, more c)
 
 mul-result : tie.Need-mul-result Inv-loop μ-loop
 mul-result c =
-    let l = c .before in
-    let a = l .before .before .before .args in
-    let f = above-fits (withMark (now (a .marks)) (a .k)) (length (now (a .marks))) _ _ (search needs) (l .loop .inv .1) in
+    let f = above-fits _ _ _ _ (search needs) (c .before .loop .inv .1) in
     omega (arith, f)
 
 returns : tie.Need-returns Inv-loop μ-loop
 returns c =
     let l = c .before in
-    let a = l .before .before .before .args in
     let z : l .loop .fours * 4 ≡ 0 = omega arith in
-    above-all (withMark (now (a .marks)) (a .k)) (length (now (a .marks))) _ (rw z at (l .loop .inv .1))
+    above-all _ _ _ (rw z at (l .loop .inv .1))
 
 pub with-mark-spec : {M : Type 1} → statement M
 with-mark-spec =

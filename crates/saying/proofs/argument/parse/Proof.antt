@@ -36,10 +36,9 @@ turn : (c : tie.After-goes-on Inv-loop μ-loop) →
     let l = c .before .before .before in
     let a = l .before .before .before .args in
     let x = getD (now (a .text)) (l .loop .i) 0 in
-    cond (goesOn (a .most) (l .loop .n) x) (numberFrom (a .most) (andDigit (l .loop .n) x) (drop (l .loop .i + 1) (now (a .text)))) Not ≡ numberIn (a .most) (now (a .text))
-turn c =
-    let l = c .before .before .before in
-    sym (step _ _ _ _ (c .before .before .loop-test .taken)) ∙ l .loop .inv .1
+    cond (goesOn (a .most) (l .loop .n) x) (numberFrom (a .most) (andDigit (l .loop .n) x) (drop (l .loop .i + 1) (now (a .text)))) Not
+    ≡ numberIn (a .most) (now (a .text))
+turn c = sym (step _ _ _ _ (c .before .before .loop-test .taken)) ∙ c .before .before .before .loop .inv .1
 
 returns : tie.Need-returns Inv-loop μ-loop
 returns c = simp (eq-eqb _ _ (c .if1 .taken))
