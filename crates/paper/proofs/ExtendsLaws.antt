@@ -6,9 +6,9 @@ use mathlib.Core.Bool.{Bool, true, false, not, _||_, or-true}
 use mathlib.Core.List.{List}
 use native.Mathlib.Omega.{arith}
 use borrow.Author.Tests.{ltb-true, eqb-true, eq-eqb, lt-ltb}
-use Rattle.paper.specs.Answer.{Answer, gives, refused}
+use Rattle.paper.specs.Answer.{gives}
 use Rattle.paper.specs.First.{some}
-use Rattle.paper.specs.SignalList.{Signal, SignalList, Counts, greatestSince, judge, listOf, version, knows, OfTwo, ofBoth, firstRefused, secondRefused, ofTwo}
+use Rattle.paper.specs.SignalList.{Signal, SignalList, Counts, greatestSince, judge, listOf, version, knows, ofBoth, firstRefused, secondRefused}
 use Rattle.paper.specs.Extends.{same, codesKept, keeps, stands, newer, extends, extendsLists, Agree, Keeps, Extended, Related}
 use Rattle.paper.proofs.AnswerLaws.{gives-one, by-both}
 use Rattle.paper.proofs.FirstLaws.{all-at, all-true, some-at, some-true, greatest-least, greatest-at, greatest-most}

@@ -12,7 +12,7 @@ use lib.Dec.{ltb, eqb}
 use borrow.Author.Tests.{ltb-true, ltb-false, lt-ltb, le-ltb, eqb-true, eq-eqb, ne-eqb}
 use Rattle.paper.specs.First.{firstBad, all, some, passing, next}
 use Rattle.paper.specs.Search.{Rises}
-use Rattle.paper.specs.SignalList.{SignalList, OfTwo, ofBoth, firstRefused, secondRefused, judge, listOf}
+use Rattle.paper.specs.SignalList.{SignalList, ofBoth, firstRefused, secondRefused, judge, listOf}
 use Rattle.paper.specs.Accepted.{Kept}
 use Rattle.paper.specs.Answer.{Sought, found, nothing}
 use Rattle.paper.specs.Pairs.{signalFound, Keyed, has, index, signalKey, signalKeys, signalsOf, Pair, pairAt, inEither, pairs, nextPair, pairing, Rising, Once, pairsFrom}

@@ -5,7 +5,6 @@ use borrow.Author.Needs.{needs}
 use borrow.Author.Tests.{lt-ltb, le-ltb}
 use Rattle.paper.specs.Answer.{gives}
 use Rattle.paper.specs.SignalList.{judge}
-use Rattle.paper.specs.Accepted.{Laid}
 use Rattle.paper.specs.Pairs.{routeEntry}
 use Rattle.paper.proofs.AnswerLaws.{stays, goes-on}
 use Rattle.lists.specs.Judged.{countsOf, judgedAnswer}
