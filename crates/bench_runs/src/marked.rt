@@ -2,12 +2,13 @@
 use gateway::HeldOutcome;
 use gateway::Kind;
 use gateway::Marshalled;
-use gateway::Outcome;
 use gateway::ReadOutcome;
+use gateway::Refusal;
 use gateway::STORE;
 use gateway::Showing;
 use gateway::Shown;
-use libc::STDOUT_FILENO;
+use gateway::TELEGRAM;
+use saying::Line;
 
 // The list L, for voltage selection (4.3): octet 54 bits 0-3, check 41 2/3.
 const L: [u8; 44] = [
@@ -57,93 +58,85 @@ const L: [u8; 44] = [
     0x00,
 ];
 
-fn say(text: &[u8]) {
-    io::write_all(STDOUT_FILENO, text);
+fn say_count(line: Line, name: &[u8], n: u64) -> Line {
+    saying::say_number(saying::say(line, name), n)
 }
 
-fn number(text: &[u8], n: u64) {
-    say(text);
-    io::print_decimal(STDOUT_FILENO, n);
+fn say_refused(line: Line, f: Refusal) -> Line {
+    say_count(line, b" refused ", gateway::number(f) as u64)
 }
 
-// Vehicle 1 sends R1, version 1, with these octets 41 and 54.
+// Vehicle 1 sends R1, version 1, with these octets 41 and 54. What is refused shows in what is read.
 fn heard_at(store: &mut [u8; STORE], o41: u8, o54: u8, stamp: u32) {
-    let mut telegram = [0u8; 128];
+    let mut telegram = [0u8; TELEGRAM];
     telegram[0] = 0x11;
     telegram[1] = 0x01;
     telegram[40] = o41;
     telegram[53] = o54;
-    let taken = gateway::take(store, 1, stamp, &telegram);
-    if let Outcome::Refused(f) = taken {
-        number(b"refused ", gateway::number(f) as u64);
-    }
+    gateway::take(store, 1, stamp, &telegram);
 }
 
 // One reading: the value and the reason.
-fn read(store: &[u8; STORE], clock: u32) {
+fn say_read(line: Line, store: &[u8; STORE], clock: u32) -> Line {
     let read = gateway::read(&L, store, clock, 1, 0);
     match read {
-        ReadOutcome::Read(r) => {
-            number(b" value ", r.value);
-            number(b" reason ", r.reason as u64);
-        }
-        ReadOutcome::Refused(f) => number(b" refused ", gateway::number(f) as u64),
+        ReadOutcome::Read(r) => say_count(
+            say_count(line, b" value ", r.value),
+            b" reason ",
+            r.reason as u64,
+        ),
+        ReadOutcome::Refused(f) => say_refused(line, f),
     }
 }
 
-fn age(store: &[u8; STORE], clock: u32) {
+fn say_age(line: Line, store: &[u8; STORE], clock: u32) -> Line {
     let held = gateway::holding(store, clock, 1);
-    if let HeldOutcome::Held(h) = held {
-        number(b" age ", h.age as u64);
+    match held {
+        HeldOutcome::Held(h) => say_count(line, b" age ", h.age as u64),
+        HeldOutcome::Refused(f) => say_refused(line, f),
     }
 }
 
 fn reads(name: &[u8], o41: u8, o54: u8, stamp: u32, clock: u32) {
     let mut store = [0u8; STORE];
     heard_at(&mut store, o41, o54, stamp);
-    say(name);
-    read(&store, clock);
-    age(&store, clock);
-    say(b"\n");
+    let l = say_read(saying::say(saying::empty(), name), &store, clock);
+    saying::print(say_age(l, &store, clock));
 }
 
 fn wide(x: u8) -> u64 {
     x as u64
 }
 
-fn octet(bus: &[u8; 1]) {
-    number(b" octet ", wide(bus[0]));
+fn say_octet(line: Line, bus: &[u8; 1]) -> Line {
+    say_count(line, b" octet ", wide(bus[0]))
 }
 
 // One octet of data, marshalled: what it is afterwards, and the live count.
 fn marshals(name: &[u8], store: &[u8; STORE], clock: u32) {
     let mut bus = [0xABu8; 1];
-    say(name);
+    let l = saying::say(saying::empty(), name);
     let done = gateway::marshal(&L, store, clock, &mut bus);
-    match done {
-        Marshalled::Live(n) => number(b" live ", n as u64),
-        Marshalled::Refused(f) => number(b" refused ", gateway::number(f) as u64),
-    }
-    octet(&bus);
-    say(b"\n");
+    let l = match done {
+        Marshalled::Live(n) => say_count(l, b" live ", n as u64),
+        Marshalled::Refused(f) => say_refused(l, f),
+    };
+    saying::print(say_octet(l, &bus));
 }
 
 // A speed, in whole km/h.
-fn speeds(name: &[u8], raw: u64) {
-    say(name);
+fn say_speed(line: Line, raw: u64) -> Line {
     let seen = gateway::show(Kind::Speed, 16, raw);
-    match seen {
-        Showing::Shown(s) => match s {
-            Shown::Speed(x) => {
-                if x == 256.0 {
-                    say(b" speed 256");
-                }
-            }
-            _ => say(b" no speed"),
-        },
-        Showing::Refused(f) => number(b" refused ", gateway::number(f) as u64),
+    let Showing::Shown(s) = seen else {
+        return saying::say(line, b" refused");
+    };
+    let Shown::Speed(x) = s else {
+        return saying::say(line, b" no speed");
+    };
+    if x == 256.0 {
+        return saying::say(line, b" speed 256");
     }
-    say(b"\n");
+    saying::say(line, b" another speed")
 }
 
 pub fn run() {
@@ -160,5 +153,5 @@ pub fn run() {
     marshals(b"(k)", &store, 5000);
     heard_at(&mut store, 0x10, 0x40, 0);
     marshals(b"(j)", &store, 5000);
-    speeds(b"(l)", 16384);
+    saying::print(say_speed(saying::say(saying::empty(), b"(l)"), 16384));
 }

@@ -1,7 +1,6 @@
 // Looks bits up in the R1 grouping, and writes what each is answered: document 01's two cases, the first and the last bit of every row,
 // and both neighbours of the whole range.
 use gateway::Place;
-use libc::STDOUT_FILENO;
 
 const BITS: [u64; 38] = [
     492,
@@ -44,26 +43,20 @@ const BITS: [u64; 38] = [
     584,
 ];
 
-fn address(bit: u64) {
-    io::write_all(STDOUT_FILENO, b"octet ");
-    io::print_decimal(STDOUT_FILENO, bit / 8 + 1);
-    io::write_all(STDOUT_FILENO, b" bit ");
-    io::print_decimal(STDOUT_FILENO, bit % 8);
-}
-
 fn show(bit: u64) {
-    address(bit);
-    match gateway::check_place(bit) {
-        Place::At(place) => {
-            io::write_all(STDOUT_FILENO, b": check place ");
-            address(place as u64);
-        }
+    let l = words::say_field(saying::empty(), bit as usize, 1);
+    let found = gateway::check_place(bit);
+    match found {
+        Place::At(place) => saying::print(words::say_field(
+            saying::say(l, b": check place "),
+            place,
+            1,
+        )),
         Place::Refused(f) => {
-            io::write_all(STDOUT_FILENO, b": refused ");
-            io::print_decimal(STDOUT_FILENO, gateway::number(f) as u64);
+            let number = gateway::number(f);
+            saying::print(saying::say_number(saying::say(l, b": refused "), number as u64));
         }
     }
-    io::write_all(STDOUT_FILENO, b"\n");
 }
 
 pub fn run() {
