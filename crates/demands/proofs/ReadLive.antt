@@ -5,6 +5,7 @@ use mathlib.Core.Logic.{_↔_}
 use mathlib.Core.List.{List}
 use Rattle.paper.specs.Answer.{gives}
 use Rattle.paper.specs.First.{FirstAt}
+use Rattle.paper.specs.Telegrams.{ok, forced}
 use Rattle.paper.specs.SignalList.{Counts, judge, listOf}
 use Rattle.paper.specs.Store.{slotOf}
 use Rattle.paper.specs.Reading as paper
@@ -29,6 +30,15 @@ module _ (xs store : List ℕ) (now v k : ℕ) (g : Reading) (read : readAnswer 
     -- ok or forced, and the code is known."
     pub live-exactly : (g .reason ≤ 1) ↔ paper.Live (listOf xs n) (slotOf store v) now k
     live-exactly = rw is at (laws.live-exactly (listOf xs n) (slotOf store v) now k)
+
+    -- "0 live ok (also where there is no check) or 1 live forced"
+    pub ok-exactly : let l = listOf xs n in let slot = slotOf store v in
+        (g .reason ≡ 0) ↔ (paper.Live l slot now k × (paper.markOf l (l .signal k) (slot .telegram) ≡ ok))
+    ok-exactly = rw is at (laws.ok-exactly (listOf xs n) (slotOf store v) now k)
+
+    pub forced-exactly : let l = listOf xs n in let slot = slotOf store v in
+        (g .reason ≡ 1) ↔ (paper.Live l slot now k × (paper.markOf l (l .signal k) (slot .telegram) ≡ forced))
+    forced-exactly = rw is at (laws.forced-exactly (listOf xs n) (slotOf store v) now k)
 
     -- "the first reason that applies": reason 2 + i exactly when test i is the first to hold
     pub reason-exactly : (i : ℕ) → i < 7 → (g .reason ≡ 2 + i) ↔ FirstAt (paper.hindrances (listOf xs n) (slotOf store v) now k) i

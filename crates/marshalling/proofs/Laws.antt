@@ -12,7 +12,7 @@ use lib.Dec.{ltb}
 use borrow.Author.Tests.{lt-ltb, le-ltb}
 use Rattle.paper.specs.Octets.{bit, field}
 use Rattle.paper.specs.Answer.{Answer, gives, refused, andThen}
-use Rattle.paper.specs.First.{some}
+use Rattle.paper.specs.First.{some, count}
 use Rattle.paper.specs.SignalList.{SignalList, Counts, routeEnd, judge, listOf}
 use Rattle.paper.specs.Reading.{readingAt}
 use Rattle.paper.specs.Marshalling as paper
@@ -92,7 +92,7 @@ pub delivered-on : {A : Type 0} (r : A) (a : Answer A) (k : A → Answer paper.M
     → gives r ≡ a → Delivered (k r) old o new → Delivered (andThen a k) old o new
 delivered-on r a k old o new e w = rw (← e) w
 
--- ---- what a call that was not refused tells
+-- ---- what a call tells
 
 pub delivered-gives : (a : Answer paper.Marshalled) (old : List ℕ) (k : ℕ) (new : List ℕ) → Delivered a old (Live k) new
     → a ≡ gives (record { octets = new; lives = k })
@@ -101,6 +101,11 @@ delivered-gives (gives m) old k new d =
     let q : m .lives ≡ k = cc in
     ap₂ (λ (o : List ℕ) (c : ℕ). gives (record { octets = o; lives = c })) (sym (d .octets)) q
 delivered-gives (refused n at) old k new d = let e = d .lives in let z : _≡_ {A = ℕ} 0 1 = cc in absurd (omega arith)
+
+-- "changes no lent octet"
+pub refused-keeps : (a : Answer paper.Marshalled) (old : List ℕ) (f : Refusal) (new : List ℕ) → Delivered a old (Refused f) new → new ≡ old
+refused-keeps (gives m) old f new d = let e = d .lives in let z : _≡_ {A = ℕ} 0 1 = cc in absurd (omega arith)
+refused-keeps (refused n at) old f new d = d .octets
 
 module _ (xs store : List ℕ) (now : ℕ) (bus : List ℕ) (k : ℕ) (new : List ℕ) (d : Delivered (paper.marshalling xs store now bus) bus (Live k) new) where
   -- the list was accepted, the store is whole, the data are long enough, and the count and the data afterwards are the definition's
@@ -120,6 +125,10 @@ module _ (xs store : List ℕ) (now : ℕ) (bus : List ℕ) (k : ℕ) (new : Lis
     pub other-bit : let l = listOf xs n in (a : ℕ) → ((r : ℕ) → r < n .routes → l .route r .start ≤ a → a < routeEnd (l .signal) (l .route r) → ⊥)
         → bit new a ≡ bit bus a
     other-bit = rw is at (laws.other-bit xs store now bus _ marshal-tells)
+
+    -- the count is the number of routes that are live, each exactly as the paper's `counted-exactly` says
+    pub lives-counted : k ≡ count (paper.live (listOf xs n) store now) (n .routes)
+    lives-counted = rw is at (marshal-tells .lives)
 
 -- ---- the contract settles the answer
 

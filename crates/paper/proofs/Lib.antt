@@ -13,4 +13,5 @@ pub mod MarshallingLaws
 pub mod ComposingLaws
 pub mod ExtendsLaws
 pub mod PairLaws
+pub mod RefusalLaws
 pub mod Demands

@@ -2,25 +2,26 @@
 -- on no other vehicle's slot. Assumes nothing.
 use Prim.Native.Nat.{ℕ, _*_, _^_, _≤_, _<_}
 use mathlib.Core.Path.{_≡_, refl, sym, ap, _∙_}
-use mathlib.Core.Logic.{inr}
+use mathlib.Core.Logic.{inr, _↔_}
 use mathlib.Core.Bool.{Bool, true, false, cond}
 use mathlib.Core.List.{List}
 use lib.ListN.{length}
 use lib.Dec.{ltb, leb}
-use borrow.Author.Tests.{ltb-false, eqb-true, not-false}
+use borrow.Author.Tests.{ltb-false, le-ltb, leb-true, le-leb, eqb-true, eq-eqb, not-false}
 use Rattle.paper.specs.Octets.{bit, field}
-use Rattle.paper.specs.Answer.{gives}
+use Rattle.paper.specs.Answer.{gives, refuseIf}
+use Rattle.paper.specs.First.{count}
 use Rattle.paper.specs.SignalList.{SignalList, Counts, routeEnd, judge, listOf}
-use Rattle.paper.specs.Store.{Slot, slotOf}
-use Rattle.paper.specs.Reading.{Reading, codeOf, reasonOf, readingOf, readingAt}
+use Rattle.paper.specs.Store.{storeOctets, Slot, slotOf}
+use Rattle.paper.specs.Reading.{Reading, codeOf, reasonOf, readingOf, readingAt, Live}
 use Rattle.paper.specs.Marshalling.{routed, routePut, marshalled, live, Marshalled, marshalling, Marshals}
 use Rattle.paper.proofs.AnswerLaws.{not-refused, and-then, gives-one}
-use Rattle.paper.proofs.FirstLaws.{some-none}
+use Rattle.paper.proofs.FirstLaws.{some-none, some-false}
 use Rattle.paper.proofs.FieldLaws.{field-lt}
 use Rattle.paper.proofs.PutsLaws.{bit-puts-other, field-puts}
 use Rattle.paper.specs.Accepted.{Kept}
 use Rattle.paper.proofs.ListLaws.{kept, routes-apart}
-use Rattle.paper.proofs.ReadingLaws.{isolation}
+use Rattle.paper.proofs.ReadingLaws.{isolation, live-exactly}
 
 -- a reading fits its signal's width, live or replaced
 pub reading-fits : (l : SignalList) → Kept l → (slot : Slot) (now k : ℕ) → k < l .signals → readingOf l slot now k .value < 2 ^ l .signal k .width
@@ -64,6 +65,28 @@ marshals xs store now bus m e =
       octets = ap (λ (x : Marshalled). x .octets) q;
       lives = ap (λ (x : Marshalled). x .lives) q;
     }
+
+-- and what meets that is marshalled
+pub marshals-it : (xs store : List ℕ) (now : ℕ) (bus : List ℕ) (n : Counts) → judge xs ≡ gives n → length store ≡ storeOctets
+    → ((r : ℕ) → r < n .routes → routeEnd (listOf xs n .signal) (listOf xs n .route r) ≤ 8 * length bus)
+    → let l = listOf xs n in marshalling xs store now bus
+    ≡ gives (record { octets = marshalled l store now bus (n .routes); lives = count (live l store now) (n .routes) })
+unfolding marshalling refuseIf
+marshals-it xs store now bus n accepted whole room =
+    let l = listOf xs n in
+    rw (
+      accepted,
+      eq-eqb _ _ whole,
+      some-false (λ r. ltb (8 * length bus) (routeEnd (l .signal) (l .route r))) (n .routes) (λ r lt. le-ltb _ _ (room r lt)),
+    )
+
+-- "how many routes had reason 0 or 1": a route counts exactly when its value is live, ok or forced
+pub counted-exactly : (l : SignalList) (store : List ℕ) (now r : ℕ)
+    → (live l store now r ≡ true) ↔ Live l (slotOf store (l .route r .vehicle)) now (l .route r .signal)
+unfolding live routed readingAt
+counted-exactly l store now r =
+    let x = live-exactly l (slotOf store (l .route r .vehicle)) now (l .route r .signal) in
+    (λ e. x .0 (leb-true _ _ e), λ h. le-leb _ _ (x .1 h))
 
 -- DEMAND 2 for marshalling: of every accepted call, each destination field holds its reading
 pub destination : (xs store : List ℕ) (now : ℕ) (bus : List ℕ) (m : Marshalled) (h : Marshals xs store now bus m)

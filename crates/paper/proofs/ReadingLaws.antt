@@ -1,20 +1,20 @@
 -- Demand 2 over the definitions: a value is live exactly when it should be, and otherwise the first reason that applies. Assumes nothing.
 use Prim.Native.Nat.{ℕ, zero, suc, _+_, _-_, _≤_, _<_}
-use mathlib.Core.Path.{_≡_, refl, ap, _∙_}
-use mathlib.Core.Logic.{_↔_, _⊎_, inl, inr}
+use mathlib.Core.Path.{_≡_, refl, sym, ap, _∙_}
+use mathlib.Core.Logic.{_↔_, _⊎_, inl, inr, ⊎-elim}
 use mathlib.Core.Bool.{Bool, true, false, not, cond, false≢true}
 use mathlib.Core.List.{List, [], _∷_}
 use native.Mathlib.Omega.{arith}
 use native.Mathlib.Decide.{ℕ-discrete}
 use lib.ListN.{length, getD}
 use lib.Dec.{eqb}
-use borrow.Author.Tests.{ltb-true, ltb-false, leb-true, eqb-true, eqb-false, not-false, le-leb, lt-leb, le-ltb, ne-eqb}
+use borrow.Author.Tests.{ltb-true, ltb-false, leb-true, eqb-true, eqb-false, eq-eqb, not-false, le-leb, lt-leb, le-ltb, lt-ltb, ne-eqb}
 use Rattle.paper.specs.Octets.{field}
-use Rattle.paper.specs.Answer.{gives}
+use Rattle.paper.specs.Answer.{gives, refuseIf}
 use Rattle.paper.specs.First.{firstOf, FirstAt, None}
 use Rattle.paper.specs.Telegrams.{ok, forced, markWidth}
-use Rattle.paper.specs.SignalList.{Signal, SignalList, judge, placeOf}
-use Rattle.paper.specs.Store.{Slot, slotOf}
+use Rattle.paper.specs.SignalList.{Signal, SignalList, Counts, judge, listOf, placeOf}
+use Rattle.paper.specs.Store.{vehicles, storeOctets, Slot, slotOf}
 use Rattle.paper.specs.Reading.{Reading, markOf, codeOf, hindrances, reasonOf, readingOf, readingAt, reading, Live, Reads}
 use Rattle.paper.proofs.AnswerLaws.{not-refused, gives-one, and-then}
 use Rattle.paper.proofs.FieldLaws.{field-lt}
@@ -97,6 +97,26 @@ mark-lt l s telegram = by (eqb (s .check) 0)
     by true = omega arith
     by false = field-lt telegram (placeOf l s) 2
 
+-- the marks ok and forced in the telegram's own bits; where there is no check the mark counts as ok
+module _ (l : SignalList) (s : Signal) (t : List ℕ) where
+  in-bits : (s .check ≡ 0 → ⊥) → markOf l s t ≡ field t (placeOf l s) markWidth
+  unfolding markOf
+  in-bits n = simp (ne-eqb (s .check) 0 n)
+
+  unchecked : s .check ≡ 0 → markOf l s t ≡ ok
+  unfolding markOf
+  unchecked z = simp (eq-eqb (s .check) 0 z)
+
+  pub mark-ok : (markOf l s t ≡ ok) ↔ ((s .check ≡ 0) ⊎ (field t (placeOf l s) markWidth ≡ ok))
+  mark-ok = by (ℕ-discrete (s .check) 0)
+    where
+      by : Dec (s .check ≡ 0) → (markOf l s t ≡ ok) ↔ ((s .check ≡ 0) ⊎ (field t (placeOf l s) markWidth ≡ ok))
+      by (yes z) = (λ e. inl z, λ h. unchecked z)
+      by (no n) = (λ e. inr (sym (in-bits n) ∙ e), λ h. in-bits n ∙ ⊎-elim (λ z. absurd (n z)) (λ e. e) h)
+
+  pub mark-forced : (markOf l s t ≡ forced) ↔ ((s .check ≡ 0 → ⊥) × (field t (placeOf l s) markWidth ≡ forced))
+  mark-forced = (λ e. let n : s .check ≡ 0 → ⊥ = λ z. omega (arith, unchecked z) in (n, sym (in-bits n) ∙ e), λ h. in-bits (h .0) ∙ h .1)
+
 module _ (l : SignalList) (slot : Slot) (now k : ℕ) where
   none-live : None (hindrances l slot now k) → Live l slot now k
   unfolding hindrances
@@ -133,6 +153,23 @@ module _ (l : SignalList) (slot : Slot) (now k : ℕ) where
   unfolding readingOf
   live-exactly = (λ e. none-live (live-none l slot now k .0 e), λ h. live-none l slot now k .1 (live-none-holds h))
 
+  live-marked : (m : ℕ) → Live l slot now k → markOf l (l .signal k) (slot .telegram) ≡ m → readingOf l slot now k .reason ≡ cond (eqb m forced) 1 0
+  unfolding readingOf reasonOf
+  live-marked m h q = rw (← q) (first-of-none 2 (hindrances l slot now k) _ (live-none-holds h))
+
+  -- "0 live ok (also where there is no check) or 1 live forced"
+  pub ok-exactly : (readingOf l slot now k .reason ≡ 0) ↔ (Live l slot now k × (markOf l (l .signal k) (slot .telegram) ≡ ok))
+  ok-exactly = (
+    λ e. let h = live-exactly .0 (omega arith) in (h, ⊎-elim (λ q. q) (λ q. absurd (omega (arith, live-marked forced h q))) (h .mark)),
+    λ h. live-marked ok (h .0) (h .1),
+  )
+
+  pub forced-exactly : (readingOf l slot now k .reason ≡ 1) ↔ (Live l slot now k × (markOf l (l .signal k) (slot .telegram) ≡ forced))
+  forced-exactly = (
+    λ e. let h = live-exactly .0 (omega arith) in (h, ⊎-elim (λ q. absurd (omega (arith, live-marked ok h q))) (λ q. q) (h .mark)),
+    λ h. live-marked forced (h .0) (h .1),
+  )
+
   -- a live value is the code in the signal's field, and any other the replacement
   pub live-value : readingOf l slot now k .reason ≤ 1 → readingOf l slot now k .value ≡ codeOf (l .signal k) (slot .telegram)
   unfolding readingOf
@@ -167,3 +204,10 @@ reads xs store now v k r e =
       there = ltb-true _ _ (not-false _ (c .0));
       is = gives-one _ _ _ refl (c .1);
     }
+
+-- and what meets that is read
+pub reads-it : (xs store : List ℕ) (now v k : ℕ) (n : Counts) → judge xs ≡ gives n → length store ≡ storeOctets → 1 ≤ v → v ≤ vehicles → k < n .signals
+    → reading xs store now v k ≡ gives (readingOf (listOf xs n) (slotOf store v) now k)
+unfolding reading readingAt refuseIf
+reads-it xs store now v k n accepted whole first last there =
+    rw (accepted, eq-eqb _ _ whole, le-leb _ _ first, le-leb _ _ last, lt-ltb _ _ there)

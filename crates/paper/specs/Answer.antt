@@ -1,5 +1,6 @@
 -- Document 01, "Refusal numbers": what a call answers. Each refusal "returns its number and changes no lent octet".
-use Prim.Native.Nat.{ℕ, _+_}
+use Prim.Native.Nat.{ℕ, _+_, _≤_}
+use mathlib.Core.Path.{_≡_}
 use mathlib.Core.Bool.{Bool, true, false}
 use mathlib.Core.List.{List}
 
@@ -37,6 +38,15 @@ forget (refused n at) = refused n at
 abbrev pub mapAnswer : {A B : Type 0} → (A → B) → Answer A → Answer B
 mapAnswer f (gives a) = gives (f a)
 mapAnswer f (refused n at) = refused n at
+
+-- the call is not refused
+abbrev pub Given : {A : Type 0} → Answer A → Type 0
+Given {A} a = (x : A) × (a ≡ gives x)
+
+-- a refusal's number is never 0
+unfoldable pub Numbered : {A : Type 0} → Answer A → Type 0
+Numbered (gives a) = Unit {0}
+Numbered (refused n at) = 1 ≤ n
 
 -- what is looked for, or that there is none
 pub data Sought (A : Type 0) : Type 0 where

@@ -1,5 +1,6 @@
 -- Document 01, "The signal list": its entries, the rule of each, and the judging to number and offset.
-use Prim.Native.Nat.{ℕ, _+_, _-_, _*_, _%_, _^_}
+use Prim.Native.Nat.{ℕ, _+_, _-_, _*_, _%_, _^_, _≤_}
+use mathlib.Core.Path.{_≡_}
 use mathlib.Core.Bool.{Bool, not, cond, _&&_, _||_}
 use mathlib.Core.List.{List}
 use lib.ListN.{length, getD, drop}
@@ -295,6 +296,15 @@ pub data OfTwo (A : Type 0) : Type 0 where
   ofBoth : A → OfTwo A
   firstRefused : ℕ → ℕ → OfTwo A
   secondRefused : ℕ → ℕ → OfTwo A
+
+-- the call is not refused; a refusal's number is never 0
+abbrev pub GivenTwo : {A : Type 0} → OfTwo A → Type 0
+GivenTwo {A} a = (x : A) × (a ≡ ofBoth x)
+
+unfoldable pub NumberedTwo : {A : Type 0} → OfTwo A → Type 0
+NumberedTwo (ofBoth a) = Unit {0}
+NumberedTwo (firstRefused n at) = 1 ≤ n
+NumberedTwo (secondRefused n at) = 1 ≤ n
 
 abbrev pub ofTwo : {A B : Type 0} → Answer A → (ℕ → ℕ → OfTwo B) → (A → OfTwo B) → OfTwo B
 ofTwo (gives n) refusal call = call n

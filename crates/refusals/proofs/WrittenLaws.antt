@@ -3,7 +3,7 @@ use Prim.Native.Nat.{ℕ}
 use mathlib.Core.Path.{_≡_, refl, sym, ap, ap₂, _∙_}
 use mathlib.Core.List.{List}
 use native.Mathlib.Omega.{arith}
-use Rattle.paper.specs.Answer.{Answer, gives, refused, andThen}
+use Rattle.paper.specs.Answer.{Answer, gives, refused, andThen, after}
 use Rattle.paper.proofs.AnswerLaws.{one-answer}
 use Rattle.refusals.specs.declared.Refusal.{Refusal}
 use Rattle.refusals.specs.declared.Outcome.{Outcome}
@@ -31,6 +31,10 @@ written-gives (refused n at) old new w = let e = w .outcome in let z : _≡_ {A 
 pub written-not : (a : Answer (List ℕ)) (old : List ℕ) (f : Refusal) (new : List ℕ) → Written a old (O.Refused f) new → a ≡ refused (numberOf f) (carriedOf f)
 written-not (gives x) old f new w = let e = w .outcome in let z : _≡_ {A = ℕ} 0 1 = cc in absurd (omega arith)
 written-not (refused n at) old f new w = let e = w .outcome in ap₂ refused (cc) (cc)
+
+-- "changes no lent octet"
+pub refused-keeps : (a : Answer (List ℕ)) (old : List ℕ) (f : Refusal) (new : List ℕ) → Written a old (O.Refused f) new → new ≡ old
+refused-keeps a old f new w = w .octets ∙ ap (after old) (written-not a old f new w)
 
 -- the outcome can be told from the paper's answer, so any two outcomes that a contract admits are equal, and so is what they leave
 told : Answer (Unit {0}) → Outcome

@@ -1,0 +1,127 @@
+-- At the boundary `refusal` is 0 exactly where the call was not refused, and where it is not 0 the lent octets are as they were. Assumes nothing.
+use Prim.Native.Nat.{ℕ}
+use mathlib.Core.Path.{_≡_, refl, ap}
+use mathlib.Core.Logic.{_↔_}
+use mathlib.Core.Bool.{Bool}
+use mathlib.Core.List.{List}
+use native.Mathlib.Omega.{arith}
+use Rattle.paper.specs.Answer.{Answer, gives, refused, forget, mapAnswer, Given, Numbered}
+use Rattle.paper.specs.Telegrams.{checkPlace}
+use Rattle.paper.specs.SignalList.{Counts, judge, OfTwo, ofBoth, firstRefused, secondRefused, GivenTwo, NumberedTwo}
+use Rattle.paper.specs.Extends.{extendsLists}
+use Rattle.paper.specs.Store.{taking}
+use Rattle.paper.specs.Reading.{Reading, reading}
+use Rattle.paper.specs.Marshalling.{Marshalled, marshalling}
+use Rattle.paper.specs.Composing.{composing}
+use Rattle.paper.specs.Shown.{Kind, Shown, showing}
+use Rattle.paper.specs.Train.{Vehicle, Members, resolving}
+use Rattle.paper.specs.ETelegrams.{EReading, eReading, answering}
+use Rattle.paper.proofs.RefusalLaws as laws
+use Rattle.dustferrule.specs.declared.DfOutcome.{DfOutcome}
+use Rattle.dustferrule.specs.declared.DfMarshalled.{DfMarshalled}
+use Rattle.dustferrule.specs.Results.{outcomeC, judgedC, extendingC, livesC, placeC, readingC, shownC, membersC, eReadC, WrittenC, DeliveredC}
+
+-- ---- each result, of any answer
+
+pub outcome-given : (a : Answer (Unit {0})) → Numbered a → (outcomeC a .refusal ≡ 0) ↔ Given a
+outcome-given = laws.zero-given (λ a. outcomeC a .refusal) (λ a. refl) (λ n at. refl)
+
+pub judged-given : (a : Answer Counts) → Numbered a → (judgedC a .refusal ≡ 0) ↔ Given a
+judged-given = laws.zero-given (λ a. judgedC a .refusal) (λ a. refl) (λ n at. refl)
+
+pub extending-given : (a : OfTwo Bool) → NumberedTwo a → (extendingC a .refusal ≡ 0) ↔ GivenTwo a
+unfolding NumberedTwo
+extending-given (ofBoth b) h = (λ e. (b, refl), λ g. refl)
+extending-given (firstRefused n at) h = (λ e. absurd (omega arith), λ g. let e = g .1 in let z : _≡_ {A = ℕ} 0 1 = cc in absurd (omega arith))
+extending-given (secondRefused n at) h = (λ e. absurd (omega arith), λ g. let e = g .1 in let z : _≡_ {A = ℕ} 0 1 = cc in absurd (omega arith))
+
+pub lives-given : (a : Answer ℕ) → Numbered a → (livesC a .refusal ≡ 0) ↔ Given a
+lives-given = laws.zero-given (λ a. livesC a .refusal) (λ a. refl) (λ n at. refl)
+
+pub place-given : (a : Answer ℕ) → Numbered a → (placeC a .refusal ≡ 0) ↔ Given a
+place-given = laws.zero-given (λ a. placeC a .refusal) (λ a. refl) (λ n at. refl)
+
+pub reading-given : (a : Answer Reading) → Numbered a → (readingC a .refusal ≡ 0) ↔ Given a
+reading-given = laws.zero-given (λ a. readingC a .refusal) (λ a. refl) (λ n at. refl)
+
+pub shown-given : (a : Answer Shown) → Numbered a → (shownC a .refusal ≡ 0) ↔ Given a
+shown-given = laws.zero-given (λ a. shownC a .refusal) (λ a. refl) (λ n at. refl)
+
+pub members-given : (a : Answer Members) → Numbered a → (membersC a .refusal ≡ 0) ↔ Given a
+members-given = laws.zero-given (λ a. membersC a .refusal) (λ a. refl) (λ n at. refl)
+
+pub e-reading-given : (a : Answer EReading) → Numbered a → (eReadC a .refusal ≡ 0) ↔ Given a
+e-reading-given = laws.zero-given (λ a. eReadC a .refusal) (λ a. refl) (λ n at. refl)
+
+-- ---- a call that writes, of any answer: "changes no lent octet"
+
+pub written-given : (a : Answer (List ℕ)) (old : List ℕ) (r : DfOutcome) (new : List ℕ) → WrittenC a old r new → Numbered a
+    → (r .refusal ≡ 0) ↔ Given a
+written-given a old r new w h = rw (w .result) (laws.zero-given (λ x. outcomeC (forget x) .refusal) (λ x. refl) (λ n at. refl) a h)
+
+pub written-kept : (a : Answer (List ℕ)) (old : List ℕ) (r : DfOutcome) (new : List ℕ) → WrittenC a old r new
+    → (r .refusal ≡ 0 → ⊥) → new ≡ old
+written-kept (gives x) old r new w h = absurd (h (ap (λ (o : DfOutcome). o .refusal) (w .result)))
+written-kept (refused n at) old r new w h = w .octets
+
+pub delivered-given : (a : Answer Marshalled) (old : List ℕ) (r : DfMarshalled) (new : List ℕ) → DeliveredC a old r new → Numbered a
+    → (r .refusal ≡ 0) ↔ Given a
+delivered-given a old r new d h =
+    rw (d .result) (laws.zero-given (λ x. livesC (mapAnswer (λ (m : Marshalled). m .lives) x) .refusal) (λ x. refl) (λ n at. refl) a h)
+
+pub delivered-kept : (a : Answer Marshalled) (old : List ℕ) (r : DfMarshalled) (new : List ℕ) → DeliveredC a old r new
+    → (r .refusal ≡ 0 → ⊥) → new ≡ old
+delivered-kept (gives m) old r new d h = absurd (h (ap (λ (o : DfMarshalled). o .refusal) (d .result)))
+delivered-kept (refused n at) old r new d h = d .octets
+
+-- ---- the calls
+
+pub judge-given : (xs : List ℕ) → (judgedC (judge xs) .refusal ≡ 0) ↔ Given (judge xs)
+judge-given xs = judged-given _ (laws.numbered-judge xs)
+
+pub extends-given : (xs ys : List ℕ) → (extendingC (extendsLists xs ys) .refusal ≡ 0) ↔ GivenTwo (extendsLists xs ys)
+extends-given xs ys = extending-given _ (laws.numbered-extends xs ys)
+
+pub check-place-given : (b : ℕ) → (placeC (checkPlace b) .refusal ≡ 0) ↔ Given (checkPlace b)
+check-place-given b = place-given _ (laws.numbered-place b)
+
+pub read-given : (xs store : List ℕ) (now v k : ℕ) → (readingC (reading xs store now v k) .refusal ≡ 0) ↔ Given (reading xs store now v k)
+read-given xs store now v k = reading-given _ (laws.numbered-reading xs store now v k)
+
+pub show-given : (kind : Kind) (width raw : ℕ) → (shownC (showing kind width raw) .refusal ≡ 0) ↔ Given (showing kind width raw)
+show-given kind width raw = shown-given _ (laws.numbered-showing kind width raw)
+
+pub resolve-given : (train : List Vehicle) (a : ℕ) → (membersC (resolving train a) .refusal ≡ 0) ↔ Given (resolving train a)
+resolve-given train a = members-given _ (laws.numbered-resolving train a)
+
+pub e-read-given : (telegram : List ℕ) → (eReadC (eReading telegram) .refusal ≡ 0) ↔ Given (eReading telegram)
+e-read-given telegram = e-reading-given _ (laws.numbered-e-reading telegram)
+
+module _ (store : List ℕ) (v now : ℕ) (telegram : List ℕ) (r : DfOutcome) (new : List ℕ) (w : WrittenC (taking store v now telegram) store r new) where
+  pub take-given : (r .refusal ≡ 0) ↔ Given (taking store v now telegram)
+  take-given = written-given _ store r new w (laws.numbered-taking store v now telegram)
+
+  pub take-kept : (r .refusal ≡ 0 → ⊥) → new ≡ store
+  take-kept = written-kept _ store r new w
+
+module _ (xs : List ℕ) (type : ℕ) (values marks : List ℕ) (room : ℕ) (out : List ℕ) (r : DfOutcome) (new : List ℕ)
+    (w : WrittenC (composing xs type values marks room) out r new) where
+  pub compose-given : (r .refusal ≡ 0) ↔ Given (composing xs type values marks room)
+  compose-given = written-given _ out r new w (laws.numbered-composing xs type values marks room)
+
+  pub compose-kept : (r .refusal ≡ 0 → ⊥) → new ≡ out
+  compose-kept = written-kept _ out r new w
+
+module _ (telegram head : List ℕ) (status : ℕ) (out : List ℕ) (r : DfOutcome) (new : List ℕ) (w : WrittenC (answering telegram head status out) out r new) where
+  pub e-answer-given : (r .refusal ≡ 0) ↔ Given (answering telegram head status out)
+  e-answer-given = written-given _ out r new w (laws.numbered-answering telegram head status out)
+
+  pub e-answer-kept : (r .refusal ≡ 0 → ⊥) → new ≡ out
+  e-answer-kept = written-kept _ out r new w
+
+module _ (xs store : List ℕ) (now : ℕ) (bus : List ℕ) (r : DfMarshalled) (new : List ℕ) (d : DeliveredC (marshalling xs store now bus) bus r new) where
+  pub marshal-given : (r .refusal ≡ 0) ↔ Given (marshalling xs store now bus)
+  marshal-given = delivered-given _ bus r new d (laws.numbered-marshalling xs store now bus)
+
+  pub marshal-kept : (r .refusal ≡ 0 → ⊥) → new ≡ bus
+  marshal-kept = delivered-kept _ bus r new d

@@ -1,0 +1,147 @@
+-- No refusal of the paper has the number 0, so that 0 can stand for none at the C boundary. Assumes nothing.
+use Prim.Native.Nat.{ℕ, _≤_}
+use mathlib.Core.Path.{_≡_, refl}
+use mathlib.Core.Logic.{_↔_}
+use mathlib.Core.Bool.{Bool, true, false, cond}
+use mathlib.Core.List.{List, [], _∷_}
+use native.Mathlib.Omega.{arith}
+use Rattle.paper.specs.Answer.{Answer, gives, refused, refuseIf, andThen, shift, mapAnswer, forget, Given, Numbered}
+use Rattle.paper.specs.Telegrams.{Row, covers, rows, placeIn, checkPlace}
+use Rattle.paper.specs.SignalList
+use Rattle.paper.specs.SignalList.{Counts, judge, OfTwo, ofTwo, firstRefused, secondRefused, NumberedTwo}
+use Rattle.paper.specs.Store.{taking}
+use Rattle.paper.specs.Reading.{reading}
+use Rattle.paper.specs.Marshalling.{marshalling}
+use Rattle.paper.specs.Composing.{composing}
+use Rattle.paper.specs.Shown.{Kind, showing}
+use Rattle.paper.specs.Train.{Vehicle, resolving}
+use Rattle.paper.specs.ETelegrams.{eReading, answering}
+use Rattle.paper.specs.Extends.{extendsLists}
+use Rattle.paper.proofs.AnswerLaws.{never-both}
+
+-- ---- how answers are put together
+
+pub numbered-gives : {A : Type 0} (a : A) → Numbered (gives a)
+unfolding Numbered
+numbered-gives a = tt
+
+pub numbered-if : {A : Type 0} (b : Bool) (n at : ℕ) (rest : Answer A) → 1 ≤ n → Numbered rest → Numbered (refuseIf b n at rest)
+unfolding Numbered refuseIf
+numbered-if true n at rest h k = h
+numbered-if false n at rest h k = k
+
+pub numbered-then : {A B : Type 0} (x : Answer A) (k : A → Answer B) → Numbered x → ((a : A) → Numbered (k a)) → Numbered (andThen x k)
+unfolding Numbered
+numbered-then (gives a) k h g = g a
+numbered-then (refused n at) k h g = h
+
+pub numbered-shift : {A : Type 0} (b : ℕ) (x : Answer A) → Numbered x → Numbered (shift b x)
+unfolding Numbered
+numbered-shift b (gives a) h = tt
+numbered-shift b (refused n at) h = h
+
+pub numbered-map : {A B : Type 0} (f : A → B) (x : Answer A) → Numbered x → Numbered (mapAnswer f x)
+unfolding Numbered
+numbered-map f (gives a) h = tt
+numbered-map f (refused n at) h = h
+
+pub numbered-forget : {A : Type 0} (x : Answer A) → Numbered x → Numbered (forget x)
+unfolding Numbered
+numbered-forget (gives a) h = tt
+numbered-forget (refused n at) h = h
+
+-- what says the number of a refusal, and 0 of what is given, says 0 exactly where the call is not refused
+pub zero-given : {A : Type 0} (say : Answer A → ℕ) → ((a : A) → say (gives a) ≡ 0) → ((n at : ℕ) → say (refused n at) ≡ n)
+    → (x : Answer A) → Numbered x → (say x ≡ 0) ↔ Given x
+unfolding Numbered
+zero-given say none number (gives a) h = (λ e. (a, refl), λ g. none a)
+zero-given say none number (refused n at) h = (λ e. absurd (omega (arith, number n at)), λ g. absurd (never-both _ (g .0) n at (g .1) refl))
+
+-- ---- judging
+
+numbered-section : (limit size : ℕ) (rule : ℕ → Bool) (xs : List ℕ) → Numbered (SignalList.judgeSection limit size rule xs)
+unfolding SignalList.judgeSection SignalList.opening SignalList.judgeEntries
+numbered-section limit size rule xs =
+    numbered-then _ _
+    (numbered-if _ 1 _ _ (omega arith) (numbered-if _ 2 _ _ (omega arith) (numbered-if _ 1 _ _ (omega arith) (numbered-gives _))))
+    (λ n. numbered-if _ 3 _ _ (omega arith) (numbered-gives _))
+
+pub numbered-judge : (xs : List ℕ) → Numbered (judge xs)
+unfolding judge SignalList.fromSignals SignalList.fromCodes SignalList.fromRoutes SignalList.ending
+numbered-judge xs =
+    numbered-then _ _ (numbered-section _ _ _ _) (λ checks. numbered-shift _ _
+    (numbered-then _ _ (numbered-section _ _ _ _) (λ signals. numbered-shift _ _
+    (numbered-then _ _ (numbered-section _ _ _ _) (λ codes. numbered-shift _ _
+    (numbered-then _ _ (numbered-section _ _ _ _) (λ routes. numbered-if _ 4 _ _ (omega arith) (numbered-gives _))))))))
+
+numbered-under : {A : Type 0} (xs : List ℕ) (call : Counts → Answer A) → ((n : Counts) → Numbered (call n)) → Numbered (andThen (judge xs) call)
+numbered-under xs call h = numbered-then (judge xs) call (numbered-judge xs) h
+
+-- ---- the calls
+
+numbered-in : (rs : List Row) (b : ℕ) → Numbered (placeIn rs b)
+unfolding placeIn Numbered
+numbered-in [] b = omega arith
+numbered-in (r ∷ rs) b = by (covers r b) (numbered-in rs b)
+  where
+    by : (c : Bool) → Numbered (placeIn rs b) → Numbered (cond c (gives (r .place)) (placeIn rs b))
+    by true h = tt
+    by false h = h
+
+pub numbered-place : (b : ℕ) → Numbered (checkPlace b)
+numbered-place b = numbered-in rows b
+
+pub numbered-taking : (store : List ℕ) (v now : ℕ) (telegram : List ℕ) → Numbered (taking store v now telegram)
+unfolding taking
+numbered-taking store v now telegram =
+    numbered-if _ 5 _ _ (omega arith) (numbered-if _ 6 _ _ (omega arith) (numbered-if _ 7 _ _ (omega arith)
+    (numbered-if _ 8 _ _ (omega arith) (numbered-if _ 9 _ _ (omega arith) (numbered-if _ 10 _ _ (omega arith) (numbered-gives _))))))
+
+pub numbered-reading : (xs store : List ℕ) (now v k : ℕ) → Numbered (reading xs store now v k)
+unfolding reading
+numbered-reading xs store now v k =
+    numbered-under xs _ (λ n. numbered-if _ 5 _ _ (omega arith) (numbered-if _ 6 _ _ (omega arith) (numbered-if _ 11 _ _ (omega arith) (numbered-gives _))))
+
+pub numbered-marshalling : (xs store : List ℕ) (now : ℕ) (bus : List ℕ) → Numbered (marshalling xs store now bus)
+unfolding marshalling
+numbered-marshalling xs store now bus =
+    numbered-under xs _ (λ n. numbered-if _ 5 _ _ (omega arith) (numbered-if _ 12 _ _ (omega arith) (numbered-gives _)))
+
+pub numbered-composing : (xs : List ℕ) (type : ℕ) (values marks : List ℕ) (room : ℕ) → Numbered (composing xs type values marks room)
+unfolding composing
+numbered-composing xs type values marks room =
+    numbered-under xs _ (λ n.
+    numbered-if _ 9 _ _ (omega arith) (numbered-if _ 13 _ _ (omega arith) (numbered-if _ 14 _ _ (omega arith)
+    (numbered-if _ 15 _ _ (omega arith) (numbered-if _ 16 _ _ (omega arith) (numbered-gives _))))))
+
+pub numbered-showing : (kind : Kind) (width raw : ℕ) → Numbered (showing kind width raw)
+unfolding showing
+numbered-showing kind width raw = numbered-if _ 26 _ _ (omega arith) (numbered-gives _)
+
+pub numbered-resolving : (train : List Vehicle) (a : ℕ) → Numbered (resolving train a)
+unfolding resolving
+numbered-resolving train a =
+    numbered-if _ 17 _ _ (omega arith) (numbered-if _ 18 _ _ (omega arith)
+    (numbered-if _ 19 _ _ (omega arith) (numbered-if _ 20 _ _ (omega arith) (numbered-gives _))))
+
+pub numbered-e-reading : (telegram : List ℕ) → Numbered (eReading telegram)
+unfolding eReading
+numbered-e-reading telegram = numbered-if _ 21 _ _ (omega arith) (numbered-if _ 22 _ _ (omega arith) (numbered-gives _))
+
+pub numbered-answering : (telegram head : List ℕ) (status : ℕ) (out : List ℕ) → Numbered (answering telegram head status out)
+unfolding answering
+numbered-answering telegram head status out =
+    numbered-then _ _ (numbered-e-reading telegram)
+    (λ r. numbered-if _ 23 _ _ (omega arith) (numbered-if _ 24 _ _ (omega arith) (numbered-if _ 25 _ _ (omega arith) (numbered-gives _))))
+
+numbered-two : {A B : Type 0} (x : Answer A) (refusal : ℕ → ℕ → OfTwo B) (next : A → OfTwo B) → Numbered x
+    → ((n at : ℕ) → 1 ≤ n → NumberedTwo (refusal n at)) → ((a : A) → NumberedTwo (next a)) → NumberedTwo (ofTwo x refusal next)
+unfolding Numbered NumberedTwo
+numbered-two (gives a) refusal next h r k = k a
+numbered-two (refused n at) refusal next h r k = r n at h
+
+pub numbered-extends : (xs ys : List ℕ) → NumberedTwo (extendsLists xs ys)
+unfolding extendsLists NumberedTwo
+numbered-extends xs ys =
+    numbered-two (judge xs) firstRefused _ (numbered-judge xs) (λ n at h. h)
+    (λ m. numbered-two (judge ys) secondRefused _ (numbered-judge ys) (λ n at h. h) (λ n. tt))
