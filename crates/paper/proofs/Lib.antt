@@ -15,3 +15,4 @@ pub mod ExtendsLaws
 pub mod PairLaws
 pub mod RefusalLaws
 pub mod Demands
+pub mod WrongLaws

@@ -17,3 +17,6 @@ pub mod ETelegrams
 pub mod Demands
 pub mod Bench
 pub mod Marked
+pub mod Cases
+pub mod Edges
+pub mod Wrong

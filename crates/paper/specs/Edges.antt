@@ -1,0 +1,194 @@
+-- Each limit that document 01 names, at its edge: what is answered at it, and past it. One table, one computed test.
+use Prim.Native.Nat.{ℕ, zero, suc, _+_, _*_}
+use mathlib.Core.Path.{_≡_, refl}
+use mathlib.Core.List.{List, [], _∷_, _++_, map}
+use lib.ListN.{take, replicate, set}
+use lib.Ieee.{toBits, ofBits, round}
+use Rattle.paper.specs.Octets.{field, bit, number, octetsOf, over, put, puts, setBit, withBit}
+use Rattle.paper.specs.Answer.{refuseIf}
+use Rattle.paper.specs.First.{firstFrom, firstBad, all, some, count, greatest}
+use Rattle.paper.specs.Telegrams.{applicationType, telegramType, versionOf, rows, placeIn}
+use Rattle.paper.specs.SignalList
+use Rattle.paper.specs.SignalList.{Signal, judge, version, hasCodes, inRange, knownIn, knows, placeOf}
+use Rattle.paper.specs.Store.{slotOf, taken, taking, age}
+use Rattle.paper.specs.Reading.{heard, markOf, codeOf, hindrances, reasonOf, readingOf, readingAt, reading}
+use Rattle.paper.specs.Marshalling.{routed, marshalled, live, marshalling}
+use Rattle.paper.specs.Composing.{headed, composed, markFits, valueFits, composing}
+use Rattle.paper.specs.Shown.{speed, showing}
+use Rattle.paper.specs.Train.{noVehicle, consistRule, meets, member, setTo, membersOf, resolving}
+use Rattle.paper.specs.ETelegrams.{requests, isRequest, isReport, eReading, answerTo, answering}
+use Rattle.paper.specs.Bench.{listL}
+use Rattle.paper.specs.Marked.{telegram, silent, heardAt}
+use Rattle.paper.specs.Cases.{joined, made, signal, code, route, Question, judges, places, takes, reads, marshals, composes, shows, resolves, eReads, gave, refuses, ask}
+
+pub record Edge : Type 0 where
+  pub at : Question
+  pub within : List ℕ
+  pub past : Question
+  pub beyond : List ℕ
+
+abbrev pub edge : Question → List ℕ → Question → List ℕ → Edge
+edge at within past beyond = record { at = at; within = within; past = past; beyond = beyond }
+
+-- the same question with a number at the limit and past it
+abbrev pub between : (ℕ → Question) → ℕ → List ℕ → ℕ → List ℕ → Edge
+between q at within past beyond = edge (q at) within (q past) beyond
+
+-- ---- Lists with one part left open
+
+-- a list of one check; of one signal; of two
+abbrev oneCheck : ℕ → Question
+oneCheck place = judges (made (place ∷ []) [] [] [])
+
+-- n check places, the first at 16
+unfoldable pub evens : ℕ → List ℕ
+evens zero = []
+evens (suc n) = evens n ++ ((16 + 2 * n) ∷ [])
+
+abbrev oneSignal : List ℕ → Signal → Question
+oneSignal checks s = judges (made checks (s ∷ []) [] [])
+
+abbrev twoSignals : Signal → Signal → Question
+twoSignals s t = judges (made [] (s ∷ t ∷ []) [] [])
+
+-- what is given for a list of so many checks, signals, codes and routes, version 1
+abbrev counted : ℕ → ℕ → ℕ → ℕ → List ℕ
+counted checks signals codes routes = gave (checks ∷ signals ∷ codes ∷ routes ∷ 1 ∷ [])
+
+-- a section that has this count and nothing behind it: within the limit it ends too early (1), past it the count is refused (2)
+abbrev opensChecks : ℕ → Question
+opensChecks n = judges (octetsOf 2 n)
+
+abbrev opensSignals : ℕ → Question
+opensSignals n = judges (0 ∷ 0 ∷ octetsOf 2 n)
+
+abbrev opensCodes : ℕ → Question
+opensCodes n = judges (0 ∷ 0 ∷ 0 ∷ 0 ∷ octetsOf 2 n)
+
+abbrev opensRoutes : ℕ → Question
+opensRoutes n = judges (0 ∷ 0 ∷ 0 ∷ 0 ∷ 0 ∷ 0 ∷ octetsOf 2 n)
+
+-- a list of one signal with a code range, with two, with a route, with two
+abbrev oneCode : ℕ → ℕ → ℕ → Question
+oneCode width low high = judges (made [] (signal 320 width 1 0 1 0 0 ∷ []) (code 0 low high ∷ []) [])
+
+abbrev twoCodes : ℕ → Question
+twoCodes low = judges (made [] (signal 320 8 1 0 1 0 0 ∷ []) (code 0 0 6 ∷ code 0 low 15 ∷ []) [])
+
+abbrev oneRoute : ℕ → ℕ → ℕ → Question
+oneRoute signal-number vehicle start = judges (made [] (signal 320 8 1 0 1 0 0 ∷ []) [] (route signal-number vehicle start ∷ []))
+
+abbrev twoRoutes : ℕ → Question
+twoRoutes start = judges (made [] (signal 320 8 1 0 1 0 0 ∷ []) [] (route 0 1 0 ∷ route 0 1 start ∷ []))
+
+-- a telegram of this head with n octets behind it
+abbrev long : ℕ → ℕ → List ℕ
+long head n = head ∷ replicate n 0
+
+abbrev offered : ℕ → List ℕ → Question
+offered v t = takes silent v 0 t []
+
+-- an E-telegram with the code 1007 and n octets behind octet 9
+abbrev eLong : ℕ → List ℕ
+eLong n = 0 ∷ 0 ∷ 0 ∷ 0 ∷ 0 ∷ 0 ∷ 0x10 ∷ 0x07 ∷ 1 ∷ replicate n 0
+
+unfoldable pub edges : List Edge
+edges =
+    -- "Checks, at most 64"; "even, 16 to 1022, strictly rising"
+    between opensChecks 64 (refuses 1 0) 65 (refuses 2 0)
+    ∷ between (λ n. judges (made (evens n) [] [] [])) 64 (counted 64 0 0 0) 65 (refuses 2 0)
+    ∷ between oneCheck 16 (counted 1 0 0 0) 14 (refuses 3 2)
+    ∷ between oneCheck 1022 (counted 1 0 0 0) 1024 (refuses 3 2)
+    ∷ between oneCheck 20 (counted 1 0 0 0) 21 (refuses 3 2)
+    ∷ between (λ c. judges (made (100 ∷ c ∷ []) [] [] [])) 102 (counted 2 0 0 0) 100 (refuses 3 4)
+    -- "Signals, at most 256"; "Width 1-48"
+    ∷ between opensSignals 256 (refuses 1 2) 257 (refuses 2 2)
+    ∷ between (λ w. oneSignal [] (signal 320 w 1 0 1 0 0)) 48 (counted 0 1 0 0) 49 (refuses 3 4)
+    ∷ between (λ w. oneSignal [] (signal 320 w 1 0 1 0 0)) 1 (counted 0 1 0 0) 0 (refuses 3 4)
+    -- "Type 0 (common) lies wholly in addresses 16-319; type 1 (R1) or 2 (R2) wholly in 320-1023"
+    ∷ between (λ t. oneSignal [] (signal 320 1 t 0 1 0 0)) 2 (counted 0 1 0 0) 3 (refuses 3 4)
+    ∷ between (λ s. oneSignal [] (signal s 8 0 0 1 0 0)) 16 (counted 0 1 0 0) 15 (refuses 3 4)
+    ∷ between (λ s. oneSignal [] (signal s 8 0 0 1 0 0)) 312 (counted 0 1 0 0) 313 (refuses 3 4)
+    ∷ between (λ s. oneSignal [] (signal s 8 1 0 1 0 0)) 320 (counted 0 1 0 0) 319 (refuses 3 4)
+    ∷ between (λ s. oneSignal [] (signal s 8 2 0 1 0 0)) 1016 (counted 0 1 0 0) 1017 (refuses 3 4)
+    -- "Check 0 is none, k names the k-th check, which exists and lies below 320 exactly if the type is 0"
+    ∷ between (λ k. oneSignal (320 ∷ []) (signal 400 8 1 k 1 0 0)) 1 (counted 1 1 0 0) 2 (refuses 3 6)
+    ∷ between (λ c. oneSignal (c ∷ []) (signal 100 8 0 1 1 0 0)) 318 (counted 1 1 0 0) 320 (refuses 3 6)
+    ∷ between (λ c. oneSignal (c ∷ []) (signal 400 8 1 1 1 0 0)) 320 (counted 1 1 0 0) 318 (refuses 3 6)
+    -- "Since 1-255. Limit 0-600,000 .. Replacement below 2^width": no octet is above 255
+    ∷ between (λ n. oneSignal [] (signal 320 8 1 0 n 0 0)) 1 (counted 0 1 0 0) 0 (refuses 3 4)
+    ∷ edge (oneSignal [] (signal 320 8 1 0 255 0 0)) (gave (0 ∷ 1 ∷ 0 ∷ 0 ∷ 255 ∷ [])) (oneSignal [] (signal 320 8 1 0 256 0 0)) (refuses 3 4)
+    ∷ between (λ n. oneSignal [] (signal 320 8 1 0 1 n 0)) 600000 (counted 0 1 0 0) 600001 (refuses 3 4)
+    ∷ between (λ n. oneSignal [] (signal 320 8 1 0 1 0 n)) 255 (counted 0 1 0 0) 256 (refuses 3 4)
+    -- "Types never fall"; "each start is at or past the end of the field before"; "No field shares a bit with any check"
+    ∷ between (λ t. twoSignals (signal 320 8 1 0 1 0 0) (signal 400 8 t 0 1 0 0)) 1 (counted 0 2 0 0) 0 (refuses 3 20)
+    ∷ between (λ s. twoSignals (signal 320 8 2 0 1 0 0) (signal s 8 2 0 1 0 0)) 328 (counted 0 2 0 0) 327 (refuses 3 20)
+    ∷ between (λ s. oneSignal (408 ∷ []) (signal s 8 1 0 1 0 0)) 400 (counted 1 1 0 0) 401 (refuses 3 6)
+    ∷ between (λ s. oneSignal (408 ∷ []) (signal s 8 1 0 1 0 0)) 410 (counted 1 1 0 0) 409 (refuses 3 6)
+    -- "Known codes, at most 512"; "width at most 16; low ≤ high < 2^width"; "low exceeds the previous high by at least 2"
+    ∷ between opensCodes 512 (refuses 1 4) 513 (refuses 2 4)
+    ∷ between (λ k. judges (made [] (signal 320 8 1 0 1 0 0 ∷ []) (code k 0 0 ∷ []) [])) 0 (counted 0 1 1 0) 1 (refuses 3 22)
+    ∷ between (λ w. oneCode w 0 0) 16 (counted 0 1 1 0) 17 (refuses 3 22)
+    ∷ between (λ low. oneCode 8 low 4) 4 (counted 0 1 1 0) 5 (refuses 3 22)
+    ∷ between (λ high. oneCode 4 0 high) 15 (counted 0 1 1 0) 16 (refuses 3 22)
+    ∷ between twoCodes 8 (counted 0 1 2 0) 7 (refuses 3 28)
+    -- "Routes, at most 512"; "vehicle 1-63 (1), zero (1)"; "ends at or before bit 2048"; "at or past the end of the route before"
+    ∷ between opensRoutes 512 (refuses 1 6) 513 (refuses 2 6)
+    ∷ between (λ k. oneRoute k 1 0) 0 (counted 0 1 0 1) 1 (refuses 3 24)
+    ∷ between (λ v. oneRoute 0 v 0) 1 (counted 0 1 0 1) 0 (refuses 3 24)
+    ∷ between (λ v. oneRoute 0 v 0) 63 (counted 0 1 0 1) 64 (refuses 3 24)
+    ∷ between (λ z. judges (set listL 41 z)) 0 (counted 1 1 2 1) 1 (refuses 3 38)
+    ∷ between (λ s. oneRoute 0 1 s) 2040 (counted 0 1 0 1) 2041 (refuses 3 24)
+    ∷ between twoRoutes 8 (counted 0 1 0 2) 7 (refuses 3 30)
+    -- 1, 2 and 4: a count, its entries, and what is behind the routes
+    ∷ edge (judges (take 44 listL)) (counted 1 1 2 1) (judges (take 37 listL)) (refuses 1 36)
+    ∷ edge (judges (take 44 listL)) (counted 1 1 2 1) (judges (take 21 listL)) (refuses 1 4)
+    ∷ edge (judges listL) (counted 1 1 2 1) (judges (listL ++ (0 ∷ []))) (refuses 4 44)
+    -- the store, its vehicles, and telegrams
+    ∷ edge (offered 1 (telegram 0 0)) (gave []) (takes (0 ∷ silent) 1 0 (telegram 0 0) []) (refuses 5 0)
+    ∷ between (λ v. offered v (telegram 0 0)) 1 (gave []) 0 (refuses 6 0)
+    ∷ between (λ v. offered v (telegram 0 0)) 63 (gave []) 64 (refuses 6 0)
+    ∷ edge (offered 1 (0x13 ∷ 0 ∷ [])) (refuses 10 0) (offered 1 (0x13 ∷ [])) (refuses 7 0)
+    ∷ between (λ head. offered 1 (long head 127)) 0x11 (gave []) 0x21 (refuses 8 0)
+    ∷ between (λ head. offered 1 (long head 127)) 0x12 (gave []) 0x10 (refuses 9 0)
+    ∷ between (λ head. offered 1 (long head 39)) 0x13 (gave []) 0x14 (refuses 9 0)
+    ∷ between (λ n. offered 1 (long 0x11 n)) 127 (gave []) 126 (refuses 10 0)
+    ∷ between (λ n. offered 1 (long 0x13 n)) 39 (gave []) 40 (refuses 10 0)
+    -- reading and marshalling
+    ∷ between (λ k. reads listL (heardAt 0x10 0x40 0) 0 1 k) 0 (gave (4 ∷ 0 ∷ [])) 1 (refuses 11 0)
+    ∷ between (λ now. reads listL (heardAt 0x10 0x40 0) now 1 0) 5000 (gave (4 ∷ 0 ∷ [])) 5001 (gave (0 ∷ 3 ∷ []))
+    ∷ between (λ s. marshals (set listL 43 s) (heardAt 0x10 0x40 0) 0 (0 ∷ [])) 4 (gave (1 ∷ 4 ∷ [])) 5 (refuses 12 0 ++ (0 ∷ []))
+    -- composing
+    ∷ between (λ t. composes listL t (0 ∷ []) (1 ∷ []) (replicate 128 0) []) 2 (gave []) 0 (refuses 9 0)
+    ∷ between (λ t. composes listL t (0 ∷ []) (1 ∷ []) (replicate 40 0) []) 3 (gave []) 4 (refuses 9 0)
+    ∷ between (λ n. composes listL 1 (replicate n 0) (1 ∷ []) (replicate 128 0) []) 1 (gave []) 2 (refuses 13 0)
+    ∷ between (λ n. composes listL 1 (0 ∷ []) (replicate n 1) (replicate 128 0) []) 1 (gave []) 0 (refuses 13 0)
+    ∷ between (λ m. composes listL 1 (0 ∷ []) (m ∷ []) (replicate 128 0) []) 3 (gave []) 4 (refuses 14 0)
+    ∷ between (λ v. composes listL 1 (v ∷ []) (1 ∷ []) (replicate 128 0) []) 15 (gave []) 16 (refuses 15 0)
+    ∷ between (λ v. composes listL 1 (v ∷ []) (1 ∷ []) (replicate 128 0) []) 6 (gave []) 7 (refuses 15 0)
+    ∷ between (λ n. composes listL 1 (0 ∷ []) (1 ∷ []) (replicate n 0) []) 128 (gave []) 127 (refuses 16 0)
+    -- shown; the grouping; the train; E-telegrams
+    ∷ between (λ w. shows speed w 64) 16 (gave (1 ∷ 0x3F800000 ∷ [])) 15 (refuses 26 0)
+    ∷ between (λ raw. shows speed 16 raw) 65535 (gave (1 ∷ 0x447FFF00 ∷ [])) 65536 (refuses 26 0)
+    ∷ between places 368 (gave (320 ∷ [])) 367 (refuses 27 0)
+    ∷ between places 583 (gave (352 ∷ [])) 584 (refuses 27 0)
+    ∷ between (λ n. resolves (replicate n noVehicle) 1) 1 (gave (2 ∷ 1 ∷ [])) 0 (refuses 17 0)
+    ∷ between (λ n. resolves (replicate n noVehicle) 1) 63 (gave (2 ∷ 1 ∷ [])) 64 (refuses 17 0)
+    ∷ between (resolves (replicate 2 noVehicle)) 2 (gave (4 ∷ 1 ∷ [])) 3 (refuses 20 0)
+    ∷ between (resolves (replicate 2 noVehicle)) 66 (gave (6 ∷ 2 ∷ [])) 68 (refuses 19 0)
+    ∷ between (resolves (replicate 2 noVehicle)) 1 (gave (2 ∷ 1 ∷ [])) 0 (refuses 19 0)
+    ∷ between (λ n. eReads (eLong n)) 1015 (gave (0x1007 ∷ 0 ∷ 1 ∷ [])) 1016 (refuses 21 0)
+    ∷ edge (eReads (take 9 (eLong 0))) (gave (0x1007 ∷ 0 ∷ 1 ∷ [])) (eReads (take 8 (eLong 0))) (refuses 21 0)
+    ∷ between (λ low. eReads (set (eLong 0) 7 low)) 0x07 (gave (0x1007 ∷ 0 ∷ 1 ∷ [])) 0x08 (refuses 22 0)
+    ∷ []
+
+-- the one computed test: the table with its answers worked out is the table
+pub at-each-edge : map (λ e. edge (e .at) (ask (e .at)) (e .past) (ask (e .past))) edges ≡ edges
+unfolding edges evens joined made ask listL telegram silent heardAt bit field withBit setBit put puts number octetsOf over refuseIf firstFrom firstBad all
+    some count greatest applicationType telegramType versionOf rows placeIn SignalList.checkAt SignalList.signalAt SignalList.codeAt SignalList.routeAt
+    SignalList.checkRule SignalList.signalRule SignalList.codeRule SignalList.routeRule SignalList.opening SignalList.judgeEntries SignalList.judgeSection
+    SignalList.greatestSince SignalList.ending SignalList.fromRoutes SignalList.fromCodes SignalList.fromSignals judge hasCodes inRange knownIn knows
+    placeOf version slotOf taken taking age heard markOf codeOf hindrances reasonOf readingOf readingAt reading routed marshalled live marshalling headed
+    composed markFits valueFits composing showing ofBits round toBits consistRule meets member setTo membersOf resolving requests isRequest isReport
+    eReading answerTo answering
+at-each-edge = refl

@@ -1,0 +1,349 @@
+-- Wrong gateways: those that document 01 names, the slips that have been shipped, and for each call the mistakes nearest at hand. Each is
+-- shown at a question where it answers otherwise than the contract fixes: one table, one computed test. A contract is an equation, so no
+-- code that answers so can meet it.
+use Prim.Native.Nat.{ℕ, _+_, _-_}
+use Prim.Native.String.{String}
+use mathlib.Core.Path.{_≡_, refl}
+use mathlib.Core.Bool.{Bool, true, false, _&&_}
+use mathlib.Core.List.{List, [], _∷_, _++_, map}
+use lib.ListN.{take, drop, replicate, set}
+use lib.Dec.{eqb}
+use lib.Ieee.{toBits, ofBits, round}
+use Rattle.paper.specs.Octets.{field, bit, number, octetsOf, over, put, puts, setBit, withBit}
+use Rattle.paper.specs.Answer.{refuseIf}
+use Rattle.paper.specs.First.{firstFrom, firstBad, all, some, next, count, greatest}
+use Rattle.paper.specs.Telegrams.{applicationType, telegramType, versionOf, rows, placeIn}
+use Rattle.paper.specs.SignalList
+use Rattle.paper.specs.SignalList.{Signal, judge, version, hasCodes, inRange, knownIn, knows, placeOf}
+use Rattle.paper.specs.Extends.{codesKept, keeps, stands, newer, extendsLists}
+use Rattle.paper.specs.Extends as Extending
+use Rattle.paper.specs.Pairs.{entryOf, routeEntry, signalFound, finding, has, index, nextPair, pairing}
+use Rattle.paper.specs.Store.{slotHead, slotOctets, storeOctets, slotOf, taken, taking, age}
+use Rattle.paper.specs.Reading.{heard, heldIn, holding, markOf, codeOf, hindrances, reasonOf, readingOf, readingAt, reading}
+use Rattle.paper.specs.Marshalling.{routed, marshalled, live, marshalling}
+use Rattle.paper.specs.Composing.{headed, composed, markFits, valueFits, composing}
+use Rattle.paper.specs.Shown.{speed, percentage, signedPercentage, showing}
+use Rattle.paper.specs.Train.{Vehicle, consistRule, meets, member, setTo, membersOf, resolving}
+use Rattle.paper.specs.ETelegrams.{requests, isRequest, isReport, eReading, answerTo, answering}
+use Rattle.paper.specs.Bench.{listL}
+use Rattle.paper.specs.Marked.{telegram, silent, heardAt}
+use Rattle.paper.specs.Cases.{joined, made, signal, code, route, Question, judges, extends, signalEntries, routeEntries, finds, pairs, places, takes, holds, reads, marshals, composes, shows, resolves, eReads, eAnswers, gave, refuses, ask}
+
+-- ---- A wrong gateway
+
+-- what it does where it is asked a question: it answers as the paper does to another one, or it says this
+pub data Wrongly : Type 0 where
+  answers : Question → Wrongly
+  says : List ℕ → Wrongly
+
+unfoldable pub answered : Wrongly → List ℕ
+answered (answers q) = ask q
+answered (says xs) = xs
+
+-- its name, the question, what the contract fixes, what the wrong gateway does, and the answer it gives so
+pub record Row : Type 0 where
+  pub name : String
+  pub asked : Question
+  pub right : List ℕ
+  pub does : Wrongly
+  pub wrong : List ℕ
+
+abbrev pub asked-as : String → Question → List ℕ → Question → List ℕ → Row
+asked-as name q right other wrong = record { name = name; asked = q; right = right; does = answers other; wrong = wrong }
+
+abbrev pub saying : String → Question → List ℕ → List ℕ → Row
+saying name q right wrong = record { name = name; asked = q; right = right; does = says wrong; wrong = wrong }
+
+-- ---- Words for the questions
+
+-- L with another octet; without its codes; with a second route, of vehicle 2 to bit 4
+abbrev since-2 : List ℕ
+since-2 = set listL 11 2
+
+abbrev no-codes : List ℕ
+no-codes = take 22 listL ++ (0 ∷ 0 ∷ drop 36 listL)
+
+abbrev two-routes : List ℕ
+two-routes = set listL 37 2 ++ (0 ∷ 0 ∷ 2 ∷ 0 ∷ 0 ∷ 4 ∷ [])
+
+-- signal 0 of vehicle 1 under L, of a telegram 5,000 ms old with these octets 41 and 54
+abbrev read : ℕ → ℕ → Question
+read o41 o54 = reads listL (heardAt o41 o54 0) 5000 1 0
+
+-- the same of a telegram with another octet 1 or 2
+abbrev headed-by : ℕ → ℕ → List ℕ
+headed-by o1 o2 = set (set (heardAt 0x10 0x40 0) slotHead o1) (slotHead + 1) o2
+
+-- the elements of a store at the end of an R3 in the first slot, behind it, at the slot's end and behind that
+abbrev behind-r3 : List ℕ
+behind-r3 = (slotHead + 39) ∷ (slotHead + 40) ∷ (slotOctets - 1) ∷ slotOctets ∷ []
+
+abbrev value : ℕ → ℕ → List ℕ
+value x reason = gave (x ∷ reason ∷ [])
+
+-- L marshalled into an octet AB, vehicle 1 heard with the code 4 and vehicle 2 never
+abbrev marshal : List ℕ → Question
+marshal xs = marshals xs (heardAt 0x10 0x40 0) 0 (0xAB ∷ [])
+
+abbrev filled : ℕ → ℕ → List ℕ
+filled lives octet = gave (lives ∷ octet ∷ [])
+
+-- an R1 composed with a value and a mark into octets EE: octets 1, 2, 41 and 54
+abbrev compose : List ℕ → ℕ → ℕ → Question
+compose xs v m = composes xs 1 (v ∷ []) (m ∷ []) (replicate 128 0xEE) (0 ∷ 1 ∷ 40 ∷ 53 ∷ [])
+
+abbrev sent : ℕ → ℕ → ℕ → List ℕ
+sent o2 o41 o54 = gave (0x11 ∷ o2 ∷ o41 ∷ o54 ∷ [])
+
+abbrev unsent : ℕ → ℕ → List ℕ
+unsent n at = refuses n at ++ (0xEE ∷ 0xEE ∷ 0xEE ∷ 0xEE ∷ [])
+
+-- a list of one signal of type 1; one of two signals; what judging gives for them
+abbrev one : Signal → List ℕ
+one s = made [] (s ∷ []) [] []
+
+abbrev two : Signal → Signal → List ℕ
+two s t = made [] (s ∷ t ∷ []) [] []
+
+abbrev plain : ℕ → ℕ → ℕ → Signal
+plain start type since = signal start 8 type 0 since 0 0
+
+abbrev counts : ℕ → ℕ → ℕ → ℕ → List ℕ
+counts checks signals codes routes = gave (checks ∷ signals ∷ codes ∷ routes ∷ 1 ∷ [])
+
+abbrev yes : List ℕ
+yes = gave (1 ∷ [])
+
+abbrev no : List ℕ
+no = gave (0 ∷ [])
+
+-- vehicles: a leading one, a coach, a tractive one, a led one that is tractive, a led one that is not
+abbrev leading : Vehicle
+leading = record { leading = true; coach = false; tractive = false; led = false; sleeping = false }
+
+abbrev coach : Vehicle
+coach = record { leading = false; coach = true; tractive = false; led = false; sleeping = false }
+
+abbrev tractive : Vehicle
+tractive = record { leading = false; coach = false; tractive = true; led = false; sleeping = false }
+
+abbrev led : Vehicle
+led = record { leading = false; coach = false; tractive = true; led = true; sleeping = false }
+
+abbrev led-only : Vehicle
+led-only = record { leading = false; coach = false; tractive = false; led = true; sleeping = false }
+
+-- an E-telegram of 9 octets with this code and order
+abbrev e-telegram : ℕ → ℕ → List ℕ
+e-telegram c status = 1 ∷ 2 ∷ 3 ∷ 4 ∷ 5 ∷ 6 ∷ octetsOf 2 c ++ (status ∷ [])
+
+-- ---- The table
+
+unfoldable pub table : List Row
+table =
+    -- judging
+    asked-as "signals-257" (judges (0 ∷ 0 ∷ octetsOf 2 257)) (refuses 2 2) (judges (0 ∷ 0 ∷ octetsOf 2 256)) (refuses 1 2)
+    ∷ asked-as "check-at-1024" (judges (made (1024 ∷ []) [] [] [])) (refuses 3 2) (judges (made (1022 ∷ []) [] [] [])) (counts 1 0 0 0)
+    ∷ asked-as "replacement-two-to-the-width"
+    (judges (one (signal 320 8 1 0 1 0 256))) (refuses 3 4)
+    (judges (one (signal 320 8 1 0 1 0 255))) (counts 0 1 0 0)
+    ∷ asked-as "types-fall"
+    (judges (two (plain 320 1 1) (plain 100 0 1))) (refuses 3 20)
+    (judges (two (plain 100 0 1) (plain 320 1 1))) (counts 0 2 0 0)
+    ∷ asked-as "start-before-the-end-before"
+    (judges (two (plain 320 1 1) (plain 327 1 1))) (refuses 3 20)
+    (judges (two (plain 320 1 1) (plain 328 1 1))) (counts 0 2 0 0)
+    ∷ saying "overlap-at-the-next-entry" (judges (made (400 ∷ []) (plain 320 1 1 ∷ plain 400 1 1 ∷ []) [] [])) (refuses 3 22) (refuses 3 38)
+    ∷ asked-as "overlap-passed"
+    (judges (made (400 ∷ []) (plain 400 1 1 ∷ []) [] [])) (refuses 3 6)
+    (judges (made (400 ∷ []) (plain 402 1 1 ∷ []) [] [])) (counts 1 1 0 0)
+    ∷ asked-as "later-type-not-from-the-first-check"
+    (judges (made (400 ∷ []) (plain 500 1 1 ∷ plain 400 2 1 ∷ []) [] [])) (refuses 3 22)
+    (judges (made (600 ∷ []) (plain 500 1 1 ∷ plain 400 2 1 ∷ []) [] [])) (counts 1 2 0 0)
+    ∷ asked-as "low-exceeds-high-by-one" (judges (set listL 33 7)) (refuses 3 30) (judges (set listL 33 8)) (counts 1 1 2 1)
+    ∷ asked-as "route-ends-at-2049"
+    (judges (made [] (plain 320 1 1 ∷ []) [] (route 0 1 2041 ∷ []))) (refuses 3 24)
+    (judges (made [] (plain 320 1 1 ∷ []) [] (route 0 1 2040 ∷ []))) (counts 0 1 0 1)
+    ∷ saying "offset-of-its-section" (judges (set listL 41 1)) (refuses 3 38) (refuses 3 2)
+    ∷ saying "counts-exchanged" (judges listL) (counts 1 1 2 1) (counts 1 1 1 2)
+    -- extending
+    ∷ asked-as "signal-by-index"
+    (extends (one (plain 320 1 1)) (two (plain 100 0 2) (plain 320 1 1))) yes
+    (extends (one (plain 320 1 1)) (one (plain 100 0 2))) no
+    ∷ saying "check-by-index" (extends listL (set listL 3 0x44)) no yes
+    ∷ saying "check-index-kept" (extends listL (made (320 ∷ 322 ∷ []) (signal 424 4 1 2 1 5000 0 ∷ []) (code 0 0 6 ∷ code 0 15 15 ∷ []) [])) yes no
+    ∷ asked-as "since-equal"
+    (extends listL (made (322 ∷ []) (plain 100 0 1 ∷ signal 424 4 1 1 1 5000 0 ∷ []) (code 1 0 6 ∷ code 1 15 15 ∷ []) [])) no
+    (extends listL (made (322 ∷ []) (plain 100 0 2 ∷ signal 424 4 1 1 1 5000 0 ∷ []) (code 1 0 6 ∷ code 1 15 15 ∷ []) [])) yes
+    ∷ asked-as "code-lost" (extends listL (set listL 29 5)) no (extends listL (set listL 29 7)) yes
+    ∷ saying "which-list" (extends listL []) (refuses 1 0 ++ (2 ∷ [])) (refuses 1 0 ++ (1 ∷ []))
+    ∷ saying "second-judged-first" (extends [] (listL ++ (0 ∷ []))) (refuses 1 0 ++ (1 ∷ [])) (refuses 4 44 ++ (2 ∷ []))
+    -- entries of a list, and two lists gone along
+    ∷ saying "check-for-its-place"
+    (signalEntries listL 0) (gave (1 ∷ 168 ∷ 4 ∷ 1 ∷ 1 ∷ 1 ∷ 0 ∷ 0 ∷ 19 ∷ 136 ∷ 0 ∷ 0 ∷ 0 ∷ 0 ∷ 0 ∷ 0 ∷ 322 ∷ []))
+    (gave (1 ∷ 168 ∷ 4 ∷ 1 ∷ 1 ∷ 1 ∷ 0 ∷ 0 ∷ 19 ∷ 136 ∷ 0 ∷ 0 ∷ 0 ∷ 0 ∷ 0 ∷ 0 ∷ 1 ∷ []))
+    ∷ asked-as "signal-past-the-last"
+    (signalEntries listL 1) (refuses 11 0)
+    (signalEntries listL 0) (gave (1 ∷ 168 ∷ 4 ∷ 1 ∷ 1 ∷ 1 ∷ 0 ∷ 0 ∷ 19 ∷ 136 ∷ 0 ∷ 0 ∷ 0 ∷ 0 ∷ 0 ∷ 0 ∷ 322 ∷ []))
+    ∷ asked-as "routes-from-1"
+    (routeEntries two-routes 1) (gave (1 ∷ 0 ∷ 0 ∷ 2 ∷ 0 ∷ 0 ∷ 4 ∷ []))
+    (routeEntries two-routes 0) (gave (1 ∷ 0 ∷ 0 ∷ 1 ∷ 0 ∷ 0 ∷ 0 ∷ []))
+    ∷ saying "no-route-refused" (routeEntries listL 1) (gave (0 ∷ [])) (refuses 11 0)
+    ∷ asked-as "type-2-left-out" (finds (one (plain 320 2 1)) 2 320) (gave (0 ∷ [])) (finds (one (plain 320 2 1)) 3 320) (refuses 11 0)
+    ∷ asked-as "found-by-start-alone"
+    (finds (two (plain 320 1 1) (plain 320 2 1)) 2 320) (gave (1 ∷ []))
+    (finds (two (plain 320 1 1) (plain 320 2 1)) 1 320) (gave (0 ∷ []))
+    ∷ asked-as "last-key-left-out"
+    (pairs (one (signal 1023 1 2 0 1 0 0)) listL 3071) (gave (1 ∷ 3071 ∷ 0 ∷ 1 ∷ []))
+    (pairs (one (signal 1023 1 2 0 1 0 0)) listL 3072) (gave (0 ∷ []))
+    ∷ saying "paired-by-start-alone"
+    (pairs (one (plain 320 1 1)) (one (plain 320 2 1)) 0) (gave (1 ∷ 1344 ∷ 0 ∷ 1 ∷ []))
+    (gave (1 ∷ 1344 ∷ 0 ∷ 0 ∷ []))
+    ∷ saying "signals-of-the-other-list"
+    (pairs (two (plain 320 1 1) (plain 328 1 1)) listL 0) (gave (1 ∷ 1344 ∷ 0 ∷ 1 ∷ []))
+    (gave (1 ∷ 1344 ∷ 0 ∷ 2 ∷ []))
+    -- the grouping
+    ∷ asked-as "row-end" (places 491) (gave (328 ∷ [])) (places 492) (gave (330 ∷ []))
+    ∷ asked-as "row-shifted" (places 492) (gave (330 ∷ [])) (places 491) (gave (328 ∷ []))
+    ∷ asked-as "before-the-first-row" (places 367) (refuses 27 0) (places 368) (gave (320 ∷ []))
+    -- taking: the heard octet, the stamp, the first and the last octet of a slot, the next slot's first
+    ∷ saying "refuses-every-telegram" (takes silent 1 0x01020304 (telegram 0 0) (0 ∷ [])) (gave (1 ∷ [])) (refuses 10 0 ++ (0 ∷ []))
+    ∷ saying "first-telegram-only" (takes (heardAt 0x10 0x40 0) 2 0 (telegram 0 0) (slotOctets ∷ [])) (gave (1 ∷ [])) (gave (0 ∷ []))
+    ∷ asked-as "first-vehicle-only"
+    (takes silent 2 0 (telegram 0 0) (0 ∷ slotOctets ∷ [])) (gave (0 ∷ 1 ∷ []))
+    (takes silent 1 0 (telegram 0 0) (0 ∷ slotOctets ∷ [])) (gave (1 ∷ 0 ∷ []))
+    ∷ asked-as "stamp-low-first"
+    (takes silent 1 0x01020304 (telegram 0 0) (1 ∷ 2 ∷ 3 ∷ 4 ∷ [])) (gave (1 ∷ 2 ∷ 3 ∷ 4 ∷ []))
+    (takes silent 1 0x04030201 (telegram 0 0) (1 ∷ 2 ∷ 3 ∷ 4 ∷ [])) (gave (4 ∷ 3 ∷ 2 ∷ 1 ∷ []))
+    ∷ saying "last-octet-left"
+    (takes (replicate storeOctets 0xEE) 1 0 (0x13 ∷ replicate 39 7) behind-r3) (gave (7 ∷ 0 ∷ 0 ∷ 0xEE ∷ []))
+    (gave (7 ∷ 0 ∷ 0xEE ∷ 0xEE ∷ []))
+    ∷ saying "next-slot-touched"
+    (takes (replicate storeOctets 0xEE) 1 0 (0x13 ∷ replicate 39 7) behind-r3) (gave (7 ∷ 0 ∷ 0 ∷ 0xEE ∷ []))
+    (gave (7 ∷ 0 ∷ 0 ∷ 0 ∷ []))
+    ∷ saying "written-though-refused"
+    (takes silent 1 0 (0x14 ∷ replicate 127 0) (0 ∷ slotHead ∷ [])) (refuses 9 0 ++ (0 ∷ 0 ∷ []))
+    (refuses 9 0 ++ (1 ∷ 0x14 ∷ []))
+    ∷ saying "length-before-type" (takes silent 1 0 (0x14 ∷ 0 ∷ []) []) (refuses 9 0) (refuses 10 0)
+    -- what a slot holds: heard, type, version, age
+    ∷ asked-as "unheard-held"
+    (holds (set (heardAt 0x10 0x40 0) 0 2) 5 1) (gave (0 ∷ 0 ∷ 0 ∷ 0 ∷ []))
+    (holds (heardAt 0x10 0x40 0) 5 1) (gave (1 ∷ 1 ∷ 1 ∷ 5 ∷ []))
+    ∷ saying "version-0-held" (holds (headed-by 0x11 0) 5 1) (gave (1 ∷ 1 ∷ 1 ∷ 5 ∷ [])) (gave (1 ∷ 1 ∷ 0 ∷ 5 ∷ []))
+    ∷ asked-as "held-of-the-next-vehicle"
+    (holds (heardAt 0x10 0x40 0) 5 1) (gave (1 ∷ 1 ∷ 1 ∷ 5 ∷ []))
+    (holds (heardAt 0x10 0x40 0) 5 2) (gave (0 ∷ 0 ∷ 0 ∷ 0 ∷ []))
+    -- reading
+    ∷ saying "refuses-every-reading" (read 0x10 0x40) (value 4 0) (refuses 11 0)
+    ∷ asked-as "replaces-every-value" (read 0x10 0x40) (value 4 0) (reads listL silent 5000 1 0) (value 0 2)
+    ∷ asked-as "bit-0-least" (read 0x10 0x40) (value 4 0) (read 0x10 0x02) (value 0 0)
+    ∷ asked-as "forced-as-error" (read 0x20 0x40) (value 4 1) (read 0x00 0x40) (value 0 6)
+    ∷ asked-as "forced-as-ok" (read 0x20 0x40) (value 4 1) (read 0x10 0x40) (value 4 0)
+    ∷ asked-as "undefined-passed" (read 0x30 0x40) (value 0 7) (read 0x10 0x40) (value 4 0)
+    ∷ asked-as "mark-one-place-off" (read 0x10 0x40) (value 4 0) (reads (set listL 3 0x44) (heardAt 0x10 0x40 0) 5000 1 0) (value 0 6)
+    ∷ asked-as "newer-signal-read" (reads since-2 (heardAt 0x10 0x40 0) 5000 1 0) (value 0 5) (read 0x10 0x40) (value 4 0)
+    ∷ asked-as "reserved-code-passed" (read 0x10 0x70) (value 0 8) (reads no-codes (heardAt 0x10 0x70 0) 5000 1 0) (value 7 0)
+    ∷ asked-as "high-left-out" (read 0x10 0x60) (value 6 0) (read 0x10 0x70) (value 0 8)
+    ∷ asked-as "r1-signal-from-r2" (reads listL (headed-by 0x12 1) 5000 1 0) (value 0 4) (read 0x10 0x40) (value 4 0)
+    ∷ asked-as "reasons-3-and-4-swapped" (reads listL (headed-by 0x12 1) 5001 1 0) (value 0 3) (reads listL (headed-by 0x12 1) 5000 1 0) (value 0 4)
+    ∷ asked-as "heard-not-zero" (reads listL (set (heardAt 0x10 0x40 0) 0 2) 5000 1 0) (value 0 2) (read 0x10 0x40) (value 4 0)
+    ∷ asked-as "head-not-looked-at" (reads listL (headed-by 0x21 1) 5000 1 0) (value 0 2) (read 0x10 0x40) (value 4 0)
+    ∷ asked-as "version-0-is-0" (reads listL (headed-by 0x11 0) 5000 1 0) (value 4 0) (reads since-2 (headed-by 0x11 0) 5000 1 0) (value 0 5)
+    ∷ asked-as "version-0-is-2" (reads since-2 (headed-by 0x11 0) 5000 1 0) (value 0 5) (reads since-2 (headed-by 0x11 2) 5000 1 0) (value 4 0)
+    ∷ asked-as "limit-reached-too-old" (read 0x10 0x40) (value 4 0) (reads listL (heardAt 0x10 0x40 0) 5001 1 0) (value 0 3)
+    ∷ asked-as "limit-0-is-over"
+    (reads (set (set listL 14 0) 15 0) (heardAt 0x10 0x40 0) 5000 1 0) (value 4 0)
+    (reads (set (set listL 14 0) 15 1) (heardAt 0x10 0x40 0) 5000 1 0) (value 0 3)
+    ∷ asked-as "wrap-lost" (reads listL (heardAt 0x10 0x40 4294967000) 4000 1 0) (value 4 0) (reads listL (heardAt 0x10 0x40 0) 5001 1 0) (value 0 3)
+    ∷ asked-as "clock-gone-back-young"
+    (reads listL (heardAt 0x10 0x40 1000) 999 1 0) (value 0 3)
+    (reads listL (heardAt 0x10 0x40 1000) 1000 1 0) (value 4 0)
+    ∷ asked-as "reads-the-first-vehicle" (reads listL (heardAt 0x10 0x40 0) 5000 2 0) (value 0 2) (read 0x10 0x40) (value 4 0)
+    -- marshalling: the live count and the octet
+    ∷ saying "leaves-the-data" (marshal listL) (filled 1 0x4B) (filled 1 0xAB)
+    ∷ asked-as "first-route-only" (marshal two-routes) (filled 1 0x40) (marshal listL) (filled 1 0x4B)
+    ∷ asked-as "first-vehicle-served" (marshal (set listL 40 2)) (filled 0 0x0B) (marshal listL) (filled 1 0x4B)
+    ∷ saying "made-up-count" (marshal (set listL 40 2)) (filled 0 0x0B) (filled 1 0x0B)
+    ∷ saying "forced-not-counted" (marshals listL (heardAt 0x20 0x40 0) 0 (0xAB ∷ [])) (filled 1 0x4B) (filled 0 0x4B)
+    ∷ saying "four-bits-write-eight" (marshal listL) (filled 1 0x4B) (filled 1 0x04)
+    ∷ saying "neighbour-bits-wiped" (marshal listL) (filled 1 0x4B) (filled 1 0x40)
+    ∷ saying "stale-value-left" (marshals listL silent 0 (0xAB ∷ [])) (filled 0 0x0B) (filled 0 0xAB)
+    ∷ saying "twelve-loosened" (marshal (set listL 43 5)) (refuses 12 0 ++ (0xAB ∷ [])) (filled 1 0xAA)
+    -- composing
+    ∷ saying "composes-nothing" (compose listL 4 1) (sent 1 0x10 0x40) (unsent 16 0)
+    ∷ asked-as "first-check-skipped" (compose listL 4 1) (sent 1 0x10 0x40) (compose listL 4 0) (sent 1 0x00 0x40)
+    ∷ saying "version-left-0" (compose listL 4 1) (sent 1 0x10 0x40) (sent 0 0x10 0x40)
+    ∷ asked-as "version-one" (compose since-2 4 1) (sent 2 0x10 0x40) (compose listL 4 1) (sent 1 0x10 0x40)
+    ∷ asked-as "mark-untested" (compose listL 4 5) (unsent 14 0) (compose listL 4 1) (sent 1 0x10 0x40)
+    ∷ asked-as "value-untested" (compose listL 16 1) (unsent 15 0) (compose listL 0 1) (sent 1 0x10 0x00)
+    ∷ asked-as "reserved-code-composed" (compose listL 7 1) (unsent 15 0) (compose no-codes 7 1) (sent 1 0x10 0x70)
+    ∷ saying "values-before-marks" (compose listL 16 5) (unsent 14 0) (unsent 15 0)
+    ∷ saying "r3-past-octet-40"
+    (composes listL 3 (4 ∷ []) (5 ∷ []) (replicate 40 0xEE) (0 ∷ 39 ∷ [])) (gave (0x13 ∷ 0 ∷ []))
+    (refuses 14 0 ++ (0xEE ∷ 0xEE ∷ []))
+    ∷ saying "rest-not-zeroed" (composes listL 1 (4 ∷ []) (1 ∷ []) (replicate 128 0xEE) (127 ∷ [])) (gave (0 ∷ [])) (gave (0xEE ∷ []))
+    -- showing: the case and the bits of the f32
+    ∷ asked-as "signed-edge" (shows signedPercentage 16 32768) (gave (2 ∷ 0xC3480000 ∷ [])) (shows percentage 16 32768) (gave (2 ∷ 0x43480000 ∷ []))
+    ∷ asked-as "raw-limit" (shows speed 16 65536) (refuses 26 0) (shows speed 16 0) (gave (1 ∷ 0 ∷ []))
+    ∷ saying "speed-scale" (shows speed 16 64) (gave (1 ∷ 0x3F800000 ∷ [])) (gave (1 ∷ 0x3F820821 ∷ []))
+    ∷ saying "minus-zero" (shows signedPercentage 16 0) (gave (2 ∷ 0 ∷ [])) (gave (2 ∷ 0x80000000 ∷ []))
+    -- the train: the set and its size
+    ∷ asked-as "two-leading" (resolves (leading ∷ leading ∷ []) 66) (refuses 18 0) (resolves (leading ∷ coach ∷ []) 66) (gave (6 ∷ 2 ∷ []))
+    ∷ asked-as "led-without-tractive" (resolves (led-only ∷ []) 65) (refuses 18 0) (resolves (led ∷ []) 65) (gave (2 ∷ 1 ∷ []))
+    ∷ saying "nobody-before-unknown" (resolves (coach ∷ []) 68) (refuses 19 0) (refuses 20 0)
+    ∷ saying "nobody-is-empty" (resolves (coach ∷ []) 64) (refuses 20 0) (gave (0 ∷ 0 ∷ []))
+    ∷ asked-as "size-of-another-set" (resolves (coach ∷ tractive ∷ []) 67) (gave (2 ∷ 1 ∷ [])) (resolves (coach ∷ coach ∷ []) 67) (gave (6 ∷ 2 ∷ []))
+    ∷ asked-as "two-marks-exchanged"
+    (resolves (coach ∷ tractive ∷ []) 67) (gave (2 ∷ 1 ∷ []))
+    (resolves (tractive ∷ coach ∷ []) 67) (gave (4 ∷ 1 ∷ []))
+    ∷ asked-as "last-vehicle-left-out" (resolves (coach ∷ coach ∷ []) 66) (gave (6 ∷ 2 ∷ [])) (resolves (coach ∷ []) 66) (gave (2 ∷ 1 ∷ []))
+    ∷ asked-as "sixty-four-accepted" (resolves (replicate 64 coach) 1) (refuses 17 0) (resolves (replicate 63 coach) 1) (gave (2 ∷ 1 ∷ []))
+    -- E-telegrams: code, report or not, octet 9; the answer's octets
+    ∷ asked-as "code-missing" (eReads (e-telegram 0x4047 9)) (gave (0x4047 ∷ 0 ∷ 9 ∷ [])) (eReads (e-telegram 0x4048 9)) (refuses 22 0)
+    ∷ saying "octet-8-for-9" (eReads (e-telegram 0x1012 9)) (gave (0x1012 ∷ 0 ∷ 9 ∷ [])) (gave (0x1012 ∷ 0 ∷ 0x12 ∷ []))
+    ∷ saying "report-as-request" (eReads (e-telegram 0x1A12 9)) (gave (0x1A12 ∷ 1 ∷ 9 ∷ [])) (gave (0x1A12 ∷ 0 ∷ 9 ∷ []))
+    ∷ saying "code-and-status-exchanged" (eReads (e-telegram 0x1012 9)) (gave (0x1012 ∷ 0 ∷ 9 ∷ [])) (gave (9 ∷ 0 ∷ 0x1012 ∷ []))
+    ∷ saying "report-offset"
+    (eAnswers (e-telegram 0x1012 9) (replicate 6 7) 5 (replicate 9 0xEE)) (gave (replicate 6 7 ++ (0x1A ∷ 0x12 ∷ 5 ∷ [])))
+    (gave (replicate 6 7 ++ (0x1B ∷ 0x12 ∷ 5 ∷ [])))
+    ∷ saying "answer-touches-octet-10"
+    (eAnswers (e-telegram 0x1012 9) (replicate 6 7) 5 (replicate 10 0xEE)) (gave (replicate 6 7 ++ (0x1A ∷ 0x12 ∷ 5 ∷ 0xEE ∷ [])))
+    (gave (replicate 6 7 ++ (0x1A ∷ 0x12 ∷ 5 ∷ 0 ∷ [])))
+    ∷ asked-as "old-head-kept"
+    (eAnswers (e-telegram 0x1012 9) (replicate 6 7) 5 (replicate 9 0xEE)) (gave (replicate 6 7 ++ (0x1A ∷ 0x12 ∷ 5 ∷ [])))
+    (eAnswers (e-telegram 0x1012 9) (1 ∷ 2 ∷ 3 ∷ 4 ∷ 5 ∷ 6 ∷ []) 5 (replicate 9 0xEE)) (gave (1 ∷ 2 ∷ 3 ∷ 4 ∷ 5 ∷ 6 ∷ 0x1A ∷ 0x12 ∷ 5 ∷ []))
+    ∷ saying "report-answered"
+    (eAnswers (e-telegram 0x1A12 9) (replicate 6 7) 5 (replicate 9 0xEE)) (refuses 23 0 ++ replicate 9 0xEE)
+    (gave (replicate 6 7 ++ (0x24 ∷ 0x12 ∷ 5 ∷ [])))
+    ∷ []
+
+-- what is told of a row, and what is written in it
+pub record Told : Type 0 where
+  pub paper-says : List ℕ
+  pub it-says : List ℕ
+  pub same : Bool
+
+unfoldable pub sameNumbers : List ℕ → List ℕ → Bool
+sameNumbers [] [] = true
+sameNumbers [] (y ∷ ys) = false
+sameNumbers (x ∷ xs) [] = false
+sameNumbers (x ∷ xs) (y ∷ ys) = eqb x y && sameNumbers xs ys
+
+abbrev pub told : Row → Told
+told r =
+    record { paper-says = ask (r .asked); it-says = answered (r .does); same = sameNumbers (ask (r .asked)) (answered (r .does)) }
+
+abbrev pub written : Row → Told
+written r = record { paper-says = r .right; it-says = r .wrong; same = false }
+
+-- the one computed test: of every row both answers are as written, and they differ
+pub wrong : map told table ≡ map written table
+unfolding table answered sameNumbers joined made ask listL telegram silent heardAt bit field withBit setBit put puts number octetsOf over refuseIf
+    firstFrom firstBad all some next count greatest applicationType telegramType versionOf rows placeIn SignalList.checkAt SignalList.signalAt
+    SignalList.codeAt SignalList.routeAt SignalList.checkRule SignalList.signalRule SignalList.codeRule SignalList.routeRule SignalList.opening
+    SignalList.judgeEntries SignalList.judgeSection SignalList.greatestSince SignalList.ending SignalList.fromRoutes SignalList.fromCodes
+    SignalList.fromSignals judge hasCodes inRange knownIn knows placeOf version codesKept keeps stands newer Extending.extends extendsLists entryOf
+    routeEntry signalFound finding has index nextPair pairing slotOf taken taking age heard heldIn holding markOf codeOf hindrances reasonOf readingOf
+    readingAt reading routed marshalled live marshalling headed composed markFits valueFits composing showing ofBits round toBits consistRule meets member
+    setTo membersOf resolving requests isRequest isReport eReading answerTo answering
+wrong = refl
