@@ -5,6 +5,7 @@
  *
  * What the caller owes:
  *  - each pointer with its length names readable memory (writable where the parameter is not const) of that many elements;
+ *  - no area is longer than a C object can be (PTRDIFF_MAX octets); `values` is aligned for a uint64_t, also with length 0;
  *  - an area that is written overlaps no other area of the same call;
  *  - with length 0 the pointer is never read or written, but it must not be NULL: pass any non-null pointer.
  *

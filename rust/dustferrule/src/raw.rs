@@ -1,7 +1,8 @@
 //! `include/dustferrule.h`, line for line: what the proved library exports.
 //!
-//! What the caller owes: each pointer with its length names memory that can be read (and written, where it is `*mut`); an area that is
-//! written overlaps no other area of the same call; and no pointer is null, also with length 0.
+//! What the caller owes: each pointer with its length names memory that can be read (and written, where it is `*mut`), no longer than
+//! isize::MAX octets and aligned; an area that is written overlaps no other area of the same call; and no pointer is null, also with
+//! length 0.
 
 #![allow(non_camel_case_types, missing_docs)]
 
