@@ -190,8 +190,9 @@ def counted(page):
 
 
 def anchors(text):
-    """What a link may name behind #."""
-    return {re.sub(r"[^\w -]", "", title.lower()).replace(" ", "-") for title in re.findall(r"^#+ (.*)$", text, re.M)}
+    """What a link may name behind #: a title, or an id of its own, which stays where the title's count changes."""
+    titles = re.findall(r"^#+ (.*)$", text, re.M)
+    return {re.sub(r"[^\w -]", "", title.lower()).replace(" ", "-") for title in titles} | set(re.findall(r'<a id="([\w-]+)">', text))
 
 
 def links():
