@@ -2,7 +2,7 @@
 #   CC, STATIC          the C compiler for x86-64, and what it links with
 #   RUN                 what runs an x86-64 program: an emulator, or nothing
 #   cargo_x86, TARGET   cargo, set up to build for x86-64 and to run what it built; TARGET goes behind its first word
-#   library             proves and writes the library where it is not there or not of today; two at once wait for each other
+#   library             proves and writes the library where it is not there or not of today; it and `run` wait for each other
 # Installs what is missing, from Debian's packages.
 . .ci/need.sh
 
@@ -19,7 +19,7 @@ library() {
     (
         flock 9
         [ -e "$archive" ] && [ -z "$(find crates crates.txt -newer "$archive" -print -quit)" ] || rt staticlib dustferrule 9>&-
-    ) 9>target/library.lock
+    ) 9>target/build.lock
 }
 
 if [ "$(uname -m)" = x86_64 ]; then

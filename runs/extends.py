@@ -45,7 +45,7 @@ TABLE = [
 ]
 
 OTHERWISE = [
-    ([], "extends FIRST SECOND\n\n"),
+    ([], "error: usage: extends FIRST SECOND\n"),
     (["help"], "extends FIRST SECOND\n\n"),
     (["data/coach.list"], "error: usage: extends FIRST SECOND\n"),
     (["data/coach.list"] * 3, "error: usage: extends FIRST SECOND\n"),
@@ -55,7 +55,7 @@ OTHERWISE = [
 
 
 def run(*words):
-    return subprocess.run([os.path.abspath("run"), "extends", *words], stdout=subprocess.PIPE, timeout=60).stdout.decode()
+    return subprocess.run([os.path.abspath("run"), "extends", *words], stdout=subprocess.PIPE, stderr=subprocess.STDOUT, timeout=60).stdout.decode()
 
 
 def main():

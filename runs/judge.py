@@ -189,10 +189,10 @@ def main():
             if not got.startswith("error: ") or got.count("\n") != 1:
                 print(f"judge, {name}: expected one line that begins with error, got {got!r}")
                 bad += 1
-    for args in ([], ["help"], ["--help"]):
+    for args, first in (([], "error: usage: judge LIST\n"), (["help"], "judge LIST\n\n"), (["--help"], "judge LIST\n\n")):
         got = run(program, *args)
-        if not got.startswith("judge LIST\n\n"):
-            print(f"judge {' '.join(args)}: expected help, got {got!r}")
+        if not got.startswith(first):
+            print(f"judge {' '.join(args)}: expected {first!r}, got {got!r}")
             bad += 1
     for name, expected in (("coach", ok(48, 165, 41, 14, 2)), ("coach-next", ok(48, 166, 42, 14, 3)), ("coach-wrong", ok(48, 166, 42, 14, 2))):
         got = run(program, f"data/{name}.list")

@@ -1,7 +1,8 @@
 #!/usr/bin/env python3
 """Runs every command that the pages of this repository print, and compares what comes with what they print. Run from the root.
 
-A page shows commands in blocks fenced ```console: a line that begins with `$ ` is a command, the lines below it are its output.
+A page shows commands in blocks fenced ```console: a line that begins with `$ ` is a command, the lines below it are its output, of
+both streams, as a terminal shows them.
 The blocks of a page are run in order, in a scratch folder in which everything of the repository is in its place. Code that is
 indented or fenced otherwise would escape, so it is an error; so is a command of NOT_RUN with an output under it.
 
@@ -18,6 +19,7 @@ import tempfile
 ROOT = os.path.dirname(os.path.dirname(os.path.abspath(__file__)))
 PAGES = ["README.md", "include/dustferrule.h", "docs/**/*.md", "data/**/*.md"]
 NOT_RUN = {".ci/run"}  # the gate, which runs this
+LEFT = {"tmp"}  # what the commands write, where somebody followed a page
 
 
 def blocks(page, text):
@@ -68,26 +70,34 @@ def rewritten(page, text, others):
     return "".join(lines)
 
 
+def follow(page, text, folder):
+    """Runs the commands of a page in a folder: how many were run, and those that print something else, with what comes."""
+    ran, others = 0, []
+    for block in blocks(page, text):
+        for number, command, printed in commands(block):
+            if command in NOT_RUN:
+                if printed:
+                    raise SystemExit(f"{page}:{number}: the output of {command} is not compared here")
+                continue
+            done = subprocess.run(
+                ["bash", "-o", "pipefail", "-c", command], cwd=folder, stdout=subprocess.PIPE, stderr=subprocess.STDOUT, text=True
+            )
+            ran += 1
+            if done.stdout != printed:
+                others.append((number, printed, done.stdout))
+                print(f"{page}:{number}: $ {command}\n-- printed there --\n{printed}-- comes --\n{done.stdout}", end="")
+    return ran, others
+
+
 def run_page(page, write):
     """How many commands were run, and how many printed something else."""
-    ran, others = 0, []
     path = os.path.join(ROOT, page)
     with open(path) as f:
         text = f.read()
     with tempfile.TemporaryDirectory() as scratch:
-        for name in os.listdir(ROOT):
+        for name in set(os.listdir(ROOT)) - LEFT:
             os.symlink(os.path.join(ROOT, name), os.path.join(scratch, name))
-        for block in blocks(page, text):
-            for number, command, printed in commands(block):
-                if command in NOT_RUN:
-                    if printed:
-                        raise SystemExit(f"{page}:{number}: the output of {command} is not compared here")
-                    continue
-                done = subprocess.run(["bash", "-o", "pipefail", "-c", command], cwd=scratch, capture_output=True, text=True)
-                ran += 1
-                if done.stdout != printed:
-                    others.append((number, printed, done.stdout))
-                    print(f"{page}:{number}: $ {command}\n-- printed there --\n{printed}-- comes --\n{done.stdout}{done.stderr}", end="")
+        ran, others = follow(page, text, scratch)
     if write and others:
         with open(path, "w") as f:
             f.write(rewritten(page, text, others))

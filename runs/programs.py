@@ -5,6 +5,7 @@
     runs/programs.py --write    writes expected/*.txt anew from what the programs print, to be read before it is kept
 """
 import os
+import re
 import resource
 import shutil
 import signal
@@ -103,7 +104,7 @@ def no_file(name, words, i):
 
 
 def usage(program, words, text):
-    for n in (1, 2, 3, 4, 5, 6, 7, 8):
+    for n in (0, 1, 2, 3, 4, 5, 6, 7, 8):
         if n not in words:
             yield [program] + ["1"] * n, error("usage: " + text)
     yield [program, "help", "1"], error("usage: " + text)
@@ -111,7 +112,6 @@ def usage(program, words, text):
 
 def take_table():
     words = ["take", "store", "1", "5000", "r1"]
-    yield ["take"], as_in("take-help")
     yield ["take", "help"], as_in("take-help")
     yield from usage("take", (4,), "take STORE VEHICLE CLOCK TELEGRAM, or take new STORE")
     yield ["take", "new", "made"], says("made a store, no vehicle heard", made=NEW)
@@ -150,7 +150,6 @@ def take_table():
 
 def believe_table():
     words = ["believe", "coach.list", "train", CLOCK, "1", "94"]
-    yield ["believe"], as_in("believe-help")
     yield ["believe", "help"], as_in("believe-help")
     yield from usage("believe", (3, 4, 5), "believe LIST STORE CLOCK [VEHICLE [SIGNAL]]")
     yield words[:4], as_in("believe-train")
@@ -176,7 +175,6 @@ def believe_table():
 
 def differ_table():
     words = ["differ", "coach.list", "next.list", "train", CLOCK, "1"]
-    yield ["differ"], as_in("differ-help")
     yield ["differ", "help"], as_in("differ-help")
     yield from usage("differ", (4, 5), "differ LIST LIST STORE CLOCK [VEHICLE]")
     yield words[:5], as_in("differ-train")
@@ -196,7 +194,6 @@ def differ_table():
 def marshal_table():
     words = ["marshal", "coach.list", "train", CLOCK, "bus"]
     routed = bytes.fromhex("F334 2000 2800 3F FF 1B58 2800 000000000000")
-    yield ["marshal"], as_in("marshal-help")
     yield ["marshal", "help"], as_in("marshal-help")
     yield from usage("marshal", (4,), "marshal LIST STORE CLOCK DATA [routes]")
     yield words + ["route"], error("usage: marshal LIST STORE CLOCK DATA [routes]")
@@ -240,7 +237,6 @@ def compose_table():
     neither = "neither `value SIGNAL VALUE` nor `mark CHECK MARK`"
     forced = bytes.fromhex("1101") + bytes(38) + b"\x20" + bytes(12) + b"\x40" + bytes(74)
     plain = bytes.fromhex("1101") + bytes(38) + b"\x10" + bytes(87)
-    yield ["compose"], as_in("compose-help")
     yield ["compose", "help"], as_in("compose-help")
     yield from usage("compose", (4,), "compose LIST TYPE VALUES OUT")
     yield words, says("composed R1 version 3 octets 128", out=R1)
@@ -307,8 +303,8 @@ def small_files():
 
 
 def run(folder, words, before=None):
-    done = subprocess.run([os.path.join(ROOT, "run")] + words, cwd=folder, stdout=subprocess.PIPE, stderr=subprocess.STDOUT, timeout=60, preexec_fn=before)
-    return done.stdout.decode(), done.returncode
+    done = subprocess.run([os.path.join(ROOT, "run")] + words, cwd=folder, capture_output=True, timeout=60, preexec_fn=before)
+    return done.stdout.decode(), done.stderr.decode(), done.returncode
 
 
 def put_back(folder, files):
@@ -321,10 +317,23 @@ def put_back(folder, files):
                 f.write(files[name])
 
 
+def is_trouble(text):
+    return text.startswith(("refused ", "error: "))
+
+
+def status_of(program, text):
+    if program == "differ" and is_trouble(text):
+        return 2
+    if program == "differ":
+        return int(re.search(r"^differ: [1-9]", text, re.M) is not None)
+    return {"refused": 1, "error:": 2}.get(text.split(" ")[0], 0)
+
+
 def wrong(folder, words, expect, write, before=None):
     """What is wrong with a run; an empty list where nothing is. The files are put back."""
     files = {**FILES, **VALUES}
-    printed, status = run(folder, words, before)
+    answer, trouble, status = run(folder, words, before)
+    printed = answer + trouble
     if expect.file and write:
         with open(os.path.join(EXPECTED, expect.file + ".txt"), "w") as f:
             f.write(printed)
@@ -334,9 +343,10 @@ def wrong(folder, words, expect, write, before=None):
     found = []
     if printed != expect.text:
         found.append(f"expected {expect.text!r}, got {printed!r}")
-    first = expect.text.split(" ")[0].rstrip(":")
-    if status != {"refused": 1, "error": 2}.get(first, 0):
+    if status != status_of(words[0], expect.text):
         found.append(f"exit status {status}")
+    if answer if is_trouble(expect.text) else trouble:
+        found.append("not on the stream where it belongs")
     now = held(folder)
     then = {**files, **expect.changes}
     if now != then:

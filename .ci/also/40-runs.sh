@@ -1,8 +1,9 @@
-# The programs' runs: tables of arguments and expected output, side by side.
+# The programs' runs: tables of arguments and expected output, side by side; and the programs driven as by a script.
 . .ci/need.sh
 need python3 python3
+need git git
 jobs=()
-for table in judge extends programs; do
+for table in judge extends programs driven; do
     python3 "runs/$table.py" &
     jobs+=($!)
 done

@@ -55,6 +55,7 @@ which value, reason or width differ, or that only one list has, begins with *.
 The last line counts those: `differ: 7 of 498 lines`.
 `believe help` lists the reasons. Bad input gets one line that begins with
 `refused` and the number of document 01, or with `error`.
+The exit status is as of `diff`: 0 no difference, 1 differences, 2 bad input.
 ",
     );
 }

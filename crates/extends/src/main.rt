@@ -13,6 +13,7 @@ with either understand what the other composes: `extends: yes` or `extends: no`.
 A list that breaks a rule gets one line that begins with `refused`, the number
 of document 01, the offset of what is wrong and which list it is.
 A file that cannot be read gets one line that begins with `error`.
+The exit status is as of `diff`: 0 yes, 1 no, 2 refused or error.
 ",
     );
 }

@@ -71,10 +71,7 @@ pub fn is_word(i: usize, expected: &[u8]) -> bool {
 
 // Whether a program of n words, its own name among them, is asked what it takes.
 pub fn asks_help(n: usize) -> bool {
-    if n < 2 {
-        return true;
-    }
-    (n == 2) & (is_word(1, b"help") | is_word(1, b"--help"))
+    (n == 2) & (is_word(1, b"help") | is_word(1, b"--help") | is_word(1, b"-h"))
 }
 
 // What would break the line is shown as a question mark.
