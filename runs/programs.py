@@ -9,6 +9,7 @@ import re
 import resource
 import shutil
 import signal
+import socket
 import subprocess
 import sys
 import tempfile
@@ -25,7 +26,10 @@ MOST = "not a whole number from 0 to 4294967295"
 NO_FILE = "no such file or folder"
 TOO_LONG = "the path is too long"
 NO_TELEGRAM = "exists and is no telegram"
-BUSY = "exists: another program is at work, or was cut short and left it"
+LEFT = "exists; remove it if no program is at work"
+TWICE = "is given twice"
+LIST = "reads as a signal list"
+AS_LONG = "as long as a telegram; the word `anyway` marshals into it all the same"
 NO_STORE = f"5: store not {slots.STORE:,} octets"
 
 
@@ -43,6 +47,11 @@ FULL = slots.store(*[slots.slot(5000, R1)] * slots.VEHICLES)
 ACROSS = lists.pack([], [lists.signal(372, 12), lists.signal(384, 8), lists.signal(400, 16)], [], [lists.route(0, 1, 4), lists.route(1, 1, 16)])
 ACROSS_2 = lists.pack([], [lists.signal(372, 11), lists.signal(384, 8, limit=600000, replacement=7)])
 
+# lists as long as a telegram: 22 and 8 checks, a signal, and ten code ranges and none
+LIST_128 = lists.pack([lists.check(20 + 2 * k) for k in range(22)], [lists.signal(384, 8)], [lists.code(0, 2 * k, 2 * k) for k in range(10)])
+LIST_40 = lists.pack([lists.check(20 + 2 * k) for k in range(8)], [lists.signal(384, 8)])
+assert (len(LIST_128), len(LIST_40)) == (128, 40)
+
 FILES = {
     "coach.list": data("coach.list"), "next.list": data("coach-next.list"), "L.list": lists.L, "across.list": ACROSS, "across-2.list": ACROSS_2,
     "ends.list": lists.L[:-1], "above.list": b"\xff\xff", "broken.list": lists.pack([lists.check(17)]), "more.list": lists.L + b"\0",
@@ -50,16 +59,19 @@ FILES = {
     "r1": R1, "r2": R2, "r3": R3, "values": data("scene/1-R1.values"),
     "empty": b"", "one": b"\x11", "app": b"\x21" + R1[1:], "kind": b"\x14" + R1[1:], "r1-127": R1[:127], "r1-129": R1 + b"\0", "r3-128": R3 + bytes(88),
     "train": TRAIN, "full": FULL, "store-1": NEW[1:], "store+1": NEW + b"\0", "store": NEW, "locked": NEW, "locked.new": b"left\n",
+    # what a writer left that is gone: no process has a number as high
+    "gone": NEW, "gone.new": b"cut", "gone.lock": f"2147483647 {socket.gethostname()} {os.readlink('/proc/self/ns/pid')}\n".encode(),
     "bus": b"\xff" * 20, "bus-17": b"\xff" * 17, "bus-18": b"\xff" * 18, "bus-4096": b"\xff" * 4096, "bus-4097": bytes(4097),
+    "bus-40": b"\xff" * 40, "bus-128": b"\xff" * 128, "zeros-8": bytes(8), "zeros-128": bytes(128), "list-128": LIST_128, "list-40": LIST_40,
 }
 
 
 class Expect:
-    """What a run prints, by a file of expected/, and the files that it changes."""
+    """What a run prints, by a file of expected/, and the files that it changes; None for one that is gone then."""
 
     def __init__(self, text=None, file=None, **changes):
         self.text, self.file = text, file
-        self.changes = {name.replace("_", "-"): octets for name, octets in changes.items()}
+        self.changes = {name.replace("_", "-").replace("-dot-", "."): octets for name, octets in changes.items()}
 
 
 def says(line, **changes):
@@ -117,7 +129,8 @@ def take_table():
     yield ["take", "new", "made"], says("made a store, no vehicle heard", made=NEW)
     yield ["take", "new", "store"], error("STORE 'store': exists already")
     yield ["take", "new", "folder"], error("STORE 'folder': exists already")
-    yield ["take", "new", "none/x"], error("STORE 'none/x': " + NO_FILE)
+    yield ["take", "new", "none/x"], error("STORE 'none/x.lock': " + NO_FILE)
+    yield ["take", "new", "r1/x"], error("STORE 'r1/x': not in a folder")
     yield ["take", "new", ""], error("STORE '': " + NO_FILE)
     yield words, says("taken R1 version 3 vehicle 1 at 5000", store=slots.taken(NEW, 1, 5000, R1))
     yield ["take", "store", "2", "0", "r2"], says("taken R2 version 2 vehicle 2 at 0", store=slots.taken(NEW, 2, 0, R2))
@@ -141,10 +154,18 @@ def take_table():
     yield from no_file("TELEGRAM", words, 4)
     yield ["take", "none", "1", "1", "r1"], error("STORE 'none': " + NO_FILE)
     yield ["take", "folder", "1", "1", "r1"], error("STORE 'folder': is a folder")
-    yield ["take", "", "1", "1", "r1"], error("STORE '.new': " + NO_FILE)
-    yield ["take", "locked", "1", "1", "r1"], error("STORE 'locked.new': " + BUSY)
-    for n in (300, 4093, 5000):
-        yield ["take", "a" * n, "1", "1", "r1"], error("STORE '" + "a" * 100 + "...new': " + TOO_LONG)
+    yield ["take", "", "1", "1", "r1"], error("STORE '': " + NO_FILE)
+    yield ["take", "none/x", "1", "1", "r1"], error("STORE 'none/x': " + NO_FILE)
+    yield ["take", "r1/x", "1", "1", "r1"], error("STORE 'r1/x': not in a folder")
+    yield ["take", "locked", "1", "1", "r1"], error("STORE 'locked.new': " + LEFT)
+    yield ["take", "new", "locked"], error("STORE 'locked': exists already")
+    yield ["take", "gone", "1", "5000", "r1"], says("taken R1 version 3 vehicle 1 at 5000", gone=slots.taken(NEW, 1, 5000, R1), gone_dot_new=None, gone_dot_lock=None)
+    yield ["take", "store", "1", "1", "store"], error("STORE 'store': " + TWICE)
+    yield ["take", "r1", "1", "1", "r1"], error("STORE 'r1': " + TWICE)
+    yield ["take", "next.list", "1", "1", "r1"], refused(NO_STORE)
+    for n in (300, 4093, 4095, 4096, 5000):
+        yield ["take", "a" * n, "1", "1", "r1"], error("STORE '" + "a" * 100 + "..': " + TOO_LONG)
+    yield ["take", "new", "a" * 252], error("STORE '" + "a" * 100 + "...lock': " + TOO_LONG)
     yield ["take", "new", "a" * 5000], error("STORE '" + "a" * 100 + "..': " + TOO_LONG)
 
 
@@ -195,8 +216,10 @@ def marshal_table():
     words = ["marshal", "coach.list", "train", CLOCK, "bus"]
     routed = bytes.fromhex("F334 2000 2800 3F FF 1B58 2800 000000000000")
     yield ["marshal", "help"], as_in("marshal-help")
-    yield from usage("marshal", (4,), "marshal LIST STORE CLOCK DATA [routes]")
-    yield words + ["route"], error("usage: marshal LIST STORE CLOCK DATA [routes]")
+    text = "marshal LIST STORE CLOCK DATA [routes] [anyway]"
+    yield from usage("marshal", (4,), text)
+    for more in (["route"], ["routes", "routes"], ["anyway", "x"], ["routes", "anyway", "routes"]):
+        yield words + more, error("usage: " + text)
     yield words, says("marshalled 14 routes, 11 live", bus=routed + b"\xff\xff")
     yield words + ["routes"], as_in("marshal-routes", bus=routed + b"\xff\xff")
     yield words[:4] + ["bus-18"], says("marshalled 14 routes, 11 live", bus_18=routed)
@@ -210,8 +233,23 @@ def marshal_table():
     yield words[:4] + ["bus-4097"], error("DATA 'bus-4097': more than 4096 octets")
     yield words[:4] + ["none"], error("DATA 'none': " + NO_FILE)
     yield words[:4] + ["folder"], error("DATA 'folder': is a folder")
-    yield words[:4] + ["locked"], error("DATA 'locked.new': " + BUSY)
-    yield words[:4] + ["none/x"], error("DATA 'none/x.new': " + NO_FILE)
+    yield words[:4] + ["locked"], error("DATA 'locked.new': " + LEFT)
+    yield words[:4] + ["gone"], Expect("error: DATA 'gone': more than 4096 octets\n", gone_dot_new=None, gone_dot_lock=None)
+    yield words[:4] + ["none/x"], error("DATA 'none/x': " + NO_FILE)
+    # nothing that was given by mistake is written over, and bus data of a telegram's length only where they are said to be that
+    for file in ("L.list", "next.list", "across.list", "list-40", "list-128"):
+        yield words[:4] + [file], error(f"DATA '{file}': {LIST}")
+        yield words[:4] + [file, "anyway"], error(f"DATA '{file}': {LIST}")
+    for file in ("coach.list", "train"):
+        yield words[:4] + [file], error(f"DATA '{file}': {TWICE}")
+    for file in ("r1", "r2", "r3", "bus-40", "bus-128", "zeros-128"):
+        yield words[:4] + [file], error(f"DATA '{file}': {AS_LONG}")
+    yield words[:4] + ["bus-40", "anyway"], says("marshalled 14 routes, 11 live", bus_40=routed + b"\xff" * 22)
+    yield words[:4] + ["zeros-128", "anyway"], says("marshalled 14 routes, 11 live", zeros_128=bytes.fromhex("F034 2000 2800 30 00 1B58 2800") + bytes(116))
+    yield words + ["anyway"], says("marshalled 14 routes, 11 live", bus=routed + b"\xff\xff")
+    for both in (["routes", "anyway"], ["anyway", "routes"]):
+        yield words + both, as_in("marshal-routes", bus=routed + b"\xff\xff")
+    yield ["marshal", "across.list", "train", CLOCK, "zeros-8"], says("marshalled 2 routes, 2 live", zeros_8=b"\x08\xa2\x20" + bytes(5))
     yield from no_list(["marshal", "L.list", "store-1", CLOCK, "none"], 1)
     yield from no_file("STORE", words, 2)
     yield from no_number("CLOCK", words, 3)
@@ -242,8 +280,10 @@ def compose_table():
     yield words, says("composed R1 version 3 octets 128", out=R1)
     yield words[:2] + ["1", "values", "r3"], says("composed R1 version 3 octets 128", r3=R1)
     yield words[:4] + ["r2"], says("composed R1 version 3 octets 128", r2=R1)
-    for file in ("store", "next.list", "values", "bus", "empty", "r1-127", "r1-129"):
+    for file in ("store", "coach.list", "v-L", "bus", "empty", "r1-127", "r1-129", "bus-40", "bus-128", "list-40", "list-128", "app", "kind", "r3-128"):
         yield words[:4] + [file], error(f"OUT '{file}': {NO_TELEGRAM}")
+    for file in ("next.list", "values"):
+        yield words[:4] + [file], error(f"OUT '{file}': {TWICE}")
     yield ["compose", "L.list", "R1", "v-L", "out"], says("composed R1 version 1 octets 128", out=forced)
     yield ["compose", "L.list", "R1", "v-last", "out"], says("composed R1 version 1 octets 128", out=forced)
     yield ["compose", "L.list", "R1", "empty", "out"], says("composed R1 version 1 octets 128", out=plain)
@@ -272,9 +312,10 @@ def compose_table():
     yield ["compose", "L.list", "R1", "v-long", "out"], error("VALUES 'v-long': more than 65536 octets")
     yield ["compose", "L.list", "R4", "v-word", "out"], error("TYPE 'R4': not R1, R2 or R3, nor 1 to 3")
     yield ["compose", "L.list", "", "v-word", "out"], error("TYPE '': not R1, R2 or R3, nor 1 to 3")
-    yield words[:4] + ["locked"], error("OUT 'locked.new': " + BUSY)
-    yield words[:4] + ["none/x"], error("OUT 'none/x.new': " + NO_FILE)
-    yield words[:4] + ["folder"], error(f"OUT 'folder': {NO_TELEGRAM}")
+    yield words[:4] + ["locked"], error("OUT 'locked.new': " + LEFT)
+    yield words[:4] + ["none/x"], error("OUT 'none/x.lock': " + NO_FILE)
+    yield words[:4] + ["folder"], error("OUT 'folder': is a folder")
+    yield words[:4] + [""], error("OUT '': " + NO_FILE)
     yield from no_list(["compose", "L.list", "R1", "v-word", "out"], 1)
     yield from no_file("VALUES", words, 3)
 
@@ -297,9 +338,9 @@ def held(folder):
 
 
 def small_files():
-    """A file may have 64 octets, and a write past that fails."""
+    """A file may have 120 octets, which a lock needs less of, and a write past that fails."""
     signal.signal(signal.SIGXFSZ, signal.SIG_IGN)
-    resource.setrlimit(resource.RLIMIT_FSIZE, (64, 64))
+    resource.setrlimit(resource.RLIMIT_FSIZE, (120, 120))
 
 
 def run(folder, words, before=None):
@@ -348,7 +389,7 @@ def wrong(folder, words, expect, write, before=None):
     if answer if is_trouble(expect.text) else trouble:
         found.append("not on the stream where it belongs")
     now = held(folder)
-    then = {**files, **expect.changes}
+    then = {name: octets for name, octets in {**files, **expect.changes}.items() if octets is not None}
     if now != then:
         found.append("files changed: " + ", ".join(sorted(n for n in set(now) | set(then) if now.get(n) != then.get(n))))
         put_back(folder, files)
@@ -366,7 +407,7 @@ def main():
         tables = [row for table in (take_table, believe_table, differ_table, marshal_table, compose_table) for row in table()]
         failing = [
             (["take", "store", "1", "5000", "r1"], error("STORE 'store.new': cannot be written")),
-            (["take", "new", "made"], error("STORE 'made': cannot be written")),
+            (["take", "new", "made"], error("STORE 'made.new': cannot be written")),
             (["marshal", "L.list", "train", CLOCK, "bus-4096"], error("DATA 'bus-4096.new': cannot be written")),
             (["compose", "L.list", "R1", "v-L", "out"], error("OUT 'out.new': cannot be written")),
             (["compose", "L.list", "R1", "v-L", "r3"], error("OUT 'r3.new': cannot be written")),

@@ -5,14 +5,16 @@ ghost use lib.ListN.{length};
 
 mod text;
 
-use files::There;
+use files::Rules;
 use gateway::Counts;
 use gateway::EntryOutcome;
 use gateway::Judged;
 use gateway::LONGEST;
 use gateway::Outcome;
+use gateway::TELEGRAM;
 use libc::STDOUT_FILENO;
 use saying::Number;
+use words::Written;
 
 fn help() {
     io::write_all(
@@ -30,13 +32,16 @@ VALUES    a text file of lines, where # begins a comment:
                                   (4 to 255 is refused, 14, where it is written)
           A value that is not given is the signal's replacement in LIST, a mark
           that is not given is ok. Of two lines for one entry the last counts.
-OUT       the telegram's file; what exists is replaced only where it has 40 or
-          128 octets, as a telegram has
+OUT       the telegram's file; what exists is replaced only where it is a
+          telegram, as `take` takes one
 
 Prints `composed R1 version 3 octets 128`. Where nothing was composed it prints
 one line that begins with `refused` and the number of document 01, or with
-`error`, and OUT is as it was. The telegram is written to OUT.new, which then
-takes the name of OUT.
+`error`, and OUT is as it was. It is replaced whole, by way of OUT.new, with its
+owner and mode but without access lists; links stay; one that is read-only or
+has hard links is an error. OUT.lock names the process at work: others wait,
+and where it holds on for five seconds their line begins with `error: busy`.
+What a killed one left is taken away.
 ",
     );
 }
@@ -66,32 +71,45 @@ fn print_composed(kind: usize, version: usize, octets: usize) {
     saying::print(l);
 }
 
-// Whether OUT is not there yet, or as long as a telegram: a store or a list that is given for it by mistake is not lost.
-fn is_free() -> bool {
-    let ok = match files::look_at(4) {
-        There::Nothing => true,
-        There::Octets(n) => (n == 40) | (n == 128),
-        There::Other => false,
-    };
-    if !ok {
-        saying::print_word(4, b"OUT", b"exists and is no telegram");
+// Whether OUT is not there yet, or holds a telegram: a store or a list that is given for it by mistake is not lost.
+fn is_free(path: &[u8]) -> bool {
+    if !files::is_there(path) {
+        return true;
     }
-    ok
+    let mut old = [0u8; TELEGRAM + 1];
+    let o = files::read_at(4, b"OUT", path, &mut old);
+    if !o.ok {
+        return false;
+    }
+    let n = o.octets;
+    words::may_replace(4, b"OUT", &old[..n], Written::Telegram)
 }
 
 // The telegram takes the name of OUT once all of it is written.
-fn write_out(kind: usize, version: usize, out: &[u8]) {
-    let fd = files::begin(4, b"OUT");
+fn write_at(path: &[u8], kind: usize, version: usize, out: &[u8]) {
+    let rules = Rules {
+        is_old: true,
+        is_new: true,
+        first: 1,
+        second: 3,
+    };
+    let fd = files::begin(4, b"OUT", path, rules);
     if fd < 0 {
         return;
     }
-    if !is_free() {
-        files::drop_new(4, fd);
+    if !is_free(path) {
+        files::drop_new(path, fd);
         return;
     }
-    if files::commit(4, b"OUT", fd, out) {
+    if files::commit(4, b"OUT", path, fd, out) {
         print_composed(kind, version, out.len());
     }
+}
+
+fn write_out(kind: usize, version: usize, out: &[u8]) {
+    let mut path = io::buffer();
+    let n = files::target_of(4, &mut path);
+    write_at(&path[..n], kind, version, out);
 }
 
 fn compose_out(list: &[u8], n: Counts, kind: usize, values: &[u64], marks: &[u8], out: &mut [u8]) {

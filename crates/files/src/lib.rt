@@ -1,15 +1,21 @@
 // The files that a program's arguments name, read whole and replaced whole.
+//
+// One guard stands before everything that a program writes (`begin`): a file is replaced only where it is a plain one, is not given as
+// another argument, may be written, and has one name alone. What its octets may be is the program's to say (`words::may_replace`).
+mod error;
+mod facts;
+mod lock;
+mod path;
+
 ghost use Rattle.io.specs.Counts.{Counts};
-use saying::Line;
-use saying::print;
-use saying::say;
-use saying::say_error;
-use saying::say_number;
-
-// No numbers of errno: a write that failed, and a new file that is there already.
-const UNWRITTEN: i32 = -1;
-
-const BUSY: i32 = -2;
+use error::print_beside;
+use error::print_busy;
+use error::print_error;
+pub use error::print_long;
+use facts::Found;
+use facts::look_at;
+use path::beside;
+pub use path::target_of;
 
 // How many octets were read; not ok where the file could not be read, which an error line has said.
 pub struct Input {
@@ -17,91 +23,12 @@ pub struct Input {
     pub ok: bool,
 }
 
-// Nothing, something of so many octets, or what cannot be opened or has no length, as a pipe.
-pub enum There {
-    Nothing,
-    Octets(i64),
-    Other,
-}
-
-fn say_why(line: Line, error: i32) -> Line {
-    if error == libc::ENOENT {
-        return say(line, b"no such file or folder");
-    }
-    if error == libc::EACCES {
-        return say(line, b"not permitted");
-    }
-    if error == libc::EEXIST {
-        return say(line, b"exists already");
-    }
-    if error == libc::EISDIR {
-        return say(line, b"is a folder");
-    }
-    if error == libc::ENOTDIR {
-        return say(line, b"not in a folder");
-    }
-    if error == libc::ENAMETOOLONG {
-        return say(line, b"the path is too long");
-    }
-    if error == UNWRITTEN {
-        return say(line, b"cannot be written");
-    }
-    if error == BUSY {
-        return say(
-            line,
-            b"exists: another program is at work, or was cut short and left it",
-        );
-    }
-    say(line, b"cannot be used")
-}
-
-// `behind` is what stands behind the file's name.
-fn print_error(i: usize, name: &[u8], behind: &[u8], error: i32) {
-    print(say_why(say_error(i, name, behind), error));
-}
-
-// The error line for a file that is longer than it can be.
-pub fn print_long(i: usize, name: &[u8], most: u64) {
-    let l = say_number(say(say_error(i, name, b""), b"more than "), most);
-    print(say(l, b" octets"));
-}
-
-// The path of argument i; all of the buffer, which is no path, where it is longer.
-fn path_of(i: usize, path: &mut [u8]) -> usize
-    ensures { λ r. ⌜ Counts r (now (path .exit)) ⌝ }
-{
-    let n = os::arg(i, path);
-    if os::errno() == libc::ENAMETOOLONG {
-        return path.len();
-    }
-    n
-}
-
-fn open(i: usize) -> i32 {
-    let mut path = io::buffer();
-    let n = path_of(i, &mut path);
-    os::open_read(&path[..n])
-}
-
-// What the path of argument i names. Nothing is read of it, and it is opened for writing too, so that a pipe keeps nobody waiting.
-pub fn look_at(i: usize) -> There {
-    let mut path = io::buffer();
-    let n = path_of(i, &mut path);
-    let fd = os::open_update(&path[..n]);
-    if fd < 0 {
-        return if os::errno() == libc::ENOENT {
-            There::Nothing
-        } else {
-            There::Other
-        };
-    }
-    let end = libc::lseek(fd, 0, libc::SEEK_END);
-    libc::close(fd);
-    if end < 0 {
-        There::Other
-    } else {
-        There::Octets(end)
-    }
+// What a program may write over: a file that is there, or a name that is free, and not the files of the two arguments (0 is none).
+pub struct Rules {
+    pub is_old: bool,
+    pub is_new: bool,
+    pub first: usize,
+    pub second: usize,
 }
 
 // A short count leaves open whether the file ended or a read failed: one more read tells.
@@ -114,9 +41,18 @@ fn is_at_end(fd: i32) -> bool {
 pub fn read(i: usize, name: &[u8], buf: &mut [u8]) -> Input
     ensures { λ r. ⌜ Counts (r .octets) (now (buf .exit)) ⌝ }
 {
-    let fd = open(i);
+    let mut path = io::buffer();
+    let n = path::path_of(i, &mut path);
+    read_at(i, name, &path[..n], buf)
+}
+
+// The same of the path to which argument i leads.
+pub fn read_at(i: usize, name: &[u8], path: &[u8], buf: &mut [u8]) -> Input
+    ensures { λ r. ⌜ Counts (r .octets) (now (buf .exit)) ⌝ }
+{
+    let fd = os::open_read(path);
     if fd < 0 {
-        print_error(i, name, b"", os::errno());
+        print_error(i, name, os::errno());
         return Input {
             octets: 0,
             ok: false,
@@ -130,60 +66,163 @@ pub fn read(i: usize, name: &[u8], buf: &mut [u8]) -> Input
         is_at_end(fd)
     };
     if !ok {
-        print_error(i, name, b"", os::errno());
+        print_error(i, name, os::errno());
     }
     libc::close(fd);
     Input { octets, ok }
 }
 
-// The path of argument i with `.new` behind it; empty where it is empty, and all of the buffer where it is longer.
-fn new_name(i: usize, path: &mut [u8]) -> usize
-    ensures { λ r. ⌜ Counts r (now (path .exit)) ⌝ }
-{
-    let n = path_of(i, path);
-    if n == 0 {
+pub fn is_there(path: &[u8]) -> bool {
+    let f = look_at(path);
+    f.error == 0
+}
+
+// Why a file that is there is not to be replaced, as an error's number; 0 where it may be.
+fn against_old(path: &[u8], f: Found, rules: Rules) -> i32 {
+    if facts::is_folder(f) {
+        return libc::EISDIR;
+    }
+    if !facts::is_plain(f) {
+        return error::NOT_PLAIN;
+    }
+    if facts::is_given(f, rules.first) | facts::is_given(f, rules.second) {
+        return error::GIVEN;
+    }
+    if facts::is_read_only(f) {
+        return error::READ_ONLY;
+    }
+    if 1 < f.names {
+        return error::SEVERAL;
+    }
+    let path = path::ended(path);
+    if libc::access(&path, libc::W_OK) < 0 {
+        return os::errno();
+    }
+    0
+}
+
+fn against(path: &[u8], f: Found, rules: Rules) -> i32 {
+    if (f.error == libc::ENOENT) & rules.is_new & (path.len() != 0) {
         return 0;
     }
-    if path.len() - n < 4 {
-        return path.len();
+    if f.error != 0 {
+        return f.error;
     }
-    path[n] = b'.';
-    path[n + 1] = b'n';
-    path[n + 2] = b'e';
-    path[n + 3] = b'w';
-    n + 4
+    if !rules.is_old {
+        return libc::EEXIST;
+    }
+    against_old(path, f, rules)
 }
 
-fn create_new(i: usize) -> i32 {
-    let mut path = io::buffer();
-    let n = new_name(i, &mut path);
-    os::create(&path[..n])
+fn may_go(i: usize, name: &[u8], path: &[u8], rules: Rules) -> bool {
+    let f = look_at(path);
+    let error = against(path, f, rules);
+    if error != 0 {
+        print_error(i, name, error);
+    }
+    error == 0
 }
 
-fn remove_new(i: usize) {
-    let mut path = io::buffer();
-    let n = new_name(i, &mut path);
-    os::unlink(&path[..n]);
-}
-
-fn rename_new(i: usize) -> bool {
+fn remove_new(path: &[u8]) {
     let mut new = io::buffer();
-    let n = new_name(i, &mut new);
-    let mut path = io::buffer();
-    let m = path_of(i, &mut path);
-    os::rename(&new[..n], &path[..m]) == 0
+    let n = beside(path, b".new", &mut new);
+    os::unlink(&new[..n]);
 }
 
-fn create(i: usize) -> i32 {
-    let mut path = io::buffer();
-    let n = path_of(i, &mut path);
-    os::create(&path[..n])
+fn create_new(path: &[u8]) -> i32 {
+    let mut new = io::buffer();
+    let n = beside(path, b".new", &mut new);
+    os::create(&new[..n])
 }
 
-fn remove(i: usize) {
-    let mut path = io::buffer();
-    let n = path_of(i, &mut path);
-    os::unlink(&path[..n]);
+fn rename_new(path: &[u8]) -> bool {
+    let mut new = io::buffer();
+    let n = beside(path, b".new", &mut new);
+    os::rename(&new[..n], path) == 0
+}
+
+// A rename lasts once its folder is flushed; a folder that can't be read can't be flushed either.
+fn flush_folder(path: &[u8]) {
+    let n = path::folder_of(path);
+    let fd = if n == 0 {
+        os::open_read(b".")
+    } else {
+        os::open_read(&path[..n])
+    };
+    if 0 <= fd {
+        libc::fsync(fd);
+        libc::close(fd);
+    }
+}
+
+// Gives the new file the owner, group and mode of the old one, before an octet stands in it.
+fn is_kept(fd: i32, f: Found) -> bool {
+    if f.error != 0 {
+        return true;
+    }
+    if libc::fchown(fd, f.owner, f.group) < 0 {
+        return false;
+    }
+    libc::fchmod(fd, f.mode & 0o7777) == 0
+}
+
+fn left(error: i32) -> i32 {
+    if error == libc::EEXIST {
+        error::LEFT
+    } else {
+        error
+    }
+}
+
+// Makes the new file, under the lock. A new file that is there is not this program's, and stays.
+fn begin_new(i: usize, name: &[u8], path: &[u8]) -> i32 {
+    let f = look_at(path);
+    let fd = create_new(path);
+    if fd < 0 {
+        print_beside(name, path, b".new", left(os::errno()));
+        return fd;
+    }
+    if !is_kept(fd, f) {
+        libc::close(fd);
+        remove_new(path);
+        print_error(i, name, error::NOT_KEPT);
+        return -1;
+    }
+    fd
+}
+
+fn is_locked(name: &[u8], path: &[u8]) -> bool {
+    let w = lock::wait(path);
+    if w.has {
+        return true;
+    }
+    if w.error == 0 {
+        print_busy(name, path, w.owner);
+    } else {
+        print_beside(name, path, b".lock", w.error);
+    }
+    false
+}
+
+// Begins to replace the file to which argument i leads: waits for its lock, and makes the file with `.new` behind its name. Negative where
+// that is not to be or cannot be, which an error line has said. The guard stands before the lock, which is made beside no device, and
+// behind it, since the file may be another one by then.
+pub fn begin(i: usize, name: &[u8], path: &[u8], rules: Rules) -> i32 {
+    if !may_go(i, name, path, rules) {
+        return -1;
+    }
+    if !is_locked(name, path) {
+        return -1;
+    }
+    let fd = if may_go(i, name, path, rules) {
+        begin_new(i, name, path)
+    } else {
+        -1
+    };
+    if fd < 0 {
+        lock::give_back(path);
+    }
+    fd
 }
 
 // Whether all octets have reached the file. The descriptor is closed either way.
@@ -194,53 +233,49 @@ fn write_closed(fd: i32, octets: &[u8]) -> bool {
     is_written & is_kept & is_closed
 }
 
-// Makes the file of argument i, which is not there yet.
-pub fn make(i: usize, name: &[u8], octets: &[u8]) -> bool {
-    let fd = create(i);
-    if fd < 0 {
-        print_error(i, name, b"", os::errno());
-        return false;
-    }
-    let ok = write_closed(fd, octets);
-    if !ok {
-        remove(i);
-        print_error(i, name, b"", UNWRITTEN);
-    }
-    ok
-}
-
-// Begins to replace the file of argument i: makes the file with `.new` behind its name, which also keeps two programs apart. Negative where
-// that cannot be made, which an error line has said.
-pub fn begin(i: usize, name: &[u8]) -> i32 {
-    let fd = create_new(i);
-    if fd < 0 {
-        print_error(i, name, b".new", busy(os::errno()));
-    }
-    fd
-}
-
-fn busy(error: i32) -> i32 {
-    if error == libc::EEXIST { BUSY } else { error }
-}
-
-// Ends what `begin` began: the new file takes the old one's name once all octets are written. Otherwise the old one stays as it was.
-pub fn commit(i: usize, name: &[u8], fd: i32, octets: &[u8]) -> bool {
+fn put(i: usize, name: &[u8], path: &[u8], fd: i32, octets: &[u8]) -> bool {
     if !write_closed(fd, octets) {
-        remove_new(i);
-        print_error(i, name, b".new", UNWRITTEN);
+        remove_new(path);
+        print_beside(name, path, b".new", error::UNWRITTEN);
         return false;
     }
-    if !rename_new(i) {
+    if !rename_new(path) {
         let error = os::errno();
-        remove_new(i);
-        print_error(i, name, b"", error);
+        remove_new(path);
+        print_error(i, name, error);
         return false;
     }
+    flush_folder(path);
     true
 }
 
+// Ends what `begin` began: the new file takes the old one's name once all octets are written. Otherwise the old one stays as it was.
+pub fn commit(i: usize, name: &[u8], path: &[u8], fd: i32, octets: &[u8]) -> bool {
+    let ok = put(i, name, path, fd, octets);
+    lock::give_back(path);
+    ok
+}
+
 // Ends what `begin` began, with the old file as it was.
-pub fn drop_new(i: usize, fd: i32) {
+pub fn drop_new(path: &[u8], fd: i32) {
     libc::close(fd);
-    remove_new(i);
+    remove_new(path);
+    lock::give_back(path);
+}
+
+// Makes the file of argument i, which is not there yet: whole, or not at all.
+pub fn make(i: usize, name: &[u8], octets: &[u8]) -> bool {
+    let mut path = io::buffer();
+    let n = target_of(i, &mut path);
+    let rules = Rules {
+        is_old: false,
+        is_new: true,
+        first: 0,
+        second: 0,
+    };
+    let fd = begin(i, name, &path[..n], rules);
+    if fd < 0 {
+        return false;
+    }
+    commit(i, name, &path[..n], fd, octets)
 }

@@ -1,4 +1,5 @@
 // Marshals routed signals out of a store into a file of vehicle bus data, and shows each route.
+use files::Rules;
 use gateway::Counts;
 use gateway::EntryOutcome;
 use gateway::Judged;
@@ -12,11 +13,21 @@ use gateway::STORE;
 use gateway::Signal;
 use libc::STDOUT_FILENO;
 use saying::Clock;
+use words::Written;
+
+const MOST: usize = 4096;
+
+// What is asked beside the files: the clock, a line for each route, and bus data of a telegram's length.
+struct Order {
+    clock: u32,
+    routes: bool,
+    anyway: bool,
+}
 
 fn help() {
     io::write_all(
         STDOUT_FILENO,
-        b"marshal LIST STORE CLOCK DATA [routes]
+        b"marshal LIST STORE CLOCK DATA [routes] [anyway]
 
 Writes the value of each route of LIST, read out of STORE at CLOCK, into its
 field of the vehicle bus data in the file DATA, and changes no other bit of it.
@@ -24,15 +35,20 @@ field of the vehicle bus data in the file DATA, and changes no other bit of it.
 LIST      a signal list; `judge LIST` says what is wrong with one
 STORE     a store; `take` makes one and fills it
 CLOCK     the millisecond counter now, 0 to 4294967295
-DATA      up to 4096 octets, long enough for every route
+DATA      up to 4096 octets, long enough for every route; a signal list is not
+          written over, and data as long as a telegram (40 or 128 octets) only
+          with the word `anyway`
 
 Prints `marshalled 14 routes, 11 live`; live are the reasons 0 and 1. With the
 word `routes` it prints above that a line for each route,
 ROUTE FIELD-OF-DATA VEHICLE PLACE VALUE REASON.
 `believe help` lists the reasons.
 Where nothing was marshalled it prints one line that begins with `refused` and
-the number of document 01, or with `error`, and DATA is as it was. The new data
-are written to DATA.new, which then takes the name of DATA.
+the number of document 01, or with `error`, and DATA is as it was. It is replaced
+whole, by way of DATA.new, with its owner and mode but without access lists;
+links stay; one that is read-only or has hard links is an error. DATA.lock names
+the process at work: others wait, and where it holds on for five seconds their
+line begins with `error: busy`. What a killed one left is taken away.
 ",
     );
 }
@@ -80,23 +96,23 @@ fn print_count(n: Counts, live: usize) {
 
 fn marshal_bus(
     fd: i32,
+    path: &[u8],
     list: &[u8],
     n: Counts,
     store: &[u8],
-    clock: u32,
-    routes: bool,
+    order: Order,
     bus: &mut [u8],
 ) {
-    let outcome = gateway::marshal(list, store, clock, bus);
+    let outcome = gateway::marshal(list, store, order.clock, bus);
     match outcome {
         Marshalled::Refused(f) => {
-            files::drop_new(4, fd);
+            files::drop_new(path, fd);
             words::print_refused(f);
         }
         Marshalled::Live(live) => {
-            if files::commit(4, b"DATA", fd, bus) {
-                if routes {
-                    print_routes(list, n.routes, store, clock);
+            if files::commit(4, b"DATA", path, fd, bus) {
+                if order.routes {
+                    print_routes(list, n.routes, store, order.clock);
                 }
                 print_count(n, live);
             }
@@ -104,39 +120,64 @@ fn marshal_bus(
     }
 }
 
-// The data are read and replaced while DATA.new, open as fd, keeps other programs away.
-fn marshal_into(fd: i32, list: &[u8], n: Counts, store: &[u8], clock: u32, routes: bool) {
-    let mut bus = [0u8; 4097];
-    let d = files::read(4, b"DATA", &mut bus);
-    if !d.ok {
-        files::drop_new(4, fd);
-        return;
+// Whether the data may go; a file too long is no bus data at all.
+fn is_data(data: &[u8], anyway: bool) -> bool {
+    if MOST < data.len() {
+        files::print_long(4, b"DATA", MOST as u64);
+        return false;
     }
+    let written = if anyway {
+        Written::Anyway
+    } else {
+        Written::Data
+    };
+    words::may_replace(4, b"DATA", data, written)
+}
+
+// The data are read and replaced while their lock keeps other programs waiting; the new ones are open as fd.
+fn marshal_into(fd: i32, path: &[u8], list: &[u8], n: Counts, store: &[u8], order: Order) {
+    let mut bus = [0u8; MOST + 1];
+    let d = files::read_at(4, b"DATA", path, &mut bus);
     let k = d.octets;
-    if k == 4097 {
-        files::drop_new(4, fd);
-        files::print_long(4, b"DATA", 4096);
+    if !d.ok {
+        files::drop_new(path, fd);
         return;
     }
-    marshal_bus(fd, list, n, store, clock, routes, &mut bus[..k]);
+    if !is_data(&bus[..k], order.anyway) {
+        files::drop_new(path, fd);
+        return;
+    }
+    marshal_bus(fd, path, list, n, store, order, &mut bus[..k]);
 }
 
-fn marshal_under(list: &[u8], n: Counts, store: &[u8], clock: u32, routes: bool) {
-    let fd = files::begin(4, b"DATA");
-    if fd >= 0 {
-        marshal_into(fd, list, n, store, clock, routes);
+fn marshal_at(path: &[u8], list: &[u8], n: Counts, store: &[u8], order: Order) {
+    let rules = Rules {
+        is_old: true,
+        is_new: false,
+        first: 1,
+        second: 2,
+    };
+    let fd = files::begin(4, b"DATA", path, rules);
+    if 0 <= fd {
+        marshal_into(fd, path, list, n, store, order);
     }
 }
 
-fn judge(list: &[u8], store: &[u8], clock: u32, routes: bool) {
+fn marshal_under(list: &[u8], n: Counts, store: &[u8], order: Order) {
+    let mut path = io::buffer();
+    let k = files::target_of(4, &mut path);
+    marshal_at(&path[..k], list, n, store, order);
+}
+
+fn judge(list: &[u8], store: &[u8], order: Order) {
     let judged = gateway::judge(list);
     match judged {
         Judged::Refused(f) => words::print_refused(f),
-        Judged::Accepted(n) => marshal_under(list, n, store, clock, routes),
+        Judged::Accepted(n) => marshal_under(list, n, store, order),
     }
 }
 
-fn read_files(clock: u32, routes: bool) {
+fn read_files(order: Order) {
     let mut list = [0u8; LONGEST + 1];
     let l = files::read(1, b"LIST", &mut list);
     if !l.ok {
@@ -149,14 +190,23 @@ fn read_files(clock: u32, routes: bool) {
     }
     let n = l.octets;
     let m = s.octets;
-    judge(&list[..n], &store[..m], clock, routes);
+    judge(&list[..n], &store[..m], order);
 }
 
-fn ask(routes: bool) {
+fn ask(routes: bool, anyway: bool) {
     let Clock::At(clock) = saying::clock_argument(3) else {
         return;
     };
-    read_files(clock, routes);
+    read_files(Order {
+        clock,
+        routes,
+        anyway,
+    });
+}
+
+// Whether one of the words behind DATA is this one.
+fn has_word(word: &[u8]) -> bool {
+    saying::is_word(5, word) | saying::is_word(6, word)
 }
 
 fn main() {
@@ -165,13 +215,11 @@ fn main() {
         help();
         return;
     }
-    if n == 5 {
-        ask(false);
+    let routes = has_word(b"routes");
+    let anyway = has_word(b"anyway");
+    if (n == 5) | ((n == 6) & (routes | anyway)) | ((n == 7) & routes & anyway) {
+        ask(routes, anyway);
         return;
     }
-    if (n == 6) & saying::is_word(5, b"routes") {
-        ask(true);
-        return;
-    }
-    saying::print_usage(b"marshal LIST STORE CLOCK DATA [routes]");
+    saying::print_usage(b"marshal LIST STORE CLOCK DATA [routes] [anyway]");
 }

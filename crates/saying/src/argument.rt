@@ -104,6 +104,14 @@ pub fn say_argument(line: Line, i: usize, behind: &[u8]) -> Line {
     put(say(say_shown(l, &word[..n]), behind), b'\'')
 }
 
+// A path in quotes, cut and ended in the same way.
+pub fn say_quoted(line: Line, text: &[u8], behind: &[u8]) -> Line {
+    let n = io::count(100, text);
+    let l = say_shown(put(line, b'\''), &text[..n]);
+    let l = if n < text.len() { say(l, b"..") } else { l };
+    put(say(l, behind), b'\'')
+}
+
 // The error line on argument i, up to what is wrong with it.
 pub fn say_error(i: usize, name: &[u8], behind: &[u8]) -> Line {
     let l = put(say(say(empty(), b"error: "), name), b' ');

@@ -16,6 +16,7 @@ pub use argument::print_usage;
 pub use argument::print_word;
 pub use argument::say_argument;
 pub use argument::say_error;
+pub use argument::say_quoted;
 pub use line::Line;
 pub use line::empty;
 pub use line::pad;

@@ -1,4 +1,5 @@
 // Takes a telegram of a vehicle into a store file, or makes a new store.
+use files::Rules;
 use gateway::HeldOutcome;
 use gateway::Outcome;
 use gateway::STORE;
@@ -20,8 +21,11 @@ TELEGRAM  the octets of an R1 or R2 (128) or of an R3 (40)
 
 Prints one line, as `taken R1 version 2 vehicle 1 at 5000`. Where nothing was
 taken the line begins with `refused` and the number of document 01, or with
-`error`, and STORE is as it was. The new store is written to STORE.new, which
-then takes the name of STORE; while it is there no other take touches STORE.
+`error`, and STORE is as it was. It is replaced whole, by way of STORE.new, with
+its owner and mode but without access lists; links stay; one that is read-only
+or has hard links is an error. STORE.lock names the process at work: others
+wait, and where it holds on for five seconds their line begins with
+`error: busy`. What a killed one left is taken away.
 ",
     );
 }
@@ -45,31 +49,44 @@ fn print_taken(store: &[u8], vehicle: usize, clock: u32) {
     saying::print(saying::say_number(saying::say(l, b" at "), clock as u64));
 }
 
-fn take_store(fd: i32, vehicle: usize, clock: u32, telegram: &[u8], store: &mut [u8]) {
+fn take_store(fd: i32, path: &[u8], vehicle: usize, clock: u32, telegram: &[u8], store: &mut [u8]) {
     let outcome = gateway::take(store, vehicle, clock, telegram);
     match outcome {
         Outcome::Refused(f) => {
-            files::drop_new(1, fd);
+            files::drop_new(path, fd);
             words::print_refused(f);
         }
         Outcome::Done => {
-            if files::commit(1, b"STORE", fd, store) {
+            if files::commit(1, b"STORE", path, fd, store) {
                 print_taken(store, vehicle, clock);
             }
         }
     }
 }
 
-// The store is read and replaced while STORE.new, open as fd, keeps other takes away.
-fn take_into(fd: i32, vehicle: usize, clock: u32, telegram: &[u8]) {
+// The store is read and replaced while its lock keeps other takes waiting; the new one is open as fd.
+fn take_into(fd: i32, path: &[u8], vehicle: usize, clock: u32, telegram: &[u8]) {
     let mut store = [0u8; STORE + 1];
-    let s = files::read(1, b"STORE", &mut store);
+    let s = files::read_at(1, b"STORE", path, &mut store);
     if !s.ok {
-        files::drop_new(1, fd);
+        files::drop_new(path, fd);
         return;
     }
     let n = s.octets;
-    take_store(fd, vehicle, clock, telegram, &mut store[..n]);
+    take_store(fd, path, vehicle, clock, telegram, &mut store[..n]);
+}
+
+fn take_at(path: &[u8], vehicle: usize, clock: u32, telegram: &[u8]) {
+    let rules = Rules {
+        is_old: true,
+        is_new: false,
+        first: 4,
+        second: 0,
+    };
+    let fd = files::begin(1, b"STORE", path, rules);
+    if 0 <= fd {
+        take_into(fd, path, vehicle, clock, telegram);
+    }
 }
 
 fn take_words() {
@@ -85,11 +102,9 @@ fn take_words() {
         return;
     }
     let n = t.octets;
-    let fd = files::begin(1, b"STORE");
-    if fd < 0 {
-        return;
-    }
-    take_into(fd, vehicle as usize, clock, &telegram[..n]);
+    let mut path = io::buffer();
+    let k = files::target_of(1, &mut path);
+    take_at(&path[..k], vehicle as usize, clock, &telegram[..n]);
 }
 
 fn main() {

@@ -1,6 +1,7 @@
 // What document 01 names, in a program's words: reasons, refusals and places, what stands in a store and what is read out of it.
 // No function that a program's input reaches has a `requires`.
 mod believed;
+mod replaced;
 mod said;
 
 pub use believed::Totals;
@@ -10,6 +11,8 @@ pub use believed::no_totals;
 pub use believed::print_head;
 pub use believed::print_never;
 pub use believed::print_totals;
+pub use replaced::Written;
+pub use replaced::may_replace;
 pub use said::print_refused;
 pub use said::print_refused_of;
 pub use said::say_field;

@@ -1,8 +1,8 @@
 use native.Mathlib.Omega.{arith}
 use borrow.Author.Needs.{needs}
 use Rattle.io.proofs.Counting.{counts}
-use Rattle.files.proofs.path_of.Statement.{statement}
-use Rattle.files.proofs.path_of.Tie as tie
+use Rattle.files.proofs.path.path_of.Statement.{statement}
+use Rattle.files.proofs.path.path_of.Tie as tie
 
 returns : tie.Need-returns
 returns c = counts _ _ (omega arith)
