@@ -78,12 +78,23 @@ def telegram(kind, version, values, marks=(), with_added=False):
     return bytes(octets)
 
 
+def place(start, width):
+    """A field as the programs write it: its octets, one octet, a bit or bits of one, or from a bit of one to a bit of another."""
+    first, last = start // 8 + 1, (start + width - 1) // 8 + 1
+    low, high = start % 8, (start + width - 1) % 8
+    if width > 1 and (low, high) == (0, 7):
+        return f"octet {first}" if first == last else f"octets {first}-{last}"
+    if width == 1:
+        return f"octet {first} bit {low}"
+    return f"octet {first} bits {low}-{high}" if first == last else f"octet {first} bit {low} to {last} bit {high}"
+
+
 def values_file(kind, values):
     lines = [f"# vehicle 1 of data/scene, an {kind} under data/coach-next.list: what is not given is the list's replacement, marked ok"]
-    for k, row in enumerate(signals(True)):
+    for row in signals(True):
         if row["telegram"] in ("R3", kind) and int(row["start"]) in values.get(row["telegram"], {}):
-            lines.append(f"value {k} {said(row, values)}   # {row['telegram']} octet {int(row['start']) // 8 + 1}")
-    lines.append("mark 28 forced   # octet 41 bits 6-7: brakes")
+            lines.append(f"value {row['telegram']} {place(int(row['start']), int(row['width']))} {said(row, values)}")
+    lines.append("mark octet 41 bits 6-7 forced   # brakes")
     return ("\n".join(lines) + "\n").encode()
 
 

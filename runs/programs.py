@@ -18,7 +18,8 @@ import judge as lists
 
 ROOT = os.path.dirname(os.path.dirname(os.path.abspath(__file__)))
 sys.path.append(os.path.join(ROOT, "data"))
-import slots  # from data/
+import scene  # from data/
+import slots
 
 EXPECTED = os.path.join(ROOT, "runs", "expected")
 CLOCK = "9000"
@@ -57,10 +58,11 @@ FILES = {
     "ends.list": lists.L[:-1], "above.list": b"\xff\xff", "broken.list": lists.pack([lists.check(17)]), "more.list": lists.L + b"\0",
     "huge.list": lists.LONGEST + bytes(1000), "longest.list": lists.LONGEST,
     "r1": R1, "r2": R2, "r3": R3, "values": data("scene/1-R1.values"),
-    "empty": b"", "one": b"\x11", "app": b"\x21" + R1[1:], "kind": b"\x14" + R1[1:], "r1-127": R1[:127], "r1-129": R1 + b"\0", "r3-128": R3 + bytes(88),
+    "empty": b"", "one": b"\x11", "app": b"\x21" + R1[1:], "kind": b"\x14" + R1[1:], "r1-127": R1[:127], "r1-129": R1 + b"\0", "r3-128": R3 + bytes(88), "r2-2": R2[:2], "r3-5000": R3 + bytes(4960),
     "train": TRAIN, "full": FULL, "store-1": NEW[1:], "store+1": NEW + b"\0", "store": NEW, "locked": NEW, "locked.new": b"left\n",
     # what a writer left that is gone: no process has a number as high
     "gone": NEW, "gone.new": b"cut", "gone.lock": f"2147483647 {socket.gethostname()} {os.readlink('/proc/self/ns/pid')}\n".encode(),
+    "at-0": slots.store(slots.slot(0, R1)), "at-4294967000": slots.store(slots.slot(4294967000, R1)),
     "bus": b"\xff" * 20, "bus-17": b"\xff" * 17, "bus-18": b"\xff" * 18, "bus-4096": b"\xff" * 4096, "bus-4097": bytes(4097),
     "bus-40": b"\xff" * 40, "bus-128": b"\xff" * 128, "zeros-8": bytes(8), "zeros-128": bytes(128), "list-128": LIST_128, "list-40": LIST_40,
 }
@@ -76,6 +78,11 @@ class Expect:
 
 def says(line, **changes):
     return Expect(text=line + "\n", **changes)
+
+
+def table(*lines, **changes):
+    """Lines of columns, each column a word."""
+    return says("\n".join(line.replace(" ", "\t") for line in lines), **changes)
 
 
 def as_in(file, **changes):
@@ -146,8 +153,9 @@ def take_table():
     yield ["take", "store", "1", "1", "one"], refused("7: R-telegram under 2 octets")
     yield ["take", "store", "1", "1", "app"], refused("8: application type not 1")
     yield ["take", "store", "1", "1", "kind"], refused("9: telegram type not 1-3")
-    for telegram in ("r1-127", "r1-129", "r3-128"):
-        yield ["take", "store", "1", "1", telegram], refused("10: length not the type's")
+    for telegram, lengths in (("r1-127", "127 octets, R1 has 128"), ("r1-129", "more than 128 octets, R1 has 128"), ("r3-128", "128 octets, R3 has 40"),
+                              ("r2-2", "2 octets, R2 has 128"), ("r3-5000", "more than 128 octets, R3 has 40")):
+        yield ["take", "store", "1", "1", telegram], refused(f"10: length not the type's: {lengths}")
     yield from no_number("VEHICLE", words, 2)
     yield from no_number("CLOCK", words, 3)
     yield ["take", "store", "1\n2", "1", "r1"], error(f"VEHICLE '1?2': {MOST}")
@@ -172,7 +180,13 @@ def take_table():
 def believe_table():
     words = ["believe", "coach.list", "train", CLOCK, "1", "94"]
     yield ["believe", "help"], as_in("believe-help")
-    yield from usage("believe", (3, 4, 5), "believe LIST STORE CLOCK [VEHICLE [SIGNAL]]")
+    text = "believe LIST STORE CLOCK [VEHICLE [SIGNAL]] [table]"
+    yield from usage("believe", (3, 4, 5), text)
+    yield ["believe", "L.list", "train", CLOCK, "1", "0", "1", "table"], error("usage: " + text)
+    yield ["believe", "L.list", "train", CLOCK, "table", "table"], error("usage: " + text)
+    yield ["believe", "L.list", "train", CLOCK, "table", "1"], error(f"VEHICLE 'table': {MOST}")
+    yield ["believe", "L.list", "train", "table"], error(f"CLOCK 'table': {MOST}")
+    yield ["believe", "L.list", "train", CLOCK, "tables"], error(f"VEHICLE 'tables': {MOST}")
     yield words[:4], as_in("believe-train")
     yield ["believe", "next.list", "train", CLOCK], as_in("believe-train-next")
     yield ["believe", "coach.list", "train", "6000", "3"], as_in("believe-old-version")
@@ -181,12 +195,25 @@ def believe_table():
     yield ["believe", "L.list", "store", CLOCK, "5"], as_in("believe-never")
     yield ["believe", "L.list", "full", CLOCK], as_in("believe-full")
     yield words, says("vehicle 1: R1 version 3 age 3000 ms\n 1   94  R1 octet 54 bits 0-3                  3  0 live ok")
-    yield ["believe", "L.list", "train", "5999", "1", "0"], says("vehicle 1: R1 version 3 age 4294967295 ms\n 1    0  R1 octet 54 bits 0-3                  0  3 too old")
+    yield ["believe", "L.list", "train", "5999", "1", "0"], says("vehicle 1: R1 version 3 age 4294967295 ms (stamp after the clock)\n 1    0  R1 octet 54 bits 0-3                  0  3 too old")
+    yield words[:4] + ["table"], as_in("believe-table")
+    yield words[:5] + ["table"], as_in("believe-table-1")
+    yield words + ["table"], table("vehicle telegram version age signal type start width value reason", "1 R1 3 3000 94 R1 424 4 3 0")
+    yield ["believe", "coach.list", "store", CLOCK, "table"], table("vehicle telegram version age signal type start width value reason")
+    yield ["believe", "L.list", "store", CLOCK, "5", "table"], table("vehicle telegram version age signal type start width value reason", "5 - - - 0 R1 424 4 0 2")
+    yield ["believe", "across.list", "train", "5999", "1", "1", "table"], table(
+        "vehicle telegram version age signal type start width value reason", "1 R1 3 4294967295 1 R1 384 8 0 3")
+    yield ["believe", "coach.list", "train", CLOCK, "1", "165", "table"], refused("11: no such signal")
+    yield ["believe", "coach.list", "train", CLOCK, "0", "table"], refused("6: vehicle not 1-63")
     yield ["believe", "coach.list", "train", CLOCK, "0"], refused("6: vehicle not 1-63")
     yield ["believe", "coach.list", "train", CLOCK, "64", "999"], refused("6: vehicle not 1-63")
     yield ["believe", "coach.list", "train", CLOCK, "1", "165"], refused("11: no such signal")
     yield ["believe", "coach.list", "store-1", CLOCK, "64", "999"], refused(NO_STORE)
     yield ["believe", "coach.list", "store+1", CLOCK], refused(NO_STORE)
+    # an age of half of the counter's range, and one less; and a counter that went over its end in time
+    for stamp, clock, age in ((0, 2**31, "2147483648 ms (stamp after the clock)"), (0, 2**31 - 1, "2147483647 ms"), (4294967000, 4000, "4296 ms")):
+        yield ["believe", "L.list", f"at-{stamp}", str(clock), "1", "0"], says(
+            f"vehicle 1: R1 version 3 age {age}\n 1    0  R1 octet 54 bits 0-3                  " + ("3  0 live ok" if age == "4296 ms" else "0  3 too old"))
     yield from no_list(["believe", "L.list", "store-1", CLOCK, "64"], 1)
     yield from no_file("STORE", words, 2)
     yield from no_number("CLOCK", words, 3)
@@ -197,8 +224,25 @@ def believe_table():
 def differ_table():
     words = ["differ", "coach.list", "next.list", "train", CLOCK, "1"]
     yield ["differ", "help"], as_in("differ-help")
-    yield from usage("differ", (4, 5), "differ LIST LIST STORE CLOCK [VEHICLE]")
+    text = "differ LIST LIST STORE CLOCK [VEHICLE] [only] [table]"
+    names = "vehicle telegram version age type start differs width_1 value_1 reason_1 width_2 value_2 reason_2"
+    yield from usage("differ", (4, 5), text)
+    yield words + ["1", "only"], error("usage: " + text)
+    yield words[:5] + ["only", "1"], error("usage: " + text)
+    yield words[:5] + ["only", "table", "only"], error(f"VEHICLE 'only': {MOST}")
+    yield words[:5] + ["table", "table"], error(f"VEHICLE 'table': {MOST}")
+    yield words[:4] + ["only"], error(f"CLOCK 'only': {MOST}")
     yield words[:5], as_in("differ-train")
+    yield words[:5] + ["only"], as_in("differ-only")
+    yield words + ["only"], as_in("differ-only-1")
+    yield words[:5] + ["table"], as_in("differ-table")
+    for both in (["only", "table"], ["table", "only"]):
+        yield words + both, table(names, "1 R1 3 3000 R1 380 1 4 0 8 4 2 0", "1 R1 3 3000 R1 424 1 4 3 0 4 15 3", "1 R1 3 3000 R1 524 1 - - - 4 2 0")
+    yield ["differ", "L.list", "L.list", "train", CLOCK, "only", "table"], table(names)
+    yield ["differ", "L.list", "L.list", "train", CLOCK, "9", "table"], table(names, "9 - - - R1 424 0 4 0 2 4 0 2")
+    yield ["differ", "L.list", "L.list", "train", CLOCK, "1", "only"], says(
+        "first  'L.list' signals 1 version 1\nsecond 'L.list' signals 1 version 1\nvehicle 1: R1 version 3 age 3000 ms\nvehicle 1 differs on 0 of 1 lines\ndiffer: 0 of 1 lines")
+    yield ["differ", "coach.list", "next.list", "train", CLOCK, "64", "only", "table"], refused("6: vehicle not 1-63")
     yield ["differ", "next.list", "coach.list", "train", CLOCK, "2"], as_in("differ-turned")
     yield ["differ", "across.list", "across-2.list", "train", "12000"], as_in("differ-widths")
     yield ["differ", "L.list", "L.list", "store", CLOCK, "63"], as_in("differ-never")
@@ -216,19 +260,25 @@ def marshal_table():
     words = ["marshal", "coach.list", "train", CLOCK, "bus"]
     routed = bytes.fromhex("F334 2000 2800 3F FF 1B58 2800 000000000000")
     yield ["marshal", "help"], as_in("marshal-help")
-    text = "marshal LIST STORE CLOCK DATA [routes] [anyway]"
+    text = "marshal LIST STORE CLOCK DATA [routes] [table] [anyway]"
     yield from usage("marshal", (4,), text)
-    for more in (["route"], ["routes", "routes"], ["anyway", "x"], ["routes", "anyway", "routes"]):
-        yield words + more, error("usage: " + text)
+    for behind in (["route"], ["routes", "routes"], ["table", "table"], ["anyway", "x"], ["routes", "table", "routes"], ["routes", "anyway", "routes"]):
+        yield words + behind, error("usage: " + text)
     yield words, says("marshalled 14 routes, 11 live", bus=routed + b"\xff\xff")
     yield words + ["routes"], as_in("marshal-routes", bus=routed + b"\xff\xff")
+    for behind in (["table"], ["routes", "table"], ["table", "routes"]):
+        yield words + behind, as_in("marshal-table", bus=routed + b"\xff\xff")
+    yield ["marshal", "across-2.list", "train", CLOCK, "empty", "table"], table("route data_start vehicle signal type start width value reason")
     yield words[:4] + ["bus-18"], says("marshalled 14 routes, 11 live", bus_18=routed)
     yield ["marshal", "next.list", "train", CLOCK, "bus"], says("marshalled 14 routes, 10 live", bus=routed[:1] + b"\xf4" + routed[2:] + b"\xff\xff")
     yield ["marshal", "coach.list", "store", CLOCK, "bus"], says("marshalled 14 routes, 0 live", bus=b"\x03\x00" + bytes(4) + b"\x0f\xff" + bytes(10) + b"\xff\xff")
     yield ["marshal", "across.list", "train", CLOCK, "bus", "routes"], as_in("marshal-across", bus=b"\xf8\xa2\x20" + b"\xff" * 17)
     yield ["marshal", "longest.list", "full", CLOCK, "bus-4096"], says("marshalled 512 routes, 0 live", bus_4096=bytes(256) + b"\xff" * 3840)
-    yield words[:4] + ["bus-17"], refused("12: data shorter than a route's end")
-    yield words[:4] + ["empty"], refused("12: data shorter than a route's end")
+    yield words[:4] + ["bus-17"], refused("12: data shorter than a route's end: 17 octets, 18 needed")
+    yield words[:4] + ["bus-17", "table"], refused("12: data shorter than a route's end: 17 octets, 18 needed")
+    yield words[:4] + ["empty"], refused("12: data shorter than a route's end: 0 octets, 18 needed")
+    yield ["marshal", "longest.list", "full", CLOCK, "bus"], refused("12: data shorter than a route's end: 20 octets, 256 needed")
+    yield ["marshal", "L.list", "full", CLOCK, "empty"], refused("12: data shorter than a route's end: 0 octets, 1 needed")
     yield ["marshal", "coach.list", "store-1", CLOCK, "empty"], refused(NO_STORE)
     yield words[:4] + ["bus-4097"], error("DATA 'bus-4097': more than 4096 octets")
     yield words[:4] + ["none"], error("DATA 'none': " + NO_FILE)
@@ -263,8 +313,26 @@ VALUES = values(
     v_L="\n  # a comment\n\tvalue 0 4 # 25 kV\r\nmark 1 forced", v_last="value 0 99\nvalue 0 4\nmark 1 0\nmark 1 2\n", v_wide="value 0 16\n", v_unknown="value 0 7\n",
     v_mark="mark 1 4\n", v_mark_words="mark 1 good\n", v_mark_256="mark 1 256\n", v_signal="value 1 0\n", v_signal_word="\nvalue x 0\n", v_check="mark 2 ok\n",
     v_check_0="mark 0 ok\n", v_word="vale 0 4\n", v_few="value 0\n", v_many="value 0 4 5\n", v_value="value 0 -1\n", v_large="value 0 18446744073709551616\n",
+    v_place="value R1 octet 54 bits 0-3 4\nmark octet 41 bits 2-3 forced\n", v_start="value R1 start 424 4 # 25 kV\n mark  start\t322 2",
+    v_place_last="value R1 octet 54 bits 0-3 5\nvalue 0 6\nvalue R1 start 424 4\nmark 1 ok\nmark octet 41 bits 2-3 forced\n",
+    v_three="value R1 octet 47 bit 4 to 48 bit 7 2210\nvalue R1 octet 49 32\nvalue R1 octets 51-52 258\n", v_neighbour="value R2 octet 53 bits 0-3 3\n",
+    v_four="value R1 octet 54 bits 0-2 4\n", v_other_type="\nvalue R2 octet 54 bits 0-3 4\n", v_bit="value R1 octet 54 bit 0 1\n", v_beside="value R1 start 425 1\n",
+    v_place_15="value R1 octet 54 bits 0-3 16\n", v_place_value="value R1 octet 54 bits 0-3 x\n", v_check_beside="mark octet 41 bits 4-5 ok\n",
+    v_place_mark="mark octet 41 bits 2-3 good\n",
     v_most="value 0 18446744073709551615\n", v_both="mark 1 4\nvalue 0 16\n", v_long="#" * 65537, v_65536="#" * 65536, v_zero="value 90 3\n",
 )
+
+
+# no places, and none of a check
+NO_PLACES = [
+    "R4 octet 54 bits 0-3", "octet 54 bits 0-3", "R1 octet 54 bits 0-8", "R1 octet 54 bits 3-0", "R1 octet 54 bits 0", "R1 octet 54 bits -3", "R1 octet 54 bits 0-",
+    "R1 octet 54 bits 0-3 4", "R1 octet 54 bit 8", "R1 octet 0", "R1 octet 129", "R1 octets 54", "R1 octets 55-54", "R1 octets 54-129", "R1 start 1024", "R1 start -1",
+    "R1 start x", "R1 begin 424", "R1 octet 47 bit 4 to 46 bit 7", "R1 octet 47 bit 4 to 48 bits 7", "R1 octet 47 bit 4 till 48 bit 7", "r1 octet 54 bits 0-3", "R1 54",
+    "R1 octet 99999999999999999999", "R1 octet 54 bits 0-3-3",
+]
+NO_CHECK_PLACES = ["R1 octet 41 bits 2-3", "octet 41", "octet 41 bit 2", "octet 41 bits 2-4", "octet 41 bits 3-2", "start 1024", "octets 41-41", "41 bits 2-3"]
+VALUES.update({f"no-place-{k}": f"value {place} 4\n".encode() for k, place in enumerate(NO_PLACES)})
+VALUES.update({f"no-check-{k}": f"# the checks\nmark {place} ok\n".encode() for k, place in enumerate(NO_CHECK_PLACES)})
 
 
 def compose_table():
@@ -272,7 +340,8 @@ def compose_table():
         return ["compose", "L.list", "R1", file, "out"], error(f"VALUES '{file}' line {n}: {what}")
 
     words = ["compose", "next.list", "R1", "values", "out"]
-    neither = "neither `value SIGNAL VALUE` nor `mark CHECK MARK`"
+    neither = "neither `value PLACE VALUE` nor `mark PLACE MARK`"
+    place, check_place = "no place, as `R1 octet 54 bits 0-3` or `R1 start 424`", "no place, as `octet 41 bits 2-3` or `start 322`"
     forced = bytes.fromhex("1101") + bytes(38) + b"\x20" + bytes(12) + b"\x40" + bytes(74)
     plain = bytes.fromhex("1101") + bytes(38) + b"\x10" + bytes(87)
     yield ["compose", "help"], as_in("compose-help")
@@ -288,8 +357,31 @@ def compose_table():
     yield ["compose", "L.list", "R1", "v-last", "out"], says("composed R1 version 1 octets 128", out=forced)
     yield ["compose", "L.list", "R1", "empty", "out"], says("composed R1 version 1 octets 128", out=plain)
     yield ["compose", "L.list", "R1", "v-65536", "out"], says("composed R1 version 1 octets 128", out=plain)
-    yield ["compose", "L.list", "R3", "v-wide", "out"], says("composed R3 version 1 octets 40", out=b"\x13\x01" + bytes(38))
-    yield ["compose", "L.list", "R2", "v-unknown", "out"], says("composed R2 version 1 octets 128", out=b"\x12\x01" + plain[2:])
+    yield ["compose", "L.list", "R3", "v-wide", "out"], says(
+        "composed R3 version 1 octets 40\nnote: VALUES 'v-wide' line 1: R1 octet 54 bits 0-3 is not carried by R3", out=b"\x13\x01" + bytes(38))
+    yield ["compose", "L.list", "R2", "v-unknown", "out"], says(
+        "composed R2 version 1 octets 128\nnote: VALUES 'v-unknown' line 1: R1 octet 54 bits 0-3 is not carried by R2", out=b"\x12\x01" + plain[2:])
+    for file in ("v-place", "v-start", "v-place-last"):
+        yield ["compose", "L.list", "R1", file, "out"], says("composed R1 version 1 octets 128", out=forced)
+    yield ["compose", "L.list", "R2", "v-place-last", "out"], says(
+        "composed R2 version 1 octets 128" + "".join(f"\nnote: VALUES 'v-place-last' line {n}: R1 octet 54 bits 0-3 is not carried by R2" for n in (1, 2, 3)),
+        out=b"\x12\x01" + forced[2:53] + bytes(75))
+    yield ["compose", "across.list", "R1", "v-three", "out"], says("composed R1 version 1 octets 128", out=b"\x11\x01" + bytes(44) + bytes.fromhex("08A2 20 00 0102") + bytes(76))
+    # one place is the same signal under a list and its neighbour, where its number is another's
+    for name, version in (("coach.list", 2), ("next.list", 3)):
+        yield ["compose", name, "R2", "v-neighbour", "out"], says(f"composed R2 version {version} octets 128", out=scene.telegram("R2", version, {"R2": {416: 3}}))
+    for k in range(len(NO_PLACES)):
+        yield line(f"no-place-{k}", 1, place)
+    for k in range(len(NO_CHECK_PLACES)):
+        yield line(f"no-check-{k}", 2, check_place)
+    yield line("v-four", 1, "no such signal")
+    yield line("v-other-type", 2, "no such signal")
+    yield line("v-bit", 1, "no such signal")
+    yield line("v-beside", 1, "no such signal")
+    yield line("v-check-beside", 1, "no check there that a signal names")
+    yield line("v-place-value", 1, "value not a whole number below 2^64")
+    yield line("v-place-mark", 1, "mark not error, ok, forced, undefined or 0 to 3")
+    yield ["compose", "L.list", "R1", "v-place-15", "out"], refused("15 signal 0: a written value at or above 2^width, or its code not known")
     yield ["compose", "L.list", "4", "v-both", "out"], refused("9: telegram type not 1-3")
     yield ["compose", "L.list", "0", "empty", "out"], refused("9: telegram type not 1-3")
     yield ["compose", "L.list", "R1", "v-mark", "out"], refused("14: a written mark above 3")
@@ -298,8 +390,8 @@ def compose_table():
         yield ["compose", "L.list", "R1", file, "out"], refused("15 signal 0: a written value at or above 2^width, or its code not known")
     yield ["compose", "coach.list", "R1", "v-zero", "out"], refused("15 signal 90: a written value at or above 2^width, or its code not known")
     yield line("v-word", 1, neither)
-    yield line("v-many", 1, neither)
-    yield line("v-few", 1, "value not a whole number below 2^64")
+    yield line("v-many", 1, place)
+    yield line("v-few", 1, neither)
     yield line("v-value", 1, "value not a whole number below 2^64")
     yield line("v-large", 1, "value not a whole number below 2^64")
     yield line("v-signal", 1, "no such signal")
@@ -348,6 +440,46 @@ def run(folder, words, before=None):
     return done.stdout.decode(), done.stderr.decode(), done.returncode
 
 
+def bare(program):
+    """The program without ./run, which gathers what it prints."""
+    path, machine = os.path.join(ROOT, "target", "bin", program), os.uname().machine
+    if machine == "x86_64":
+        return [path]
+    guide = subprocess.run(["rt", "doc"], stdout=subprocess.PIPE, check=True).stdout.decode().strip()
+    kit = os.path.join(os.path.dirname(os.path.dirname(guide)), "on", machine, "toolchain")
+    return [f"{kit}/bin/qemu-x86_64", f"{kit}/lib/ld-linux-x86-64.so.2", "--library-path", f"{kit}/lib", path]
+
+
+def pages(folder, words):
+    """What each write of a program holds: a packet socket keeps them apart."""
+    ours, theirs = socket.socketpair(socket.AF_UNIX, socket.SOCK_SEQPACKET)
+    with ours, subprocess.Popen(bare(words[0]) + words[1:], cwd=folder, stdout=theirs, stderr=subprocess.STDOUT) as run:
+        theirs.close()
+        found = list(iter(lambda: ours.recv(1 << 16), b""))
+        return found if run.wait() == 0 else []
+
+
+# what prints many lines writes them a page of 4,096 octets at a time, and what prints one line writes it at once
+PAGED = [
+    (["differ", "coach.list", "next.list", "train", CLOCK], "differ-train"), (["believe", "coach.list", "train", CLOCK], "believe-train"),
+    (["differ", "coach.list", "next.list", "train", CLOCK, "table"], "differ-table"), (["believe", "coach.list", "train", CLOCK, "table"], "believe-table"),
+    (["believe", "L.list", "full", CLOCK], "believe-full"),
+]
+
+
+def badly_paged(folder):
+    for words, file in PAGED:
+        found = pages(folder, words)
+        with open(os.path.join(EXPECTED, file + ".txt"), "rb") as f:
+            if b"".join(found) != f.read():
+                yield words, "other octets, page by page"
+        if len(found) > 1 + sum(map(len, found)) // 3856 or any(not page.endswith(b"\n") for page in found):
+            yield words, f"{len(found)} writes"
+    for words in (["take", "store", "64", "1", "r1"], ["judge", "broken.list"], ["differ", "L.list", "broken.list", "train", CLOCK], ["believe", "none", "train", CLOCK]):
+        if len(pages(folder, words)) != 1:
+            yield words, "a line in more than one write"
+
+
 def put_back(folder, files):
     for name in set(held(folder)) | set(files):
         path = os.path.join(folder, name)
@@ -366,7 +498,7 @@ def status_of(program, text):
     if program == "differ" and is_trouble(text):
         return 2
     if program == "differ":
-        return int(re.search(r"^differ: [1-9]", text, re.M) is not None)
+        return int(re.search(r"^differ: [1-9]|^(?:[^\t\n]*\t){6}1\t", text, re.M) is not None)
     return {"refused": 1, "error:": 2}.get(text.split(" ")[0], 0)
 
 
@@ -417,6 +549,10 @@ def main():
             for what in wrong(folder, words, expect, write, before):
                 print(f"{' '.join(words)!r}: {what[:2000]}")
                 bad += 1
+        count += len(PAGED) + 4
+        for words, what in badly_paged(folder):
+            print(f"{' '.join(words)!r}: {what}")
+            bad += 1
     finally:
         shutil.rmtree(folder)
     print(f"programs: {count} runs, {bad} wrong")

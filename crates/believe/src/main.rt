@@ -12,19 +12,22 @@ use gateway::VEHICLES;
 use libc::STDOUT_FILENO;
 use saying::Clock;
 use saying::Number;
+use saying::Page;
 use words::Totals;
 
-// How much is asked: with 3 words every vehicle, with 4 one, with 5 one signal of it.
+// How much is asked: with 3 words every vehicle, with 4 one, with 5 one signal of it; as lines for people, or as a table.
 struct Asked {
     words: usize,
+    clock: u32,
     vehicle: usize,
     signal: usize,
+    table: bool,
 }
 
 fn help() {
     io::write_all(
         STDOUT_FILENO,
-        b"believe LIST STORE CLOCK [VEHICLE [SIGNAL]]
+        b"believe LIST STORE CLOCK [VEHICLE [SIGNAL]] [table]
 
 What a gateway with the signal list LIST believes at CLOCK of the vehicles in
 STORE: of all that were heard, of one, or of one signal of it, counted from 0.
@@ -41,114 +44,180 @@ reason was given:
   1 live forced    4 type does not carry it    7 mark undefined
   2 never heard    5 newer than the telegram   8 code not known
 With 2 to 8 the value is the list's replacement. A common signal is called R3.
+An age above half of the counter's range is called a stamp after the clock.
+With the word `table` it prints a line of names, then a line for each signal,
+each of ten columns with a tab between: vehicle, its telegram, version and age
+(a dash where it was never heard), signal, type, start, width, value, reason.
 Bad input gets one line that begins with `refused` and the number of document
 01, or with `error`.
 ",
     );
 }
 
-fn print_signal(vehicle: usize, k: usize, s: Signal, r: Reading) {
+fn print_row(page: &mut Page, store: &[u8], asked: Asked, k: usize, s: Signal, r: Reading) {
+    let l = words::say_head(saying::empty(), store, asked.clock, asked.vehicle);
+    let l = saying::put(saying::say_tab(l, k as u64), b'\t');
+    let l = saying::say_tab(words::say_telegram(l, s.kind), s.start as u64);
+    let l = saying::say_tab(saying::say_tab(l, s.width as u64), r.value);
+    saying::add(page, saying::say_tab(l, r.reason as u64));
+}
+
+fn print_signal(page: &mut Page, vehicle: usize, k: usize, s: Signal, r: Reading) {
     let l = saying::say_right(saying::empty(), 2, vehicle as u64);
     let l = saying::say(saying::say_right(l, 7, k as u64), b"  ");
     let l = words::say_place(l, s.kind, s.start, s.width);
     let l = saying::say(saying::say_right(l, 48, r.value), b"  ");
-    saying::print(words::say_reason(l, r.reason));
+    saying::add(page, words::say_reason(l, r.reason));
 }
 
 fn one_signal(
+    page: &mut Page,
     list: &[u8],
     store: &[u8],
-    clock: u32,
-    vehicle: usize,
+    asked: Asked,
     k: usize,
     e: Entry,
     totals: Totals,
 ) -> Totals {
-    let read = gateway::read(list, store, clock, vehicle, k);
+    let read = gateway::read(list, store, asked.clock, asked.vehicle, k);
     let ReadOutcome::Read(r) = read else {
         return totals;
     };
     let s = e.signal;
-    print_signal(vehicle, k, s, r);
+    if asked.table {
+        print_row(page, store, asked, k, s, r);
+    } else {
+        print_signal(page, asked.vehicle, k, s, r);
+    }
     words::count_reason(totals, r.reason)
 }
 
+fn print_head(page: &mut Page, store: &[u8], asked: Asked) {
+    if !asked.table {
+        words::print_head(page, store, asked.clock, asked.vehicle);
+    }
+}
+
 fn one_vehicle(
+    page: &mut Page,
     list: &[u8],
     signals: usize,
     store: &[u8],
-    clock: u32,
-    vehicle: usize,
+    asked: Asked,
     totals: Totals,
 ) -> Totals {
-    words::print_head(store, clock, vehicle);
+    print_head(page, store, asked);
     let mut t = totals;
     let mut k = 0;
     while k < signals {
         let entry = gateway::signal_entry(list, k);
         if let EntryOutcome::Entry(e) = entry {
-            t = one_signal(list, store, clock, vehicle, k, e, t);
+            t = one_signal(page, list, store, asked, k, e, t);
         }
         k += 1;
     }
     t
 }
 
-fn all_vehicles(list: &[u8], signals: usize, store: &[u8], clock: u32) -> Totals {
+fn of_vehicle(asked: Asked, vehicle: usize) -> Asked {
+    Asked {
+        words: asked.words,
+        clock: asked.clock,
+        vehicle,
+        signal: asked.signal,
+        table: asked.table,
+    }
+}
+
+fn all_vehicles(
+    page: &mut Page,
+    list: &[u8],
+    signals: usize,
+    store: &[u8],
+    asked: Asked,
+) -> Totals {
     let mut t = words::no_totals();
     let mut v = 1;
     while v <= VEHICLES {
         if words::is_heard(store, v) {
-            t = one_vehicle(list, signals, store, clock, v, t);
+            t = one_vehicle(page, list, signals, store, of_vehicle(asked, v), t);
         }
         v += 1;
     }
-    words::print_never(store);
+    if !asked.table {
+        words::print_never(page, store);
+    }
     t
 }
 
-fn print_one(list: &[u8], store: &[u8], clock: u32, vehicle: usize, k: usize) {
-    let entry = gateway::signal_entry(list, k);
+fn print_totals(page: &mut Page, asked: Asked, totals: Totals) {
+    if !asked.table {
+        words::print_totals(page, totals);
+    }
+}
+
+fn print_names(page: &mut Page, asked: Asked) {
+    if asked.table {
+        saying::add(
+            page,
+            saying::say(
+                saying::empty(),
+                b"vehicle\ttelegram\tversion\tage\tsignal\ttype\tstart\twidth\tvalue\treason",
+            ),
+        );
+    }
+}
+
+fn print_one(list: &[u8], store: &[u8], asked: Asked) {
+    let entry = gateway::signal_entry(list, asked.signal);
     match entry {
         EntryOutcome::Refused(f) => words::print_refused(f),
         EntryOutcome::Entry(e) => {
-            words::print_head(store, clock, vehicle);
-            one_signal(list, store, clock, vehicle, k, e, words::no_totals());
+            let mut page = saying::new_page();
+            print_names(&mut page, asked);
+            print_head(&mut page, store, asked);
+            let none = words::no_totals();
+            one_signal(&mut page, list, store, asked, asked.signal, e, none);
+            saying::flush(&mut page);
         }
     }
 }
 
-fn print_asked(list: &[u8], signals: usize, store: &[u8], clock: u32, asked: Asked) {
-    let words = asked.words;
-    if words == 3 {
-        words::print_totals(all_vehicles(list, signals, store, clock));
-        return;
-    }
-    if words == 4 {
+fn print_all(list: &[u8], signals: usize, store: &[u8], asked: Asked) {
+    let mut page = saying::new_page();
+    print_names(&mut page, asked);
+    if asked.words == 3 {
+        let t = all_vehicles(&mut page, list, signals, store, asked);
+        print_totals(&mut page, asked, t);
+    } else {
         let none = words::no_totals();
-        words::print_totals(one_vehicle(list, signals, store, clock, asked.vehicle, none));
-        return;
+        let t = one_vehicle(&mut page, list, signals, store, asked, none);
+        print_totals(&mut page, asked, t);
     }
-    print_one(list, store, clock, asked.vehicle, asked.signal);
+    saying::flush(&mut page);
 }
 
 // Refused as a reading is: 1 to 4, then 5, 6 and 11.
-fn judge(list: &[u8], store: &[u8], clock: u32, asked: Asked) {
+fn judge(list: &[u8], store: &[u8], asked: Asked) {
     let judged = gateway::judge(list);
     match judged {
         Judged::Refused(f) => words::print_refused(f),
         Judged::Accepted(n) => {
-            let held = gateway::holding(store, clock, asked.vehicle);
+            let held = gateway::holding(store, asked.clock, asked.vehicle);
             if let HeldOutcome::Refused(f) = held {
                 words::print_refused(f);
                 return;
             }
-            print_asked(list, n.signals, store, clock, asked);
+            if asked.words == 5 {
+                print_one(list, store, asked);
+            } else {
+                print_all(list, n.signals, store, asked);
+            }
         }
     }
 }
 
-fn read_files(clock: u32, asked: Asked) {
+fn read_files(asked: Asked) {
     let mut list = [0u8; LONGEST + 1];
     let l = files::read(1, b"LIST", &mut list);
     if !l.ok {
@@ -161,10 +230,10 @@ fn read_files(clock: u32, asked: Asked) {
     }
     let n = l.octets;
     let m = s.octets;
-    judge(&list[..n], &store[..m], clock, asked);
+    judge(&list[..n], &store[..m], asked);
 }
 
-fn ask(words: usize) {
+fn ask(words: usize, table: bool) {
     let Clock::At(clock) = saying::clock_argument(3) else {
         return;
     };
@@ -174,12 +243,13 @@ fn ask(words: usize) {
     let Number::Is(signal) = saying::number_or(words, 5, b"SIGNAL", 0) else {
         return;
     };
-    let asked = Asked {
+    read_files(Asked {
         words,
+        clock,
         vehicle: vehicle as usize,
         signal: signal as usize,
-    };
-    read_files(clock, asked);
+        table,
+    });
 }
 
 fn main() {
@@ -189,12 +259,13 @@ fn main() {
         return;
     }
     if n < 4 {
-        saying::print_usage(b"believe LIST STORE CLOCK [VEHICLE [SIGNAL]]");
+        saying::print_usage(b"believe LIST STORE CLOCK [VEHICLE [SIGNAL]] [table]");
         return;
     }
-    if 6 < n {
-        saying::print_usage(b"believe LIST STORE CLOCK [VEHICLE [SIGNAL]]");
+    let o = saying::options_of(n - 1, 3, b"table");
+    if (5 < o.words) | o.own {
+        saying::print_usage(b"believe LIST STORE CLOCK [VEHICLE [SIGNAL]] [table]");
         return;
     }
-    ask(n - 1);
+    ask(o.words, o.table);
 }

@@ -3,7 +3,9 @@ ghost use mathlib.Core.Path.{_≡_};
 ghost use Prim.Native.Nat.{_≤_};
 ghost use lib.ListN.{length};
 
+mod place;
 mod text;
+mod word;
 
 use files::Rules;
 use gateway::Counts;
@@ -26,22 +28,29 @@ Composes an R-telegram under the signal list LIST and writes it to OUT.
 LIST      a signal list; `judge LIST` says what is wrong with one
 TYPE      R1, R2 or R3, or 1 to 3
 VALUES    a text file of lines, where # begins a comment:
-            value SIGNAL VALUE    SIGNAL is counted from 0, as `believe` does
-            mark CHECK MARK       CHECK is counted from 1, in the list's order;
-                                  MARK is error, ok, forced, undefined or 0 to 3
-                                  (4 to 255 is refused, 14, where it is written)
+            value PLACE VALUE    as `value R1 octet 54 bits 0-3 4`
+            mark PLACE MARK      as `mark octet 41 bits 2-3 forced`
+          The PLACE of a signal is its type, R3 where it is common, and its
+          field: octet 54, octets 51-52, octet 54 bit 0, octet 54 bits 0-3,
+          octet 47 bit 4 to 48 bit 7, or start 424, its first bit's address.
+          A check's is its field alone; a signal must name it.
+          MARK is error, ok, forced, undefined or 0 to 3 (4 to 255 is refused,
+          14, where it is written).
+          A number stands for a place too, of a signal from 0, as `believe`
+          counts, of a check from 1: in another list it is another signal's.
           A value that is not given is the signal's replacement in LIST, a mark
           that is not given is ok. Of two lines for one entry the last counts.
 OUT       the telegram's file; what exists is replaced only where it is a
           telegram, as `take` takes one
 
-Prints `composed R1 version 3 octets 128`. Where nothing was composed it prints
-one line that begins with `refused` and the number of document 01, or with
-`error`, and OUT is as it was. It is replaced whole, by way of OUT.new, with its
-owner and mode but without access lists; links stay; one that is read-only or
-has hard links is an error. OUT.lock names the process at work: others wait,
-and where it holds on for five seconds their line begins with `error: busy`.
-What a killed one left is taken away.
+Prints `composed R1 version 3 octets 128`, then a line that begins with `note`
+for each value given that the type does not carry: it is not in the telegram.
+Where nothing was composed it prints one line that begins with `refused` and the
+number of document 01, or with `error`, and OUT is as it was. It is replaced
+whole, by way of OUT.new, with its owner and mode but without access lists;
+links stay; one that is read-only or has hard links is an error. OUT.lock names
+the process at work: others wait, and where it holds on for five seconds their
+line begins with `error: busy`. What a killed one left is taken away.
 ",
     );
 }
@@ -86,7 +95,7 @@ fn is_free(path: &[u8]) -> bool {
 }
 
 // The telegram takes the name of OUT once all of it is written.
-fn write_at(path: &[u8], kind: usize, version: usize, out: &[u8]) {
+fn write_at(path: &[u8], kind: usize, version: usize, out: &[u8]) -> bool {
     let rules = Rules {
         is_old: true,
         is_new: true,
@@ -95,39 +104,51 @@ fn write_at(path: &[u8], kind: usize, version: usize, out: &[u8]) {
     };
     let fd = files::begin(4, b"OUT", path, rules);
     if fd < 0 {
-        return;
+        return false;
     }
     if !is_free(path) {
         files::drop_new(path, fd);
-        return;
+        return false;
     }
-    if files::commit(4, b"OUT", path, fd, out) {
+    let ok = files::commit(4, b"OUT", path, fd, out);
+    if ok {
         print_composed(kind, version, out.len());
     }
+    ok
 }
 
-fn write_out(kind: usize, version: usize, out: &[u8]) {
+fn write_out(kind: usize, version: usize, out: &[u8]) -> bool {
     let mut path = io::buffer();
     let n = files::target_of(4, &mut path);
-    write_at(&path[..n], kind, version, out);
+    write_at(&path[..n], kind, version, out)
 }
 
-fn compose_out(list: &[u8], n: Counts, kind: usize, values: &[u64], marks: &[u8], out: &mut [u8]) {
+fn compose_out(
+    list: &[u8],
+    n: Counts,
+    kind: usize,
+    values: &[u64],
+    marks: &[u8],
+    out: &mut [u8],
+) -> bool {
     let outcome = gateway::compose(list, kind, values, marks, out);
     match outcome {
-        Outcome::Refused(f) => words::print_refused(f),
+        Outcome::Refused(f) => {
+            words::print_refused(f);
+            false
+        }
         Outcome::Done => write_out(kind, n.version, out),
     }
 }
 
 // A telegram of the type's length; the type itself is tested by the composing.
-fn compose_kind(list: &[u8], n: Counts, kind: usize, values: &[u64], marks: &[u8]) {
+fn compose_kind(list: &[u8], n: Counts, kind: usize, values: &[u64], marks: &[u8]) -> bool {
     if kind == 3 {
         let mut out = [0u8; 40];
-        compose_out(list, n, kind, values, marks, &mut out);
+        compose_out(list, n, kind, values, marks, &mut out)
     } else {
         let mut out = [0u8; 128];
-        compose_out(list, n, kind, values, marks, &mut out);
+        compose_out(list, n, kind, values, marks, &mut out)
     }
 }
 
@@ -140,8 +161,11 @@ fn compose_given(
     marks: &mut [u8],
 ) {
     replacements(list, values);
-    if text::read_lines(given, values, marks) {
-        compose_kind(list, n, kind, values, marks);
+    if !text::read_lines(list, given, values, marks) {
+        return;
+    }
+    if compose_kind(list, n, kind, values, marks) {
+        text::print_notes(list, given, kind);
     }
 }
 

@@ -1,6 +1,14 @@
-// The lines of a values file: `value K V`, `mark K M`, and comments behind #.
+// The lines of a values file: `value PLACE VALUE`, `mark PLACE MARK`, with a number for the place too, and comments behind #.
 ghost use Prim.Native.Nat.{_≤_};
-ghost use lib.ListN.{length};
+use crate::place::Field;
+use crate::place::field_at;
+use crate::place::type_of;
+use crate::word::count;
+use crate::word::find;
+use crate::word::word;
+use gateway::EntryOutcome;
+use gateway::Found;
+use saying::Line;
 use saying::Number;
 
 // What can be wrong with a line.
@@ -16,84 +24,35 @@ const VALUE: u8 = 4;
 
 const MARK: u8 = 5;
 
-fn print_fault(line: u64, fault: u8) {
-    let l = saying::say_argument(saying::say(saying::empty(), b"error: VALUES "), 3, b"");
-    let l = saying::say_number(saying::say(l, b" line "), line);
+const PLACE: u8 = 6;
+
+const CHECK_PLACE: u8 = 7;
+
+const UNNAMED: u8 = 8;
+
+fn say_line(what: &[u8], line: u64) -> Line {
+    let l = saying::say_argument(saying::say(saying::empty(), what), 3, b"");
+    saying::say(saying::say_number(saying::say(l, b" line "), line), b": ")
+}
+
+fn say_fault(line: Line, fault: u8) -> Line {
     match fault {
-        SIGNAL => saying::print(saying::say(l, b": no such signal")),
-        CHECK => saying::print(saying::say(l, b": no such check")),
-        VALUE => saying::print(saying::say(l, b": value not a whole number below 2^64")),
-        MARK => saying::print(saying::say(l, b": mark not error, ok, forced, undefined or 0 to 3")),
-        _ => saying::print(saying::say(l, b": neither `value SIGNAL VALUE` nor `mark CHECK MARK`")),
+        SIGNAL => saying::say(line, b"no such signal"),
+        CHECK => saying::say(line, b"no such check"),
+        VALUE => saying::say(line, b"value not a whole number below 2^64"),
+        MARK => saying::say(line, b"mark not error, ok, forced, undefined or 0 to 3"),
+        PLACE => saying::say(
+            line,
+            b"no place, as `R1 octet 54 bits 0-3` or `R1 start 424`",
+        ),
+        CHECK_PLACE => saying::say(line, b"no place, as `octet 41 bits 2-3` or `start 322`"),
+        UNNAMED => saying::say(line, b"no check there that a signal names"),
+        _ => saying::say(line, b"neither `value PLACE VALUE` nor `mark PLACE MARK`"),
     }
 }
 
-fn is_space(octet: u8) -> bool {
-    (octet == 32) | (octet == 9) | (octet == 13)
-}
-
-// Where an octet first stands from `from` on, or the end.
-fn find(text: &[u8], from: usize, octet: u8) -> usize
-    requires { ⌜ from ≤ length (now text) ⌝ }
-    ensures { λ r. ⌜ (from ≤ r) × (r ≤ length (now (text .entry))) ⌝ }
-{
-    let mut i = from;
-    while i < text.len() {
-        if text[i] == octet {
-            return i;
-        }
-        i += 1;
-    }
-    i
-}
-
-fn word_end(line: &[u8], from: usize) -> usize
-    requires { ⌜ from ≤ length (now line) ⌝ }
-    ensures { λ r. ⌜ (from ≤ r) × (r ≤ length (now (line .entry))) ⌝ }
-{
-    let mut i = from;
-    while i < line.len() {
-        if is_space(line[i]) {
-            return i;
-        }
-        i += 1;
-    }
-    i
-}
-
-fn is_start(line: &[u8], i: usize) -> bool {
-    if line.len() <= i {
-        return false;
-    }
-    if i == 0 {
-        return !is_space(line[i]);
-    }
-    !is_space(line[i]) & is_space(line[i - 1])
-}
-
-// Where word k, counted from 0, starts, or the end.
-fn word_start(line: &[u8], k: usize) -> usize
-    ensures { λ r. ⌜ r ≤ length (now (line .entry)) ⌝ }
-{
-    let mut left = k;
-    let mut i = 0;
-    while i < line.len() {
-        if is_start(line, i) {
-            if left == 0 {
-                return i;
-            }
-            left -= 1;
-        }
-        i += 1;
-    }
-    i
-}
-
-// Word k of a line; empty where it has fewer.
-fn word(line: &[u8], k: usize) -> &[u8] {
-    let a = word_start(line, k);
-    let e = word_end(line, a);
-    &line[a..e]
+fn print_fault(line: u64, fault: u8) {
+    saying::print(say_fault(say_line(b"error: VALUES ", line), fault));
 }
 
 // A number above 3 is refused by the composing, where the mark is written.
@@ -113,11 +72,98 @@ fn mark_of(text: &[u8]) -> Number {
     saying::parse(text, 255)
 }
 
-fn read_value(line: &[u8], values: &mut [u64]) -> u8 {
-    let Number::Is(k) = saying::parse(word(line, 1), 4294967295) else {
+// The signal k is there, and as wide as the line says, if it does.
+fn is_wide(list: &[u8], k: usize, width: usize) -> bool {
+    let entry = gateway::signal_entry(list, k);
+    let EntryOutcome::Entry(e) = entry else {
+        return false;
+    };
+    let s = e.signal;
+    (width == 0) | (width == s.width)
+}
+
+// The field at which words k to n - 2 point.
+fn place_of(line: &[u8], k: usize, n: usize) -> Field
+    requires { ⌜ k ≤ 2 ⌝ }
+{
+    if n < 4 {
+        return field_at(line, k, 0);
+    }
+    field_at(line, k, n - 1 - k)
+}
+
+// The signal at a place.
+fn signal_at(list: &[u8], kind: usize, f: Field) -> Number {
+    let found = gateway::find_signal(list, kind, f.start);
+    let Found::At(k) = found else {
+        return Number::Not;
+    };
+    if is_wide(list, k, f.width) {
+        Number::Is(k as u64)
+    } else {
+        Number::Not
+    }
+}
+
+// The signal of a line of n words: at a place, or by its number.
+fn signal_of(list: &[u8], line: &[u8], n: usize) -> Number {
+    if n == 3 {
+        return saying::parse(word(line, 1), 4294967295);
+    }
+    signal_at(list, type_of(word(line, 1)), place_of(line, 2, n))
+}
+
+// Whether it has the form of either.
+fn names_signal(line: &[u8], n: usize) -> bool {
+    let f = place_of(line, 2, n);
+    (n == 3) | (type_of(word(line, 1)) < 3) & f.ok
+}
+
+fn check_named(list: &[u8], k: usize, place: usize) -> usize {
+    let entry = gateway::signal_entry(list, k);
+    let EntryOutcome::Entry(e) = entry else {
+        return 0;
+    };
+    let s = e.signal;
+    if e.place == place { s.check } else { 0 }
+}
+
+// The number of the check at a place, from 1, if one of the signals names it; else 0.
+fn check_at(list: &[u8], signals: usize, place: usize) -> usize {
+    let mut k = 0;
+    while k < signals {
+        let check = check_named(list, k, place);
+        if 0 < check {
+            return check;
+        }
+        k += 1;
+    }
+    0
+}
+
+// The check of a line of n words: at a place, or by its number.
+fn check_of(list: &[u8], line: &[u8], n: usize, signals: usize) -> Number {
+    if n == 3 {
+        return saying::parse(word(line, 1), 4294967295);
+    }
+    let f = place_of(line, 1, n);
+    Number::Is(check_at(list, signals, f.start) as u64)
+}
+
+// Whether it has the form of either: a check is two bits wide.
+fn names_check(line: &[u8], n: usize) -> bool {
+    let f = place_of(line, 1, n);
+    (n == 3) | f.ok & ((f.width == 0) | (f.width == 2))
+}
+
+fn read_value(list: &[u8], line: &[u8], n: usize, values: &mut [u64]) -> u8 {
+    if !names_signal(line, n) {
+        return PLACE;
+    }
+    let Number::Is(k) = signal_of(list, line, n) else {
         return SIGNAL;
     };
-    let Number::Is(v) = saying::parse(word(line, 2), 18446744073709551615) else {
+    let Number::Is(v) = saying::parse(last(line, n), 18446744073709551615) else {
         return VALUE;
     };
     let i = k as usize;
@@ -129,16 +175,19 @@ fn read_value(line: &[u8], values: &mut [u64]) -> u8 {
 }
 
 // Checks count from 1, as a signal names them.
-fn read_mark(line: &[u8], marks: &mut [u8]) -> u8 {
-    let Number::Is(k) = saying::parse(word(line, 1), 4294967295) else {
+fn read_mark(list: &[u8], line: &[u8], n: usize, signals: usize, marks: &mut [u8]) -> u8 {
+    if !names_check(line, n) {
+        return CHECK_PLACE;
+    }
+    let Number::Is(k) = check_of(list, line, n, signals) else {
         return CHECK;
     };
-    let Number::Is(m) = mark_of(word(line, 2)) else {
+    let Number::Is(m) = mark_of(last(line, n)) else {
         return MARK;
     };
     let i = k as usize;
     if i == 0 {
-        return CHECK;
+        return if n == 3 { CHECK } else { UNNAMED };
     }
     if marks.len() < i {
         return CHECK;
@@ -150,35 +199,44 @@ fn read_mark(line: &[u8], marks: &mut [u8]) -> u8 {
     FINE
 }
 
-fn read_words(line: &[u8], values: &mut [u64], marks: &mut [u8]) -> u8 {
-    if word_start(line, 0) == line.len() {
+// The last of n words.
+fn last(line: &[u8], n: usize) -> &[u8] {
+    if n == 0 {
+        return word(line, 0);
+    }
+    word(line, n - 1)
+}
+
+fn read_words(list: &[u8], line: &[u8], values: &mut [u64], marks: &mut [u8]) -> u8 {
+    let n = count(line);
+    if n == 0 {
         return FINE;
     }
-    if word_start(line, 3) < line.len() {
+    if n < 3 {
         return WORDS;
     }
     if check::same(word(line, 0), b"value") {
-        return read_value(line, values);
+        return read_value(list, line, n, values);
     }
     if check::same(word(line, 0), b"mark") {
-        return read_mark(line, marks);
+        return read_mark(list, line, n, values.len(), marks);
     }
     WORDS
 }
 
-fn read_line(line: &[u8], values: &mut [u64], marks: &mut [u8]) -> u8 {
+fn read_line(list: &[u8], line: &[u8], values: &mut [u64], marks: &mut [u8]) -> u8 {
     let a = 0;
     let e = find(line, a, b'#');
-    read_words(&line[a..e], values, marks)
+    read_words(list, &line[a..e], values, marks)
 }
 
 // Whether every line was read; where one is at fault, an error line names it.
-pub fn read_lines(text: &[u8], values: &mut [u64], marks: &mut [u8]) -> bool {
+pub fn read_lines(list: &[u8], text: &[u8], values: &mut [u64], marks: &mut [u8]) -> bool {
     let mut at = 0;
     let mut line: u64 = 1;
     while at < text.len() {
         let e = find(text, at, b'\n');
-        let fault = read_line(&text[at..e], values, marks);
+        let fault = read_line(list, &text[at..e], values, marks);
         if fault != FINE {
             print_fault(line, fault);
             return false;
@@ -187,4 +245,46 @@ pub fn read_lines(text: &[u8], values: &mut [u64], marks: &mut [u8]) -> bool {
         line = std::num::wrapping_add_u64(line, 1);
     }
     true
+}
+
+// The signal k, which a telegram of the type does not carry, is named by a line of its own.
+fn note_signal(list: &[u8], k: usize, kind: usize, line: u64) {
+    let entry = gateway::signal_entry(list, k);
+    let EntryOutcome::Entry(e) = entry else {
+        return;
+    };
+    let s = e.signal;
+    if (s.kind == 0) | (s.kind == kind) {
+        return;
+    }
+    let l = words::say_place(say_line(b"note: VALUES ", line), s.kind, s.start, s.width);
+    saying::print(words::say_telegram(saying::say(l, b" is not carried by "), kind));
+}
+
+fn note_words(list: &[u8], line: &[u8], kind: usize, number: u64) {
+    let n = count(line);
+    if check::same(word(line, 0), b"value") {
+        let found = signal_of(list, line, n);
+        if let Number::Is(k) = found {
+            note_signal(list, k as usize, kind, number);
+        }
+    }
+}
+
+fn note_line(list: &[u8], line: &[u8], kind: usize, number: u64) {
+    let a = 0;
+    let e = find(line, a, b'#');
+    note_words(list, &line[a..e], kind, number);
+}
+
+// A line for each value that a telegram of the type does not carry.
+pub fn print_notes(list: &[u8], text: &[u8], kind: usize) {
+    let mut at = 0;
+    let mut line: u64 = 1;
+    while at < text.len() {
+        let e = find(text, at, b'\n');
+        note_line(list, &text[at..e], kind, line);
+        at = e + 1;
+        line = std::num::wrapping_add_u64(line, 1);
+    }
 }

@@ -13,6 +13,8 @@ use libc::STDOUT_FILENO;
 use saying::Clock;
 use saying::Line;
 use saying::Number;
+use saying::Options;
+use saying::Page;
 
 // A signal as one gateway reads it, if its list has it.
 struct Side {
@@ -30,6 +32,15 @@ enum Accepted {
     Not,
 }
 
+// What is asked: of one vehicle or of all; only the lines that differ; as lines for people, or as a table.
+struct Asked {
+    clock: u32,
+    vehicle: usize,
+    all: bool,
+    only: bool,
+    table: bool,
+}
+
 // The lines, and how many of them differ.
 struct Count {
     lines: u64,
@@ -39,7 +50,7 @@ struct Count {
 fn help() {
     io::write_all(
         STDOUT_FILENO,
-        b"differ LIST LIST STORE CLOCK [VEHICLE]
+        b"differ LIST LIST STORE CLOCK [VEHICLE] [only] [table]
 
 Which gateway believes what: STORE, read at CLOCK by two gateways' signal lists,
 side by side, for all vehicles that were heard or for one.
@@ -52,7 +63,13 @@ Prints for each vehicle a line with type, version and age of its telegram, then
 a line for each signal,  VEHICLE PLACE VALUE REASON | VALUE REASON,  the first
 list on the left. Signals of the two are matched by type and start. A line on
 which value, reason or width differ, or that only one list has, begins with *.
-The last line counts those: `differ: 7 of 498 lines`.
+A line behind each vehicle counts those of it, the last line all of them:
+`differ: 7 of 498 lines`. With the word `only` the other lines are left out.
+With the word `table` it prints a line of names, then a line for each signal,
+each of 13 columns with a tab between: vehicle, its telegram, version and age
+(a dash where it was never heard), type, start, differs (1 or 0), then width,
+value and reason of the first list and of the second (a dash where a list has
+no such signal). The words may be combined, in any order.
 `believe help` lists the reasons. Bad input gets one line that begins with
 `refused` and the number of document 01, or with `error`.
 The exit status is as of `diff`: 0 no difference, 1 differences, 2 bad input.
@@ -115,68 +132,157 @@ fn say_widths(line: Line, a: Side, b: Side) -> Line {
 }
 
 // The place, which either side may have, and what each side says there.
-fn print_pair(mark: u8, vehicle: usize, place: Side, a: Side, b: Side) {
+fn print_pair(page: &mut Page, mark: u8, vehicle: usize, place: Side, a: Side, b: Side) {
     let l = saying::say_right(saying::put(saying::empty(), mark), 4, vehicle as u64);
     let l = words::say_place(saying::say(l, b"  "), place.kind, place.start, place.width);
     let l = saying::say(saying::pad(say_side(l, 45, a), 73), b"|");
-    saying::print(say_widths(say_side(l, 90, b), a, b));
+    saying::add(page, say_widths(say_side(l, 90, b), a, b));
+}
+
+fn say_columns(line: Line, side: Side) -> Line {
+    if !side.there {
+        return saying::say(line, b"\t-\t-\t-");
+    }
+    let l = saying::say_tab(saying::say_tab(line, side.width as u64), side.value);
+    saying::say_tab(l, side.reason as u64)
+}
+
+// The same as a row of the table.
+fn print_row(
+    page: &mut Page,
+    store: &[u8],
+    asked: Asked,
+    differs: u64,
+    place: Side,
+    a: Side,
+    b: Side,
+) {
+    let l = words::say_head(saying::empty(), store, asked.clock, asked.vehicle);
+    let l = words::say_telegram(saying::put(l, b'\t'), place.kind);
+    let l = saying::say_tab(saying::say_tab(l, place.start as u64), differs);
+    saying::add(page, say_columns(say_columns(l, a), b));
 }
 
 fn more(n: u64) -> u64 {
     std::num::wrapping_add_u64(n, 1)
 }
 
+fn print_line(
+    page: &mut Page,
+    store: &[u8],
+    asked: Asked,
+    same: bool,
+    place: Side,
+    a: Side,
+    b: Side,
+) {
+    if same & asked.only {
+        return;
+    }
+    if asked.table {
+        print_row(page, store, asked, if same { 0 } else { 1 }, place, a, b);
+        return;
+    }
+    print_pair(
+        page,
+        if same { b' ' } else { b'*' },
+        asked.vehicle,
+        place,
+        a,
+        b,
+    );
+}
+
 // The line of a pair: of a signal that both lists have, or one of them.
-fn print_sides(vehicle: usize, a: Side, b: Side, so_far: Count) -> Count {
+fn print_sides(
+    page: &mut Page,
+    store: &[u8],
+    asked: Asked,
+    a: Side,
+    b: Side,
+    so_far: Count,
+) -> Count {
     let lines = more(so_far.lines);
-    if are_same(a, b) {
-        print_pair(b' ', vehicle, a, a, b);
+    let same = are_same(a, b);
+    print_line(page, store, asked, same, if a.there { a } else { b }, a, b);
+    if same {
         return Count {
             lines,
             differ: so_far.differ,
         };
     }
-    print_pair(b'*', vehicle, if a.there { a } else { b }, a, b);
     Count {
         lines,
         differ: more(so_far.differ),
     }
 }
 
-fn one_vehicle(
-    first: &[u8],
-    second: &[u8],
-    store: &[u8],
-    clock: u32,
-    vehicle: usize,
-    so_far: Count,
-) -> Count {
-    words::print_head(store, clock, vehicle);
-    let mut count = so_far;
+fn all_signals(page: &mut Page, first: &[u8], second: &[u8], store: &[u8], asked: Asked) -> Count {
+    let mut count = none();
     let mut key = 0;
     while key < PAST_KEYS {
         let pairing = gateway::pair_from(first, second, key);
         let Pairing::Pair(p) = pairing else {
             return count;
         };
-        let a = side_at(first, store, clock, vehicle, p.first);
-        let b = side_at(second, store, clock, vehicle, p.second);
-        count = print_sides(vehicle, a, b, count);
+        let a = side_at(first, store, asked.clock, asked.vehicle, p.first);
+        let b = side_at(second, store, asked.clock, asked.vehicle, p.second);
+        count = print_sides(page, store, asked, a, b, count);
         key = p.key + 1;
     }
     count
 }
 
-fn all_vehicles(first: &[u8], second: &[u8], store: &[u8], clock: u32) -> Count {
+fn print_of_vehicle(page: &mut Page, vehicle: usize, count: Count) {
+    let l = saying::say_number(saying::say(saying::empty(), b"vehicle "), vehicle as u64);
+    let l = saying::say_number(saying::say(l, b" differs on "), count.differ);
+    let l = saying::say_number(saying::say(l, b" of "), count.lines);
+    saying::add(page, saying::say(l, b" lines"));
+}
+
+fn one_vehicle(
+    page: &mut Page,
+    first: &[u8],
+    second: &[u8],
+    store: &[u8],
+    asked: Asked,
+    so_far: Count,
+) -> Count {
+    if !asked.table {
+        words::print_head(page, store, asked.clock, asked.vehicle);
+    }
+    let count = all_signals(page, first, second, store, asked);
+    if !asked.table {
+        print_of_vehicle(page, asked.vehicle, count);
+    }
+    Count {
+        lines: std::num::wrapping_add_u64(so_far.lines, count.lines),
+        differ: std::num::wrapping_add_u64(so_far.differ, count.differ),
+    }
+}
+
+fn of_vehicle(asked: Asked, vehicle: usize) -> Asked {
+    Asked {
+        clock: asked.clock,
+        vehicle,
+        all: asked.all,
+        only: asked.only,
+        table: asked.table,
+    }
+}
+
+fn all_vehicles(page: &mut Page, first: &[u8], second: &[u8], store: &[u8], asked: Asked) -> Count {
     let mut count = none();
     let mut v = 1;
     while v <= VEHICLES {
         if words::is_heard(store, v) {
-            count = one_vehicle(first, second, store, clock, v, count);
+            count = one_vehicle(page, first, second, store, of_vehicle(asked, v), count);
         }
         v += 1;
     }
-    words::print_never(store);
+    if !asked.table {
+        words::print_never(page, store);
+    }
     count
 }
 
@@ -187,24 +293,54 @@ fn none() -> Count {
     }
 }
 
-fn print_list(name: &[u8], i: usize, n: Counts) {
+fn print_list(page: &mut Page, name: &[u8], i: usize, n: Counts) {
     let l = saying::say_argument(saying::say(saying::empty(), name), i, b"");
     let l = saying::say_number(saying::say(l, b" signals "), n.signals as u64);
-    saying::print(saying::say_number(saying::say(l, b" version "), n.version as u64));
+    saying::add(
+        page,
+        saying::say_number(saying::say(l, b" version "), n.version as u64),
+    );
 }
 
-fn print_count(count: Count) {
-    let l = saying::say_number(saying::say(saying::empty(), b"differ: "), count.differ);
-    let l = saying::say_number(saying::say(l, b" of "), count.lines);
-    saying::print(saying::say(l, b" lines"));
-}
-
-fn print_asked(first: &[u8], second: &[u8], store: &[u8], clock: u32, vehicle: usize, all: bool) {
-    if all {
-        print_count(all_vehicles(first, second, store, clock));
+fn print_count(page: &mut Page, asked: Asked, count: Count) {
+    if asked.table {
         return;
     }
-    print_count(one_vehicle(first, second, store, clock, vehicle, none()));
+    let l = saying::say_number(saying::say(saying::empty(), b"differ: "), count.differ);
+    let l = saying::say_number(saying::say(l, b" of "), count.lines);
+    saying::add(page, saying::say(l, b" lines"));
+}
+
+fn print_names(page: &mut Page) {
+    let l = saying::say(
+        saying::empty(),
+        b"vehicle\ttelegram\tversion\tage\ttype\tstart\tdiffers",
+    );
+    let l = saying::say(l, b"\twidth_1\tvalue_1\treason_1");
+    saying::add(page, saying::say(l, b"\twidth_2\tvalue_2\treason_2"));
+}
+
+// What stands above the lines: the two lists, or the names of the columns.
+fn print_above(page: &mut Page, m: Counts, n: Counts, table: bool) {
+    if table {
+        print_names(page);
+        return;
+    }
+    print_list(page, b"first  ", 1, m);
+    print_list(page, b"second ", 2, n);
+}
+
+fn print_asked(first: &[u8], m: Counts, second: &[u8], n: Counts, store: &[u8], asked: Asked) {
+    let mut page = saying::new_page();
+    print_above(&mut page, m, n, asked.table);
+    if asked.all {
+        let count = all_vehicles(&mut page, first, second, store, asked);
+        print_count(&mut page, asked, count);
+    } else {
+        let count = one_vehicle(&mut page, first, second, store, asked, none());
+        print_count(&mut page, asked, count);
+    }
+    saying::flush(&mut page);
 }
 
 // The counts of a list; a list that is not accepted is said to be refused.
@@ -220,24 +356,22 @@ fn judge(list: &[u8], of: &[u8]) -> Accepted {
 }
 
 // Refused as a reading is: 1 to 4 of either list, then 5 and 6.
-fn compare(first: &[u8], second: &[u8], store: &[u8], clock: u32, vehicle: usize, all: bool) {
+fn compare(first: &[u8], second: &[u8], store: &[u8], asked: Asked) {
     let Accepted::With(m) = judge(first, b" (first list)") else {
         return;
     };
     let Accepted::With(n) = judge(second, b" (second list)") else {
         return;
     };
-    let held = gateway::holding(store, clock, vehicle);
+    let held = gateway::holding(store, asked.clock, asked.vehicle);
     if let HeldOutcome::Refused(f) = held {
         words::print_refused(f);
         return;
     }
-    print_list(b"first  ", 1, m);
-    print_list(b"second ", 2, n);
-    print_asked(first, second, store, clock, vehicle, all);
+    print_asked(first, m, second, n, store, asked);
 }
 
-fn read_others(first: &[u8], clock: u32, vehicle: usize, all: bool) {
+fn read_others(first: &[u8], asked: Asked) {
     let mut second = [0u8; LONGEST + 1];
     let l = files::read(2, b"second LIST", &mut second);
     if !l.ok {
@@ -250,27 +384,33 @@ fn read_others(first: &[u8], clock: u32, vehicle: usize, all: bool) {
     }
     let n = l.octets;
     let m = s.octets;
-    compare(first, &second[..n], &store[..m], clock, vehicle, all);
+    compare(first, &second[..n], &store[..m], asked);
 }
 
-fn read_files(clock: u32, vehicle: usize, all: bool) {
+fn read_files(asked: Asked) {
     let mut first = [0u8; LONGEST + 1];
     let l = files::read(1, b"first LIST", &mut first);
     if !l.ok {
         return;
     }
     let n = l.octets;
-    read_others(&first[..n], clock, vehicle, all);
+    read_others(&first[..n], asked);
 }
 
-fn ask(words: usize) {
+fn ask(o: Options) {
     let Clock::At(clock) = saying::clock_argument(4) else {
         return;
     };
-    let Number::Is(vehicle) = saying::number_or(words, 5, b"VEHICLE", 1) else {
+    let Number::Is(vehicle) = saying::number_or(o.words, 5, b"VEHICLE", 1) else {
         return;
     };
-    read_files(clock, vehicle as usize, words == 4);
+    read_files(Asked {
+        clock,
+        vehicle: vehicle as usize,
+        all: o.words == 4,
+        only: o.own,
+        table: o.table,
+    });
 }
 
 fn main() {
@@ -280,12 +420,13 @@ fn main() {
         return;
     }
     if n < 5 {
-        saying::print_usage(b"differ LIST LIST STORE CLOCK [VEHICLE]");
+        saying::print_usage(b"differ LIST LIST STORE CLOCK [VEHICLE] [only] [table]");
         return;
     }
-    if 6 < n {
-        saying::print_usage(b"differ LIST LIST STORE CLOCK [VEHICLE]");
+    let o = saying::options_of(n - 1, 4, b"only");
+    if 5 < o.words {
+        saying::print_usage(b"differ LIST LIST STORE CLOCK [VEHICLE] [only] [table]");
         return;
     }
-    ask(n - 1);
+    ask(o);
 }

@@ -19,7 +19,7 @@ pub const CODE_SIZE: usize = 6;
 pub const ROUTE_SIZE: usize = 6;
 
 // The greatest width of a field.
-const WIDEST: usize = 48;
+pub const WIDEST: usize = 48;
 
 pub struct Signal {
     pub start: usize,
@@ -145,7 +145,8 @@ pub fn check_rule(list: &[u8], k: usize) -> bool
     (v % 2 == 0) & (16 <= v) & (v <= 1022) & ((k == 0) | (p < v))
 }
 
-fn place_rule(s: Signal) -> bool
+// Inner: s lies where its type may.
+pub fn place_rule(s: Signal) -> bool
     requires { ⌜ Placeable s ⌝ }
     ensures { λ r. ⌜ r ≡ placeRule (signalOf s) ⌝ }
 {
@@ -156,7 +157,8 @@ fn place_rule(s: Signal) -> bool
     (320 <= s.start) & (end <= 1024)
 }
 
-fn named_rule(list: &[u8], checks: usize, s: Signal) -> bool
+// Inner: the check that s names exists and is of its part, or s names none.
+pub fn named_rule(list: &[u8], checks: usize, s: Signal) -> bool
     requires { ⌜ entry checkSize checks ≤ length (now list) ⌝ }
     ensures { λ r. ⌜ r ≡ namedRule checks (checkAt (now (list .entry))) (signalOf s) ⌝ }
 {

@@ -16,6 +16,15 @@ A list that breaks a rule gets one line that begins with `refused`, the number
 of document 01 and the offset of what is wrong:
   1 list ends inside a count or a section    3 entry breaks its rule
   2 count above its limit                    4 octets after the routes
+With 3 the line goes on with the entry, its signal's place and the first rule
+that it breaks, numbered in the order of document 01's sentences:
+  checks   1 even  2 from 16  3 to 1022  4 rising
+  signals  1 width  2 type  3 place  4 check  5 since  6 limit  7 replacement
+           8 types rising  9 start past the end before  10 no bit of a check
+  codes    1 signal  2 its width  3 low, high  4 high in the width
+           5 signals rising  6 low past the high before by 2
+  routes   1 signal  2 vehicle  3 zero  4 to bit 2048  5 past the end before
+Checks are counted from 1, all other entries from 0.
 A file that cannot be read gets one line that begins with `error`.
 ",
     );
@@ -33,6 +42,14 @@ fn print_accepted(n: Counts) {
     saying::print(say_count(l, b" version=", n.version));
 }
 
+fn say(list: &[u8]) {
+    let judged = gateway::judge(list);
+    match judged {
+        Judged::Accepted(n) => print_accepted(n),
+        Judged::Refused(f) => words::print_refused_list(list, f),
+    }
+}
+
 // One octet more than the longest list: what follows cannot change the answer.
 fn judge() {
     let mut list = [0u8; LONGEST + 1];
@@ -41,10 +58,7 @@ fn judge() {
         return;
     }
     let n = input.octets;
-    match gateway::judge(&list[..n]) {
-        Judged::Accepted(n) => print_accepted(n),
-        Judged::Refused(f) => words::print_refused(f),
-    }
+    say(&list[..n]);
 }
 
 fn main() {

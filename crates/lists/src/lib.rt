@@ -23,13 +23,14 @@ use entries::SIGNAL_SIZE;
 use entries::Signal;
 use refusals::Refusal;
 
-const MOST_CHECKS: usize = 64;
+// How many entries a section has at most.
+pub const MOST_CHECKS: usize = 64;
 
-const MOST_SIGNALS: usize = 256;
+pub const MOST_SIGNALS: usize = 256;
 
-const MOST_CODES: usize = 512;
+pub const MOST_CODES: usize = 512;
 
-const MOST_ROUTES: usize = 512;
+pub const MOST_ROUTES: usize = 512;
 
 // The four counts, and every entry that a list may have.
 pub const LONGEST: usize = 8
@@ -59,8 +60,8 @@ pub enum Section {
     Refused(Refusal),
 }
 
-// The count readable, within its limit, and its entries of `size` octets all present.
-fn open(tail: &[u8], limit: usize, size: usize) -> Section
+// Inner: the count readable, within its limit, and its entries of `size` octets all present.
+pub fn open(tail: &[u8], limit: usize, size: usize) -> Section
     requires { ⌜ size ≤ signalSize ⌝ }
     ensures { λ r. ⌜ sectionAnswer r ≡ opening limit size (now (tail .entry)) ⌝ }
 {
@@ -86,8 +87,8 @@ pub fn rest(tail: &[u8], size: usize, n: usize) -> &[u8]
     &tail[end..]
 }
 
-// The first of n checks that breaks its rule, n where none does.
-fn first_bad_check(list: &[u8], n: usize) -> usize
+// Inner: the first of n checks that breaks its rule, n where none does.
+pub fn first_bad_check(list: &[u8], n: usize) -> usize
     requires { ⌜ entry checkSize n ≤ length (now list) ⌝ }
     ensures { λ r. ⌜ r ≡ firstBad (checkRule (checkAt (now (list .entry)))) n ⌝ }
 {
@@ -108,9 +109,9 @@ fn resumed(past: usize, s: Signal, from: usize) -> usize
     if past <= s.start { from } else { 0 }
 }
 
-// The offset of the first of n signals that breaks its rule, or the end of the section. Each is tested by its own rule and then against the checks from
+// Inner: the offset of the first of n signals that breaks its rule, or the end of the section. Each is tested by its own rule and then against the checks from
 // the first that may share a bit with it to the first at or past its end: checks rise, and starts do within a type.
-fn first_bad_signal(list: &[u8], checks: usize, tail: &[u8], n: usize) -> usize
+pub fn first_bad_signal(list: &[u8], checks: usize, tail: &[u8], n: usize) -> usize
     requires { ⌜ (entry checkSize checks ≤ length (now list)) × (all (checkRule (checkAt (now list))) checks ≡ true) ⌝ }
     requires { ⌜ entry signalSize n ≤ length (now tail) ⌝ }
     ensures { λ r. ⌜ r ≡ entry signalSize (firstBad (signalRule checks (checkAt (now (list .entry))) (signalAt (now (tail .entry)))) n) ⌝ }
@@ -142,8 +143,8 @@ fn first_bad_signal(list: &[u8], checks: usize, tail: &[u8], n: usize) -> usize
     }
 }
 
-// The first of n codes that breaks its rule, n where none does; sig starts at the signals' count.
-fn first_bad_code(sig: &[u8], signals: usize, tail: &[u8], n: usize) -> usize
+// Inner: the first of n codes that breaks its rule, n where none does; sig starts at the signals' count.
+pub fn first_bad_code(sig: &[u8], signals: usize, tail: &[u8], n: usize) -> usize
     requires { ⌜ entry signalSize signals ≤ length (now sig) ⌝ }
     requires { ⌜ entry codeSize n ≤ length (now tail) ⌝ }
     ensures { λ r. ⌜ r ≡ firstBad (codeRule signals (signalAt (now (sig .entry))) (codeAt (now (tail .entry)))) n ⌝ }
@@ -163,8 +164,8 @@ fn first_bad_code(sig: &[u8], signals: usize, tail: &[u8], n: usize) -> usize
     n
 }
 
-// The same of n routes.
-fn first_bad_route(sig: &[u8], signals: usize, tail: &[u8], n: usize) -> usize
+// Inner: the same of n routes.
+pub fn first_bad_route(sig: &[u8], signals: usize, tail: &[u8], n: usize) -> usize
     requires { ⌜ entry signalSize signals ≤ length (now sig) ⌝ }
     requires { ⌜ entry routeSize n ≤ length (now tail) ⌝ }
     ensures { λ r. ⌜ r ≡ firstBad (routeRule signals (signalAt (now (sig .entry))) (routeAt (now (tail .entry)))) n ⌝ }

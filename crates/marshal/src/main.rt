@@ -1,4 +1,5 @@
 // Marshals routed signals out of a store into a file of vehicle bus data, and shows each route.
+ghost use Prim.Native.Nat.{_≤_};
 use files::Rules;
 use gateway::Counts;
 use gateway::EntryOutcome;
@@ -7,27 +8,30 @@ use gateway::LONGEST;
 use gateway::Marshalled;
 use gateway::ReadOutcome;
 use gateway::Reading;
+use gateway::Refusal;
 use gateway::Route;
 use gateway::RouteOutcome;
 use gateway::STORE;
 use gateway::Signal;
 use libc::STDOUT_FILENO;
 use saying::Clock;
+use saying::Page;
 use words::Written;
 
 const MOST: usize = 4096;
 
-// What is asked beside the files: the clock, a line for each route, and bus data of a telegram's length.
+// What is asked beside the files: the clock, lines for the routes or a table of them, and bus data of a telegram's length.
 struct Order {
     clock: u32,
     routes: bool,
+    table: bool,
     anyway: bool,
 }
 
 fn help() {
     io::write_all(
         STDOUT_FILENO,
-        b"marshal LIST STORE CLOCK DATA [routes] [anyway]
+        b"marshal LIST STORE CLOCK DATA [routes] [table] [anyway]
 
 Writes the value of each route of LIST, read out of STORE at CLOCK, into its
 field of the vehicle bus data in the file DATA, and changes no other bit of it.
@@ -42,6 +46,9 @@ DATA      up to 4096 octets, long enough for every route; a signal list is not
 Prints `marshalled 14 routes, 11 live`; live are the reasons 0 and 1. With the
 word `routes` it prints above that a line for each route,
 ROUTE FIELD-OF-DATA VEHICLE PLACE VALUE REASON.
+With the word `table` it prints instead a line of names, then a line for each
+route, each of nine columns with a tab between: route, data_start, vehicle,
+signal, type, start, width, value, reason.
 `believe help` lists the reasons.
 Where nothing was marshalled it prints one line that begins with `refused` and
 the number of document 01, or with `error`, and DATA is as it was. It is replaced
@@ -53,15 +60,37 @@ line begins with `error: busy`. What a killed one left is taken away.
     );
 }
 
-fn print_route(r: usize, t: Route, s: Signal, x: Reading) {
+fn print_row(page: &mut Page, r: usize, t: Route, s: Signal, x: Reading) {
+    let l = saying::say_tab(
+        saying::say_number(saying::empty(), r as u64),
+        t.start as u64,
+    );
+    let l = saying::say_tab(saying::say_tab(l, t.vehicle as u64), t.signal as u64);
+    let l = words::say_telegram(saying::put(l, b'\t'), s.kind);
+    let l = saying::say_tab(saying::say_tab(l, s.start as u64), s.width as u64);
+    saying::add(
+        page,
+        saying::say_tab(saying::say_tab(l, x.value), x.reason as u64),
+    );
+}
+
+fn print_route(page: &mut Page, r: usize, t: Route, s: Signal, x: Reading) {
     let l = saying::say(saying::say_right(saying::empty(), 3, r as u64), b"  ");
     let l = saying::say_right(words::say_field(l, t.start, s.width), 36, t.vehicle as u64);
     let l = words::say_place(saying::say(l, b"  "), s.kind, s.start, s.width);
     let l = saying::say(saying::say_right(l, 77, x.value), b"  ");
-    saying::print(words::say_reason(l, x.reason));
+    saying::add(page, words::say_reason(l, x.reason));
 }
 
-fn one_route(list: &[u8], store: &[u8], clock: u32, r: usize, t: Route) {
+fn one_route(
+    page: &mut Page,
+    list: &[u8],
+    store: &[u8],
+    clock: u32,
+    r: usize,
+    t: Route,
+    table: bool,
+) {
     let entry = gateway::signal_entry(list, t.signal);
     let EntryOutcome::Entry(e) = entry else {
         return;
@@ -71,27 +100,86 @@ fn one_route(list: &[u8], store: &[u8], clock: u32, r: usize, t: Route) {
         return;
     };
     let s = e.signal;
-    print_route(r, t, s, x);
+    if table {
+        print_row(page, r, t, s, x);
+    } else {
+        print_route(page, r, t, s, x);
+    }
 }
 
-fn print_routes(list: &[u8], routes: usize, store: &[u8], clock: u32) {
+fn print_routes(
+    page: &mut Page,
+    list: &[u8],
+    routes: usize,
+    store: &[u8],
+    clock: u32,
+    table: bool,
+) {
     let mut r = 0;
     while r < routes {
         let route = gateway::route_entry(list, r);
         if let RouteOutcome::Route(t) = route {
-            one_route(list, store, clock, r, t);
+            one_route(page, list, store, clock, r, t, table);
         }
         r += 1;
     }
 }
 
-fn print_count(n: Counts, live: usize) {
+fn print_count(page: &mut Page, n: Counts, live: usize) {
     let l = saying::say_number(
         saying::say(saying::empty(), b"marshalled "),
         n.routes as u64,
     );
     let l = saying::say_number(saying::say(l, b" routes, "), live as u64);
-    saying::print(saying::say(l, b" live"));
+    saying::add(page, saying::say(l, b" live"));
+}
+
+fn print_names(page: &mut Page) {
+    let l = saying::say(saying::empty(), b"route\tdata_start\tvehicle\tsignal");
+    saying::add(page, saying::say(l, b"\ttype\tstart\twidth\tvalue\treason"));
+}
+
+fn print_done(list: &[u8], n: Counts, store: &[u8], order: Order, live: usize) {
+    let mut page = saying::new_page();
+    if order.table {
+        print_names(&mut page);
+    }
+    if order.routes | order.table {
+        print_routes(&mut page, list, n.routes, store, order.clock, order.table);
+    }
+    if !order.table {
+        print_count(&mut page, n, live);
+    }
+    saying::flush(&mut page);
+}
+
+// Where the last route ends, in octets: no other ends later.
+fn needed(list: &[u8], routes: usize) -> usize {
+    if routes == 0 {
+        return 0;
+    }
+    let route = gateway::route_entry(list, routes - 1);
+    let RouteOutcome::Route(t) = route else {
+        return 0;
+    };
+    let entry = gateway::signal_entry(list, t.signal);
+    let EntryOutcome::Entry(e) = entry else {
+        return 0;
+    };
+    let s = e.signal;
+    std::num::wrapping_add_usize(std::num::wrapping_add_usize(t.start, s.width), 7) / 8
+}
+
+// Data that are too short: how long they are, and how long they have to be.
+fn print_refused(f: Refusal, list: &[u8], n: Counts, octets: usize) {
+    let l = words::say_refused(f, b"");
+    if gateway::number(f) != 12 {
+        saying::print(l);
+        return;
+    }
+    let l = saying::say_number(saying::say(l, b": "), octets as u64);
+    let l = saying::say_number(saying::say(l, b" octets, "), needed(list, n.routes) as u64);
+    saying::print(saying::say(l, b" needed"));
 }
 
 fn marshal_bus(
@@ -107,14 +195,11 @@ fn marshal_bus(
     match outcome {
         Marshalled::Refused(f) => {
             files::drop_new(path, fd);
-            words::print_refused(f);
+            print_refused(f, list, n, bus.len());
         }
         Marshalled::Live(live) => {
             if files::commit(4, b"DATA", path, fd, bus) {
-                if order.routes {
-                    print_routes(list, n.routes, store, order.clock);
-                }
-                print_count(n, live);
+                print_done(list, n, store, order, live);
             }
         }
     }
@@ -193,20 +278,27 @@ fn read_files(order: Order) {
     judge(&list[..n], &store[..m], order);
 }
 
-fn ask(routes: bool, anyway: bool) {
+fn ask(routes: bool, table: bool, anyway: bool) {
     let Clock::At(clock) = saying::clock_argument(3) else {
         return;
     };
     read_files(Order {
         clock,
         routes,
+        table,
         anyway,
     });
 }
 
 // Whether one of the words behind DATA is this one.
 fn has_word(word: &[u8]) -> bool {
-    saying::is_word(5, word) | saying::is_word(6, word)
+    saying::is_word(5, word) | saying::is_word(6, word) | saying::is_word(7, word)
+}
+
+fn one_if(is_there: bool) -> usize
+    ensures { λ r. ⌜ r ≤ 1 ⌝ }
+{
+    if is_there { 1 } else { 0 }
 }
 
 fn main() {
@@ -216,10 +308,12 @@ fn main() {
         return;
     }
     let routes = has_word(b"routes");
+    let table = has_word(b"table");
     let anyway = has_word(b"anyway");
-    if (n == 5) | ((n == 6) & (routes | anyway)) | ((n == 7) & routes & anyway) {
-        ask(routes, anyway);
+    // Each word once, and no other.
+    if n == 5 + one_if(routes) + one_if(table) + one_if(anyway) {
+        ask(routes, table, anyway);
         return;
     }
-    saying::print_usage(b"marshal LIST STORE CLOCK DATA [routes] [anyway]");
+    saying::print_usage(b"marshal LIST STORE CLOCK DATA [routes] [table] [anyway]");
 }

@@ -7,6 +7,7 @@ pub mod SearchLaws
 pub mod NumberLaws
 pub mod PutsLaws
 pub mod ListLaws
+pub mod BrokenLaws
 pub mod StoreLaws
 pub mod ReadingLaws
 pub mod MarshallingLaws

@@ -8,6 +8,7 @@ use Rattle.paper.specs.Octets.{octetsOf}
 use Rattle.paper.specs.Answer.{Answer, gives, refused, after, mapAnswer, Sought, found, nothing}
 use Rattle.paper.specs.Telegrams.{checkPlace}
 use Rattle.paper.specs.SignalList.{Signal, Code, Route, Counts, OfTwo, ofBoth, firstRefused, secondRefused, judge}
+use Rattle.paper.specs.Broken.{Fault, faultOf}
 use Rattle.paper.specs.Extends.{extendsLists}
 use Rattle.paper.specs.Pairs.{Entry, Pair, entryOf, routeEntry, finding, pairing}
 use Rattle.paper.specs.Store.{taking}
@@ -60,7 +61,7 @@ route signal vehicle start = record { signal = signal; vehicle = vehicle; null =
 
 pub data Question : Type 0 where
   -- a list
-  judges : List ℕ → Question
+  judges faults : List ℕ → Question
   -- two lists
   extends : List ℕ → List ℕ → Question
   -- a list and a signal; a list and a route; a list, a type and a start
@@ -119,6 +120,10 @@ ofSought f nothing = 0 ∷ []
 abbrev pub ofCounts : Counts → List ℕ
 ofCounts n = n .checks ∷ n .signals ∷ n .codes ∷ n .routes ∷ n .version ∷ []
 
+-- section, number, rule; signal, type, start, width; offset
+abbrev pub ofFault : Fault → List ℕ
+ofFault f = f .section ∷ f .index ∷ f .rule ∷ f .signal ∷ f .type ∷ f .start ∷ f .width ∷ f .at ∷ []
+
 -- a signal's entry by its octets, then the place of its check
 abbrev pub ofEntry : Entry → List ℕ
 ofEntry e = signalOctets (e .signal) ++ (e .place ∷ [])
@@ -155,6 +160,7 @@ wrote old a at = said (λ new. []) a ++ seen at (after old a)
 
 unfoldable pub ask : Question → List ℕ
 ask (judges xs) = said ofCounts (judge xs)
+ask (faults xs) = gave (ofSought ofFault (faultOf xs))
 ask (extends xs ys) = saidOfTwo (λ b. yes-no b ∷ []) (extendsLists xs ys)
 ask (signalEntries xs k) = said ofEntry (entryOf xs k)
 ask (routeEntries xs r) = said (ofSought routeOctets) (routeEntry xs r)

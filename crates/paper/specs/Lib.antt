@@ -4,6 +4,7 @@ pub mod First
 pub mod Search
 pub mod Telegrams
 pub mod SignalList
+pub mod Broken
 pub mod Accepted
 pub mod Extends
 pub mod Pairs
@@ -19,4 +20,5 @@ pub mod Bench
 pub mod Marked
 pub mod Cases
 pub mod Edges
+pub mod Breaks
 pub mod Wrong

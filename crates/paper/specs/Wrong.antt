@@ -15,6 +15,7 @@ use Rattle.paper.specs.First.{firstFrom, firstBad, all, some, next, coun
 use Rattle.paper.specs.Telegrams.{applicationType, telegramType, versionOf, rows, placeIn}
 use Rattle.paper.specs.SignalList
 use Rattle.paper.specs.SignalList.{Signal, judge, version, hasCodes, inRange, knownIn, knows, placeOf}
+use Rattle.paper.specs.Broken.{faultIn, faultFromRoutes, faultFromCodes, faultFromSignals, faultOf}
 use Rattle.paper.specs.Extends.{codesKept, keeps, stands, newer, extendsLists}
 use Rattle.paper.specs.Extends as Extending
 use Rattle.paper.specs.Pairs.{entryOf, routeEntry, signalFound, finding, has, index, nextPair, pairing}
@@ -27,7 +28,7 @@ use Rattle.paper.specs.Train.{Vehicle, consistRule, meets, member, setTo
 use Rattle.paper.specs.ETelegrams.{requests, isRequest, isReport, eReading, answerTo, answering}
 use Rattle.paper.specs.Bench.{listL}
 use Rattle.paper.specs.Marked.{telegram, silent, heardAt}
-use Rattle.paper.specs.Cases.{joined, made, signal, code, route, Question, judges, extends, signalEntries, routeEntries, finds, pairs, places, takes, holds, reads, marshals, composes, shows, resolves, eReads, eAnswers, gave, refuses, ask}
+use Rattle.paper.specs.Cases.{joined, made, signal, code, route, Question, judges, faults, extends, signalEntries, routeEntries, finds, pairs, places, takes, holds, reads, marshals, composes, shows, resolves, eReads, eAnswers, gave, refuses, ask}
 
 -- ---- A wrong gateway
 
@@ -111,6 +112,10 @@ plain start type since = signal start 8 type 0 since 0 0
 abbrev counts : ℕ → ℕ → ℕ → ℕ → List ℕ
 counts checks signals codes routes = gave (checks ∷ signals ∷ codes ∷ routes ∷ 1 ∷ [])
 
+-- an entry at fault
+abbrev at-fault : List ℕ → List ℕ
+at-fault xs = gave (1 ∷ xs)
+
 abbrev yes : List ℕ
 yes = gave (1 ∷ [])
 
@@ -166,6 +171,17 @@ table =
     (judges (made [] (plain 320 1 1 ∷ []) [] (route 0 1 2040 ∷ []))) (counts 0 1 0 1)
     ∷ saying "offset-of-its-section" (judges (set listL 41 1)) (refuses 3 38) (refuses 3 2)
     ∷ saying "counts-exchanged" (judges listL) (counts 1 1 2 1) (counts 1 1 1 2)
+    -- the entry at fault
+    ∷ saying "last-rule-named" (faults (one (signal 320 0 3 0 1 0 0))) (at-fault (2 ∷ 0 ∷ 1 ∷ 0 ∷ 3 ∷ 320 ∷ 0 ∷ 4 ∷ [])) (at-fault (2 ∷ 0 ∷ 7 ∷ 0 ∷ 3 ∷ 320 ∷ 0 ∷ 4 ∷ []))
+    ∷ asked-as "entry-before-named"
+    (faults (two (plain 320 1 1) (plain 327 1 1))) (at-fault (2 ∷ 1 ∷ 9 ∷ 1 ∷ 1 ∷ 327 ∷ 8 ∷ 20 ∷ []))
+    (faults (two (plain 319 1 1) (plain 327 1 1))) (at-fault (2 ∷ 0 ∷ 3 ∷ 0 ∷ 1 ∷ 319 ∷ 8 ∷ 4 ∷ []))
+    ∷ saying "entry-from-1" (faults (set listL 41 1)) (at-fault (4 ∷ 0 ∷ 3 ∷ 0 ∷ 1 ∷ 424 ∷ 4 ∷ 38 ∷ [])) (at-fault (4 ∷ 1 ∷ 3 ∷ 0 ∷ 1 ∷ 424 ∷ 4 ∷ 38 ∷ []))
+    ∷ saying "missing-signal-placed"
+    (faults (set listL 25 1)) (at-fault (3 ∷ 0 ∷ 1 ∷ 1 ∷ 0 ∷ 0 ∷ 0 ∷ 24 ∷ []))
+    (at-fault (3 ∷ 0 ∷ 1 ∷ 1 ∷ 0 ∷ 2 ∷ 0 ∷ 24 ∷ []))
+    ∷ asked-as "fault-of-an-accepted-list" (faults listL) no (faults (set listL 41 1)) (at-fault (4 ∷ 0 ∷ 3 ∷ 0 ∷ 1 ∷ 424 ∷ 4 ∷ 38 ∷ []))
+    ∷ saying "fault-of-another-refusal" (faults (listL ++ (0 ∷ []))) no (at-fault (4 ∷ 0 ∷ 5 ∷ 0 ∷ 1 ∷ 424 ∷ 4 ∷ 44 ∷ []))
     -- extending
     ∷ asked-as "signal-by-index"
     (extends (one (plain 320 1 1)) (two (plain 100 0 2) (plain 320 1 1))) yes
@@ -342,7 +358,7 @@ unfolding table answered sameNumbers joined made ask listL telegram silent heard
     firstFrom firstBad all some next count greatest applicationType telegramType versionOf rows placeIn SignalList.checkAt SignalList.signalAt
     SignalList.codeAt SignalList.routeAt SignalList.checkRule SignalList.signalRule SignalList.codeRule SignalList.routeRule SignalList.opening
     SignalList.judgeEntries SignalList.judgeSection SignalList.greatestSince SignalList.ending SignalList.fromRoutes SignalList.fromCodes
-    SignalList.fromSignals judge hasCodes inRange knownIn knows placeOf version codesKept keeps stands newer Extending.extends extendsLists entryOf
+    SignalList.fromSignals judge faultIn faultFromRoutes faultFromCodes faultFromSignals faultOf hasCodes inRange knownIn knows placeOf version codesKept keeps stands newer Extending.extends extendsLists entryOf
     routeEntry signalFound finding has index nextPair pairing slotOf taken taking age heard heldIn holding markOf codeOf hindrances reasonOf readingOf
     readingAt reading routed marshalled live marshalling headed composed markFits valueFits composing showing ofBits round toBits consistRule meets member
     setTo membersOf resolving requests isRequest isReport eReading answerTo answering

@@ -69,6 +69,45 @@ pub fn is_word(i: usize, expected: &[u8]) -> bool {
     check::same(&word[..n], expected)
 }
 
+// The words that may stand behind all others, `table` and one that is the program's own; and how many words there are without them.
+pub struct Options {
+    pub words: usize,
+    pub table: bool,
+    pub own: bool,
+}
+
+fn without_last(o: Options, least: usize, own: &[u8]) -> Options {
+    let words = o.words;
+    if words <= least {
+        return o;
+    }
+    if !o.table & is_word(words, b"table") {
+        return Options {
+            words: words - 1,
+            table: true,
+            own: o.own,
+        };
+    }
+    if !o.own & is_word(words, own) {
+        return Options {
+            words: words - 1,
+            table: o.table,
+            own: true,
+        };
+    }
+    o
+}
+
+// Of so many words, of which the first `least` are no options.
+pub fn options_of(words: usize, least: usize, own: &[u8]) -> Options {
+    let none = Options {
+        words,
+        table: false,
+        own: false,
+    };
+    without_last(without_last(none, least, own), least, own)
+}
+
 // Whether a program of n words, its own name among them, is asked what it takes.
 pub fn asks_help(n: usize) -> bool {
     (n == 2) & (is_word(1, b"help") | is_word(1, b"--help") | is_word(1, b"-h"))

@@ -2,15 +2,18 @@
 // No function that a program's input reaches has a `requires`.
 mod argument;
 mod line;
+mod page;
 
 pub use argument::Clock;
 pub use argument::Number;
+pub use argument::Options;
 pub use argument::asks_help;
 pub use argument::clock_argument;
 pub use argument::is_word;
 pub use argument::number_argument;
 pub use argument::number_of;
 pub use argument::number_or;
+pub use argument::options_of;
 pub use argument::parse;
 pub use argument::print_usage;
 pub use argument::print_word;
@@ -25,3 +28,8 @@ pub use line::put;
 pub use line::say;
 pub use line::say_number;
 pub use line::say_right;
+pub use line::say_tab;
+pub use page::Page;
+pub use page::add;
+pub use page::flush;
+pub use page::new_page;

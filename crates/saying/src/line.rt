@@ -1,15 +1,16 @@
 // A line of output, put together in memory and written at once. What does not fit is left out.
 const ROOM: usize = 240;
 
+// One octet more than there is room for: the line's end.
 pub struct Line {
     pub at: usize,
-    pub text: [u8; 240],
+    pub text: [u8; 241],
 }
 
 pub fn empty() -> Line {
     Line {
         at: 0,
-        text: [0u8; 240],
+        text: [0u8; 241],
     }
 }
 
@@ -50,6 +51,11 @@ pub fn say_number(line: Line, n: u64) -> Line {
     say(line, &digits[..k])
 }
 
+// The number as the next column of a table.
+pub fn say_tab(line: Line, n: u64) -> Line {
+    say_number(put(line, b'\t'), n)
+}
+
 // The number, so that it ends at a column; behind a space where the line has come too far.
 pub fn say_right(line: Line, column: usize, n: u64) -> Line {
     let mut digits = [0u8; 20];
@@ -70,12 +76,12 @@ fn begin(at: usize, column: usize, digits: usize) -> usize {
     std::num::wrapping_add_usize(at, 1)
 }
 
-// The line and its end.
+// The line with its end, at once.
 pub fn print(line: Line) {
-    let text = line.text;
+    let mut text = line.text;
     let at = line.at;
     if at <= ROOM {
-        io::write_all(libc::STDOUT_FILENO, &text[..at]);
+        text[at] = b'\n';
+        io::write_all(libc::STDOUT_FILENO, &text[..at + 1]);
     }
-    io::write_all(libc::STDOUT_FILENO, b"\n");
 }

@@ -2,10 +2,12 @@
 use files::Rules;
 use gateway::HeldOutcome;
 use gateway::Outcome;
+use gateway::Refusal;
 use gateway::STORE;
 use gateway::TELEGRAM;
 use libc::STDOUT_FILENO;
 use saying::Clock;
+use saying::Line;
 use saying::Number;
 
 fn help() {
@@ -49,12 +51,45 @@ fn print_taken(store: &[u8], vehicle: usize, clock: u32) {
     saying::print(saying::say_number(saying::say(l, b" at "), clock as u64));
 }
 
+// The type that octet 1 says; a telegram that is refused for its length has one.
+fn kind_of(telegram: &[u8]) -> usize {
+    if telegram.len() == 0 {
+        return 0;
+    }
+    (telegram[0] % 16) as usize
+}
+
+// A length that is not the type's: how long the telegram is, and how long it has to be.
+fn say_lengths(line: Line, telegram: &[u8]) -> Line {
+    let kind = kind_of(telegram);
+    let n = telegram.len();
+    let l = if TELEGRAM < n {
+        saying::say(line, b": more than 128 octets, ")
+    } else {
+        saying::say(
+            saying::say_number(saying::say(line, b": "), n as u64),
+            b" octets, ",
+        )
+    };
+    let l = saying::say(words::say_telegram(l, kind), b" has ");
+    saying::say_number(l, if kind == 3 { 40 } else { 128 })
+}
+
+fn print_refused(f: Refusal, telegram: &[u8]) {
+    let l = words::say_refused(f, b"");
+    if gateway::number(f) == 10 {
+        saying::print(say_lengths(l, telegram));
+        return;
+    }
+    saying::print(l);
+}
+
 fn take_store(fd: i32, path: &[u8], vehicle: usize, clock: u32, telegram: &[u8], store: &mut [u8]) {
     let outcome = gateway::take(store, vehicle, clock, telegram);
     match outcome {
         Outcome::Refused(f) => {
             files::drop_new(path, fd);
-            words::print_refused(f);
+            print_refused(f, telegram);
         }
         Outcome::Done => {
             if files::commit(1, b"STORE", path, fd, store) {

@@ -6,12 +6,14 @@ use gateway::Held;
 use gateway::HeldOutcome;
 use gateway::VEHICLES;
 use saying::Line;
+use saying::Page;
+use saying::add;
 use saying::empty;
-use saying::print;
 use saying::put;
 use saying::say;
 use saying::say_number;
 use saying::say_right;
+use saying::say_tab;
 
 // What is held of a vehicle: nothing in what is no store.
 fn held_of(store: &[u8], clock: u32, vehicle: usize) -> Held {
@@ -27,16 +29,36 @@ fn held_of(store: &[u8], clock: u32, vehicle: usize) -> Held {
     }
 }
 
+// An age above half of the counter's range: the stamp is after the clock rather than so long before it.
+fn say_age(line: Line, age: u64) -> Line {
+    let l = say(say_number(say(line, b" age "), age), b" ms");
+    if 2147483648 <= age {
+        return say(l, b" (stamp after the clock)");
+    }
+    l
+}
+
 // The head line of a vehicle.
-pub fn print_head(store: &[u8], clock: u32, vehicle: usize) {
+pub fn print_head(page: &mut Page, store: &[u8], clock: u32, vehicle: usize) {
     let l = say(say_number(say(empty(), b"vehicle "), vehicle as u64), b": ");
     let h = held_of(store, clock, vehicle);
     if !h.heard {
-        print(say(l, b"never heard"));
+        add(page, say(l, b"never heard"));
         return;
     }
     let l = say_number(say(say_telegram(l, h.kind), b" version "), h.version as u64);
-    print(say(say_number(say(l, b" age "), h.age as u64), b" ms"));
+    add(page, say_age(l, h.age as u64));
+}
+
+// The same as columns of a table, behind the vehicle's: telegram, version and age; a dash each where it was never heard.
+pub fn say_head(line: Line, store: &[u8], clock: u32, vehicle: usize) -> Line {
+    let h = held_of(store, clock, vehicle);
+    let l = put(say_number(line, vehicle as u64), b'\t');
+    if !h.heard {
+        return say(l, b"-\t-\t-");
+    }
+    let l = say_tab(say_telegram(l, h.kind), h.version as u64);
+    say_tab(l, h.age as u64)
 }
 
 pub fn is_heard(store: &[u8], vehicle: usize) -> bool {
@@ -71,14 +93,14 @@ fn say_ranges(line: Line, store: &[u8]) -> Line {
 }
 
 // The vehicles that were never heard, in one line.
-pub fn print_never(store: &[u8]) {
+pub fn print_never(page: &mut Page, store: &[u8]) {
     let head = say(empty(), b"never heard:");
     let l = say_ranges(head, store);
     if l.at == head.at {
-        print(say(l, b" none"));
+        add(page, say(l, b" none"));
         return;
     }
-    print(l);
+    add(page, l);
 }
 
 // How often each reason was given.
@@ -99,18 +121,18 @@ pub fn count_reason(totals: Totals, reason: u8) -> Totals {
     t
 }
 
-fn print_total(reason: u8, n: u64) {
+fn print_total(page: &mut Page, reason: u8, n: u64) {
     if 0 < n {
         let l = say_right(say(empty(), b"total"), 12, n);
-        print(say_reason(say(l, b"  "), reason));
+        add(page, say_reason(say(l, b"  "), reason));
     }
 }
 
 // A line for each reason that was given.
-pub fn print_totals(totals: Totals) {
+pub fn print_totals(page: &mut Page, totals: Totals) {
     let mut r: u8 = 0;
     while r < 9 {
-        print_total(r, totals.of[r as usize]);
+        print_total(page, r, totals.of[r as usize]);
         r += 1;
     }
 }

@@ -162,11 +162,15 @@ fn say_carried(line: Line, number: u8, carried: usize) -> Line {
 }
 
 // `of` says which file of several was refused.
-pub fn print_refused_of(f: Refusal, of: &[u8]) {
+pub fn say_refused(f: Refusal, of: &[u8]) -> Line {
     let number = gateway::number(f);
     let l = say_number(say(empty(), b"refused "), number as u64);
     let l = say(say_carried(l, number, gateway::carried(f)), of);
-    print(say_refusal(say(l, b": "), number));
+    say_refusal(say(l, b": "), number)
+}
+
+pub fn print_refused_of(f: Refusal, of: &[u8]) {
+    print(say_refused(f, of));
 }
 
 pub fn print_refused(f: Refusal) {

@@ -5,10 +5,10 @@ use Rattle.believe.proofs.all_vehicles.Statement.{statement}
 use Rattle.believe.proofs.all_vehicles.Tie as tie
 
 abbrev Inv-loop : tie.InvT-loop
-Inv-loop list signals store clock t₀ v₀ t v = 1 ≤ v
+Inv-loop page₀ list signals store asked t₀ v₀ page t v = 1 ≤ v
 
 abbrev μ-loop : tie.MeasureT-loop
-μ-loop list signals store clock t₀ v₀ t v = 64 - v
+μ-loop page₀ list signals store asked t₀ v₀ page t v = 64 - v
 
 pub all-vehicles-spec : {M : Type 1} → statement M
 all-vehicles-spec =
@@ -20,8 +20,10 @@ all-vehicles-spec =
     (λ c. search needs)
     (λ c κs. search needs)
     (λ c κs. search needs)
+    (λ c κs. search needs)
     (λ c. search needs)
     (λ c. search needs)
     (λ c. search needs)
     (λ c κs. search needs)
+    (λ c. search needs)
     (λ c. search needs))

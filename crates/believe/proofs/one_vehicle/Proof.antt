@@ -5,10 +5,10 @@ use Rattle.believe.proofs.one_vehicle.Statement.{statement}
 use Rattle.believe.proofs.one_vehicle.Tie as tie
 
 abbrev Inv-loop : tie.InvT-loop
-Inv-loop list signals store clock vehicle t₀ k₀ t k = Unit {0}
+Inv-loop page₀ list signals store asked t₀ k₀ page t k = Unit {0}
 
 abbrev μ-loop : tie.MeasureT-loop
-μ-loop list signals store clock vehicle t₀ k₀ t k = signals - k
+μ-loop page₀ list signals store asked t₀ k₀ page t k = signals - k
 
 pub one-vehicle-spec : {M : Type 1} → statement M
 one-vehicle-spec =

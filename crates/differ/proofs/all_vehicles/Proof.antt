@@ -5,10 +5,10 @@ use Rattle.differ.proofs.all_vehicles.Statement.{statement}
 use Rattle.differ.proofs.all_vehicles.Tie as tie
 
 abbrev Inv-loop : tie.InvT-loop
-Inv-loop first second store clock count₀ v₀ count v = 1 ≤ v
+Inv-loop page₀ first second store asked count₀ v₀ page count v = 1 ≤ v
 
 abbrev μ-loop : tie.MeasureT-loop
-μ-loop first second store clock count₀ v₀ count v = 64 - v
+μ-loop page₀ first second store asked count₀ v₀ page count v = 64 - v
 
 pub all-vehicles-spec : {M : Type 1} → statement M
 all-vehicles-spec =
@@ -20,8 +20,10 @@ all-vehicles-spec =
     (λ c. search needs)
     (λ c κs. search needs)
     (λ c κs. search needs)
+    (λ c κs. search needs)
     (λ c. search needs)
     (λ c. search needs)
     (λ c. search needs)
     (λ c κs. search needs)
+    (λ c. search needs)
     (λ c. search needs))

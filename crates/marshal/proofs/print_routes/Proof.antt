@@ -5,10 +5,10 @@ use Rattle.marshal.proofs.print_routes.Statement.{statement}
 use Rattle.marshal.proofs.print_routes.Tie as tie
 
 abbrev Inv-loop : tie.InvT-loop
-Inv-loop list routes store clock r₀ r = Unit {0}
+Inv-loop page₀ list routes store clock table r₀ page r = Unit {0}
 
 abbrev μ-loop : tie.MeasureT-loop
-μ-loop list routes store clock r₀ r = routes - r
+μ-loop page₀ list routes store clock table r₀ page r = routes - r
 
 pub print-routes-spec : {M : Type 1} → statement M
 print-routes-spec =

@@ -1,9 +1,9 @@
--- `compose::text::find` meets its contract. Assumes nothing.
+-- `compose::word::find` meets its contract. Assumes nothing.
 use Prim.Native.Nat.{_-_, _≤_}
 use lib.ListN.{length}
 use borrow.Author.Needs.{needs}
-use Rattle.compose.proofs.text.find.Statement.{statement}
-use Rattle.compose.proofs.text.find.Tie as tie
+use Rattle.compose.proofs.word.find.Statement.{statement}
+use Rattle.compose.proofs.word.find.Tie as tie
 
 abbrev Inv-loop : tie.InvT-loop
 Inv-loop text from octet i₀ i = (from ≤ i) × (i ≤ length text)

@@ -1,4 +1,4 @@
--- `differ::one_vehicle` is safe and ends: each pair's key is past the one before. Assumes nothing.
+-- `differ::all_signals` is safe and ends: each pair's key is past the one before. Assumes nothing.
 use Prim.Native.Nat.{_-_, _≤_, _<_}
 use mathlib.Core.Path.{sym, ap, _∙_}
 use native.Mathlib.Omega.{arith}
@@ -6,18 +6,18 @@ use borrow.Author.Needs.{needs}
 use Rattle.paper.specs.Pairs.{signalKeys}
 use Rattle.paper.proofs.PairLaws.{pairing-within}
 use Rattle.pairing.specs.Pairing.{pairingAnswer, pairOf}
-use Rattle.differ.proofs.one_vehicle.Statement.{statement}
-use Rattle.differ.proofs.one_vehicle.Tie as tie
+use Rattle.differ.proofs.all_signals.Statement.{statement}
+use Rattle.differ.proofs.all_signals.Tie as tie
 
 abbrev Inv-loop : tie.InvT-loop
-Inv-loop first second store clock vehicle count₀ key₀ count key = Unit {0}
+Inv-loop page₀ first second store asked count₀ key₀ page count key = Unit {0}
 
 abbrev μ-loop : tie.MeasureT-loop
-μ-loop first second store clock vehicle count₀ key₀ count key = signalKeys - key
+μ-loop page₀ first second store asked count₀ key₀ page count key = signalKeys - key
 
 -- where the next pair is known
 abbrev paired : tie.After-struct-known Inv-loop μ-loop → tie.After-pairing Inv-loop μ-loop
-paired c = c .before .before .before .before .before
+paired c = c .before .before .before .before .before .before
 
 -- it lies where it was looked for
 within : (c : tie.After-pairing Inv-loop μ-loop)
@@ -32,8 +32,8 @@ add-key c = omega (arith, within (paired c) .1)
 loop-less : tie.Need-loop-less Inv-loop μ-loop
 loop-less c = omega (arith, within (paired c) .0, within (paired c) .1)
 
-pub one-vehicle-spec : {M : Type 1} → statement M
-one-vehicle-spec =
+pub all-signals-spec : {M : Type 1} → statement M
+all-signals-spec =
     tie.close
     (tie.spec
     Inv-loop

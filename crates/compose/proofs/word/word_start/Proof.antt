@@ -1,9 +1,9 @@
--- `compose::text::word_start` meets its contract. Assumes nothing.
+-- `compose::word::word_start` meets its contract. Assumes nothing.
 use Prim.Native.Nat.{_-_, _≤_}
 use lib.ListN.{length}
 use borrow.Author.Needs.{needs}
-use Rattle.compose.proofs.text.word_start.Statement.{statement}
-use Rattle.compose.proofs.text.word_start.Tie as tie
+use Rattle.compose.proofs.word.word_start.Statement.{statement}
+use Rattle.compose.proofs.word.word_start.Tie as tie
 
 abbrev Inv-loop : tie.InvT-loop
 Inv-loop line k left₀ i₀ left i = i ≤ length line

@@ -1,9 +1,9 @@
--- `compose::text::word_end` meets its contract. Assumes nothing.
+-- `compose::word::word_end` meets its contract. Assumes nothing.
 use Prim.Native.Nat.{_-_, _≤_}
 use lib.ListN.{length}
 use borrow.Author.Needs.{needs}
-use Rattle.compose.proofs.text.word_end.Statement.{statement}
-use Rattle.compose.proofs.text.word_end.Tie as tie
+use Rattle.compose.proofs.word.word_end.Statement.{statement}
+use Rattle.compose.proofs.word.word_end.Tie as tie
 
 abbrev Inv-loop : tie.InvT-loop
 Inv-loop line from i₀ i = (from ≤ i) × (i ≤ length line)

@@ -1,0 +1,132 @@
+// Which entry of a refused list breaks which rule, in words. The numbers are those of the paper's sentences, in their order.
+use crate::said::say_field;
+use crate::said::say_refused;
+use crate::said::say_telegram;
+use gateway::Fault;
+use gateway::FaultOutcome;
+use gateway::Refusal;
+use saying::Line;
+use saying::print;
+use saying::put;
+use saying::say;
+use saying::say_number;
+
+fn say_check_rule(line: Line, rule: usize) -> Line {
+    match rule {
+        1 => say(line, b"its address is odd"),
+        2 => say(line, b"its address is below 16"),
+        3 => say(line, b"its address is above 1022"),
+        _ => say(line, b"its address is not above that of the check before"),
+    }
+}
+
+fn say_signal_rule(line: Line, rule: usize) -> Line {
+    match rule {
+        1 => say(line, b"width not 1-48"),
+        2 => say(line, b"type not 0-2"),
+        3 => say(
+            line,
+            b"not wholly in its type's addresses, 16-319 of type 0, 320-1023 of 1 and 2",
+        ),
+        4 => say(
+            line,
+            b"its check does not exist, or lies in the other types' addresses",
+        ),
+        5 => say(line, b"since-version not 1-255"),
+        6 => say(line, b"limit above 600,000"),
+        7 => say(line, b"replacement not below 2^width"),
+        8 => say(line, b"its type is below that of the signal before"),
+        9 => say(line, b"it starts before the end of the signal before"),
+        _ => say(line, b"it shares a bit with a check"),
+    }
+}
+
+fn say_code_rule(line: Line, rule: usize) -> Line {
+    match rule {
+        1 => say(line, b"no such signal"),
+        2 => say(line, b"its signal is wider than 16 bits"),
+        3 => say(line, b"low above high"),
+        4 => say(line, b"high not below 2^width"),
+        5 => say(
+            line,
+            b"its signal's number is below that of the code before",
+        ),
+        _ => say(line, b"low does not exceed the high before by at least 2"),
+    }
+}
+
+fn say_route_rule(line: Line, rule: usize) -> Line {
+    match rule {
+        1 => say(line, b"no such signal"),
+        2 => say(line, b"vehicle not 1-63"),
+        3 => say(line, b"its zero octet is not zero"),
+        4 => say(line, b"it ends past bit 2048"),
+        _ => say(line, b"it starts before the end of the route before"),
+    }
+}
+
+fn say_rule(line: Line, section: usize, rule: usize) -> Line {
+    match section {
+        1 => say_check_rule(line, rule),
+        2 => say_signal_rule(line, rule),
+        3 => say_code_rule(line, rule),
+        _ => say_route_rule(line, rule),
+    }
+}
+
+// The entry's number: checks count from 1, as a signal names them, all others from 0.
+fn say_entry(line: Line, f: Fault) -> Line {
+    let n = f.index as u64;
+    let section = f.section;
+    match section {
+        1 => say_number(say(line, b"check "), std::num::wrapping_add_u64(n, 1)),
+        2 => say_number(say(line, b"signal "), n),
+        3 => {
+            let l = say_number(say(line, b"code entry "), n);
+            say_number(say(l, b" of signal "), f.signal as u64)
+        }
+        _ => {
+            let l = say_number(say(line, b"route "), n);
+            say_number(say(l, b" of signal "), f.signal as u64)
+        }
+    }
+}
+
+fn say_type(line: Line, kind: usize) -> Line {
+    if 2 < kind {
+        return say_number(say(line, b"type "), kind as u64);
+    }
+    say_telegram(line, kind)
+}
+
+// Where the signal lies: a field of no bits, where it starts; a signal that does not exist, nowhere.
+fn say_where(line: Line, f: Fault) -> Line {
+    let section = f.section;
+    if section == 1 {
+        return say_field(say(line, b", "), f.start, f.width);
+    }
+    if (f.width == 0) & (section != 2) {
+        return line;
+    }
+    let l = put(say_type(say(line, b", "), f.kind), b' ');
+    if f.width == 0 {
+        return say_field(l, f.start, 1);
+    }
+    say_field(l, f.start, f.width)
+}
+
+fn say_fault(line: Line, f: Fault) -> Line {
+    let l = say_where(say_entry(say(line, b": "), f), f);
+    let l = say_number(say(l, b", rule "), f.rule as u64);
+    say_rule(say(l, b": "), f.section, f.rule)
+}
+
+// The refusal of a list, with the entry at fault where there is one.
+pub fn print_refused_list(list: &[u8], f: Refusal) {
+    let l = say_refused(f, b"");
+    let found = gateway::find_fault(list);
+    match found {
+        FaultOutcome::Entry(x) => print(say_fault(l, x)),
+        FaultOutcome::NoEntry => print(l),
+    }
+}
