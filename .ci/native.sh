@@ -2,24 +2,17 @@
 #   CC, STATIC          the C compiler for x86-64, and what it links with
 #   RUN                 what runs an x86-64 program: an emulator, or nothing
 #   cargo_x86, TARGET   cargo, set up to build for x86-64 and to run what it built; TARGET goes behind its first word
-#   library             proves and writes the library where it is not there or not of today; it and `run` wait for each other
+#   cargo_here          cargo, to build for this machine
+#   library             proves and writes the library where it is not there or not of today (rust/module.sh)
 # Installs what is missing, from Debian's packages.
 . .ci/need.sh
+. rust/module.sh
 
 # need_file FILE PACKAGE: as need, for a package that brings no command, or not the one that comes first in PATH
 need_file() {
     [ -e "$1" ] && return 0
     install_package "$2"
     [ -e "$1" ] || { echo "cannot install $2 for $1"; exit 1; }
-}
-
-library() {
-    local archive=target/staticlib/libdustferrule.a
-    mkdir -p target
-    (
-        flock 9
-        [ -e "$archive" ] && [ -z "$(find crates crates.txt -newer "$archive" -print -quit)" ] || rt staticlib dustferrule 9>&-
-    ) 9>target/build.lock
 }
 
 if [ "$(uname -m)" = x86_64 ]; then
@@ -51,3 +44,8 @@ else
             /usr/bin/cargo "$@"
     }
 fi
+
+# Debian's rustc where native.sh installs it, since it has the LLVM that the kit's compiler has.
+cargo_here() {
+    if [ -x /usr/bin/rustc ]; then RUSTC=/usr/bin/rustc /usr/bin/cargo "$@"; else cargo "$@"; fi
+}

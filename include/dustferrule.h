@@ -9,19 +9,8 @@
  *  - an area that is written overlaps no other area of the same call;
  *  - with length 0 the pointer is never read or written, but it must not be NULL: pass any non-null pointer.
  *
- * Results: `refusal` is 0, or a number of the table below; every field that an answer does not use is 0. A refused call changes no
+ * Results: `refusal` is 0, or a number of DF_REFUSALS below; every field that an answer does not use is 0. A refused call changes no
  * octet it was lent. Of the numbers that a call can meet, 1-4 come first, as judging the list meets them, then the lowest.
- *
- *    1 list ends inside a count or a section    10 length not the type's                    19 address not listed
- *    2 count above its limit                    11 no such signal                           20 nobody meets it
- *    3 entry breaks its rule                    12 data shorter than a route's end          21 E-telegram not 9 to 1,024 octets
- *    4 octets after the routes                  13 values or marks not one per entry        22 code neither request nor report
- *    5 store not DF_STORE_OCTETS octets         14 a written mark above 3                   23 answer to a report
- *    6 vehicle not 1-63                         15 a written value at or above 2^width,     24 head not 6 octets
- *    7 R-telegram under 2 octets                   or its code not known                    25 output under 9 octets
- *    8 application type not 1                   16 output length not the type's             26 scaled kind, width not 16 or raw above 65,535
- *    9 telegram type not 1-3                    17 consist empty or above 63 vehicles       27 no check place in the table
- *                                               18 consist rule broken
  *
  * `carried` is the offset in the list of the section's count (1, 2), of the entry (3) or of the first octet too many (4), and the number
  * of the signal, from 0, that is at fault (15). The rules of a list's entries stand in docs/PROMISES.md, under "The signal list".
@@ -40,6 +29,68 @@ extern "C" {
 /* The store: a slot for each of 63 vehicles, vehicle 1 first. A store of zeros has heard nobody. */
 #define DF_STORE_OCTETS 8379
 
+/* The refusals, in document 01's words: X(name, number, text). A new one is a line. */
+#define DF_REFUSALS(X) \
+    X(LIST_ENDS, 1, "list ends inside a count or a section") \
+    X(COUNT_ABOVE, 2, "count above its limit") \
+    X(ENTRY_BROKEN, 3, "entry breaks its rule") \
+    X(OCTETS_AFTER, 4, "octets after the routes") \
+    X(STORE_LENGTH, 5, "store not 8,379 octets") \
+    X(VEHICLE, 6, "vehicle not 1-63") \
+    X(TELEGRAM_SHORT, 7, "R-telegram under 2 octets") \
+    X(APPLICATION_TYPE, 8, "application type not 1") \
+    X(TELEGRAM_TYPE, 9, "telegram type not 1-3") \
+    X(TELEGRAM_LENGTH, 10, "length not the type's") \
+    X(NO_SUCH_SIGNAL, 11, "no such signal") \
+    X(DATA_SHORT, 12, "data shorter than a route's end") \
+    X(VALUES_OR_MARKS, 13, "values or marks not one per entry") \
+    X(MARK_ABOVE, 14, "a written mark above 3") \
+    X(VALUE_UNFIT, 15, "a written value at or above 2^width, or its code not known") \
+    X(OUTPUT_LENGTH, 16, "output length not the type's") \
+    X(CONSIST_LENGTH, 17, "consist empty or above 63") \
+    X(CONSIST_RULE, 18, "consist rule broken") \
+    X(ADDRESS_UNLISTED, 19, "address not listed") \
+    X(NOBODY_MEETS, 20, "nobody meets it") \
+    X(E_LENGTH, 21, "E-telegram length") \
+    X(E_CODE, 22, "code neither request nor report") \
+    X(ANSWER_TO_REPORT, 23, "answer to a report") \
+    X(HEAD_LENGTH, 24, "head not 6 octets") \
+    X(OUTPUT_SHORT, 25, "output under 9 octets") \
+    X(SCALED_KIND, 26, "scaled kind, with width not 16 or raw above 65,535") \
+    X(NO_CHECK_PLACE, 27, "no check place in the table")
+
+/* The reasons of a reading, likewise. */
+#define DF_REASONS(X) \
+    X(LIVE_OK, 0, "live ok") \
+    X(LIVE_FORCED, 1, "live forced") \
+    X(NEVER_HEARD, 2, "never heard") \
+    X(TOO_OLD, 3, "too old") \
+    X(TYPE_DOES_NOT_CARRY, 4, "type does not carry it") \
+    X(SINCE_ABOVE, 5, "since-version above the telegram's") \
+    X(MARK_ERROR, 6, "mark error") \
+    X(MARK_UNDEFINED, 7, "mark undefined") \
+    X(CODE_NOT_KNOWN, 8, "code not known")
+
+/* DF_REFUSAL_LIST_ENDS and so on, DF_REASON_LIVE_OK and so on. The fields of results are plain numbers, to be compared with these. */
+#define DF_AS_REFUSAL(name, number, text) DF_REFUSAL_##name = number,
+#define DF_AS_REASON(name, number, text) DF_REASON_##name = number,
+enum df_refusal { DF_NOT_REFUSED = 0, DF_REFUSALS(DF_AS_REFUSAL) };
+enum df_reason { DF_REASONS(DF_AS_REASON) };
+#undef DF_AS_REFUSAL
+#undef DF_AS_REASON
+
+/* The text of a number. The library has no strings: they stand in a program that calls these, and in no other. */
+#define DF_AS_CASE(name, number, text) case number: return text;
+static inline const char *df_refusal_text(uint32_t refusal)
+{
+    switch (refusal) { case DF_NOT_REFUSED: return "not refused"; DF_REFUSALS(DF_AS_CASE) default: return "no refusal has this number"; }
+}
+static inline const char *df_reason_text(uint32_t reason)
+{
+    switch (reason) { DF_REASONS(DF_AS_CASE) default: return "no reason has this number"; }
+}
+#undef DF_AS_CASE
+
 typedef struct { uint32_t refusal; uint64_t carried; } df_outcome;
 
 typedef struct { uint32_t refusal; uint64_t carried; uint64_t checks, signals, codes, routes, version; } df_judged;
@@ -47,10 +98,17 @@ typedef struct { uint32_t refusal; uint64_t carried; uint64_t checks, signals, c
 /* which: 0 no list was refused, 1 the first list, 2 the second; extends: 1 yes, 0 no */
 typedef struct { uint32_t refusal; uint32_t which; uint64_t carried; uint32_t extends; } df_extending;
 
+/* A signal's entry as it stands in the list, and the place of its check as a bit address, 0 for none.
+ * type: 0 common, 1 R1, 2 R2; check: 0 none, k the k-th check; limit: ms, 0 none */
+typedef struct {
+    uint32_t refusal; uint64_t carried; uint64_t start, width, type, check, since, limit, replacement, place;
+} df_entry;
+
+typedef struct { uint32_t refusal; uint64_t carried; uint64_t signal; } df_found;
+
 typedef struct { uint32_t refusal; uint64_t place; } df_place;
 
-/* reason: 0 live ok, 1 live forced, 2 never heard, 3 too old, 4 type does not carry it, 5 since-version above the telegram's,
- * 6 mark error, 7 mark undefined, 8 code not known; with 2 to 8 the value is the replacement */
+/* reason: a number of DF_REASONS; with 2 to 8 the value is the replacement */
 typedef struct { uint32_t refusal; uint32_t reason; uint64_t carried; uint64_t value; } df_reading;
 
 typedef struct { uint32_t refusal; uint64_t carried; uint64_t lives; } df_marshalled;
@@ -68,6 +126,12 @@ df_judged df_judge(const uint8_t *list, size_t list_len);
 
 /* Does the second list extend the first? Refusals 1-4 of the first list that is refused. */
 df_extending df_extends(const uint8_t *a, size_t a_len, const uint8_t *b, size_t b_len);
+
+/* The entry of a signal by its number, from 0. Refusals 1-4, then 11. */
+df_entry df_signal_entry(const uint8_t *list, size_t list_len, uint64_t signal);
+
+/* The number, from 0, of the signal of a type (0, 1 or 2) that starts at a bit address. Refusals 1-4, then 11. */
+df_found df_find_signal(const uint8_t *list, size_t list_len, uint64_t type, uint64_t start);
 
 /* The check place, as a bit address, of a bit of R1 octets 47-73. Refusal 27. */
 df_place df_check_place(uint64_t bit);

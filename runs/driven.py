@@ -84,6 +84,9 @@ def statuses(how, start, env=None):
         done = run(start("differ") + [COACH, second, STORE, "9000"], env=env)
         found = re.fullmatch(last, done.stdout.splitlines()[-1] if done.stdout else "")
         check(f"{how}, differ with {second}", done.returncode == status and found and not done.stderr, done)
+    for status, second in ((0, COACH), (1, NEXT)):
+        done = run(start("differ") + [COACH, second, STORE, "9000", "table"], env=env)
+        check(f"{how}, differ with {second} as a table", done.returncode == status and done.stdout.startswith("vehicle\t") and not done.stderr, done)
     end(2, ["differ", COACH, STORE, STORE, "9000"], err="refused ")
     end(2, ["differ", COACH, "data/none", STORE, "9000"], err="error: ")
     for name in PROGRAMS:
@@ -245,7 +248,7 @@ def once():
 
 
 def readme():
-    """Twice, in the tree itself; all but what builds C and Rust, which printed.py runs."""
+    """Twice, in the tree itself; all but what builds for C and Rust, which printed.py runs."""
     with copy() as tree:
         with open(os.path.join(tree, "README.md")) as f:
             text = f.read()
@@ -253,7 +256,7 @@ def readme():
         check("what is needed stands before the first command", re.search(r"Rattle kit.*minutes", text[:first], re.S) is not None)
         check("what document 01 is, and where its rules are", re.search(r"not in (this|the) repository", text) and "PROMISES" in text)
         subprocess.run("git init -q && git add -A", shell=True, cwd=tree, check=True)
-        text = re.sub(r"^\$ examples/.*\n(?:[^$`].*\n)*", "", text, flags=re.M)
+        text = re.sub(r"^\$ (?:examples/|\./run install-library ).*\n(?:[^$`].*\n)*", "", text, flags=re.M)
         for time_of_it in ("first", "second"):
             ran, others = printed.follow("README.md", text, tree)
             check(f"the README, followed a {time_of_it} time", ran > 10 and not others)

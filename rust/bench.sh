@@ -9,81 +9,17 @@ set -euo pipefail
 cd "$(dirname "$0")/.."
 . .ci/native.sh
 machine=$(uname -m)
-kit=$(dirname "$(dirname "$(rt doc)")")
-tools=$kit/on/$machine/toolchain
 room=$PWD/target/bench
-
-# link_all FROM TO: what is in one folder, into another that does not have it
-link_all() {
-    local file
-    mkdir -p "$2"
-    for file in "$1"/*; do
-        [ -e "$2/$(basename "$file")" ] || ln -s "$file" "$2/"
-    done
-}
-
-# A kit like the installed one, whose compiler keeps the module that it is given, and the words.
-keeping_kit() {
-    local own=$room/kit/on/$machine
-    rm -rf "$room/kit"
-    mkdir -p "$own/toolchain/bin"
-    printf '#!/bin/sh\nprintf "%%s\\n" "$@" >"%s/words"\ncp module.bc "%s/"\nexec "%s" "$@"\n' "$room" "$room" "$tools/bin/clang" \
-        >"$own/toolchain/bin/clang"
-    chmod +x "$own/toolchain/bin/clang"
-    link_all "$tools/bin" "$own/toolchain/bin"
-    link_all "$tools" "$own/toolchain"
-    link_all "$kit/on/$machine" "$own"
-    link_all "$kit" "$room/kit"
-}
-
-# Proves the library, writes its archive, and keeps its module as text.
-module() {
-    local text=$room/module.ll
-    [ -e "$text" ] && [ -e target/staticlib/libdustferrule.a ] && [ -z "$(find crates crates.txt -newer "$text" -print -quit)" ] && return 0
-    keeping_kit
-    RATTLE_HOME=$room/kit rt staticlib dustferrule
-    "$tools/bin/clang" --target=x86_64-unknown-linux-gnu -S -emit-llvm -Xclang -disable-llvm-passes -x ir "$room/module.bc" -o "$text"
-}
-
-# text_for MACHINE: a module of x86-64 as one of the machine
-text_for() {
-    [ "$1" != x86_64 ] || exec cat
-    sed -e '/^target datalayout/d' -e "s/^target triple.*/target triple = \"$1-unknown-linux-gnu\"/" -e 's/"target-cpu"="x86-64"//'
-}
-
-# archive MACHINE NAME: the module on standard input, compiled with the words that the kit compiles it with
-archive() {
-    local to=$room/$1 words=() word
-    mkdir -p "$to"
-    (text_for "$1") >"$to/$2.ll"
-    while read -r word; do
-        case $word in
-        --target=*) words+=("--target=$1-unknown-linux-gnu") ;;
-        -march=*) [ "$1" != x86_64 ] || words+=("$word") ;;
-        module.bc) words+=("$to/$2.ll") ;;
-        module.o) words+=("$to/$2.o") ;;
-        *) words+=("$word") ;;
-        esac
-    done <"$room/words"
-    "$tools/bin/clang" "${words[@]}"
-    rm -f "$to/lib$2.a"
-    "$tools/bin/llvm-ar" rcs "$to/lib$2.a" "$to/$2.o"
-}
 
 # libraries MACHINE: the library, and its field functions, which it does not export, from the same module
 libraries() {
-    module >&2
+    library >&2
     if [ "$1" = x86_64 ]; then
         mkdir -p "$room/$1" && cp target/staticlib/libdustferrule.a "$room/$1/"
     else
-        archive "$1" dustferrule <"$room/module.ll"
+        archive "$1" dustferrule "$room/$1" <"$kept/module.ll"
     fi
-    { sed 's/^define \(.*@df_\)/define internal \1/' "$room/module.ll" && cat rust/bench/fields.ll; } | archive "$1" fields
-}
-
-# Debian's rustc where native.sh installs it, since it has the LLVM that the kit's compiler has.
-cargo_here() {
-    if [ -x /usr/bin/rustc ]; then RUSTC=/usr/bin/rustc /usr/bin/cargo "$@"; else cargo "$@"; fi
+    { sed 's/^define \(.*@df_\)/define internal \1/' "$kept/module.ll" && cat rust/bench/fields.ll; } | archive "$1" fields "$room/$1"
 }
 
 # built CARGO [WORDS..]: the bench

@@ -28,6 +28,15 @@ static void lists(void)
     expect("df_extends", !e.refusal && !e.which && !e.carried && e.extends == 1);
     e = df_extends(L, sizeof L, L, sizeof L - 1);
     expect("df_extends", e.refusal == 1 && e.which == 2 && e.carried == 36 && !e.extends);
+    df_entry t = df_signal_entry(L, sizeof L, 0);
+    expect("df_signal_entry", !t.refusal && !t.carried && t.start == 8 * 53 && t.width == 4 && t.type == 1 && t.check == 1 && t.since == 1);
+    expect("df_signal_entry", t.limit == 5000 && !t.replacement && t.place == 8 * 40 + 2);
+    t = df_signal_entry(L, sizeof L, 1);
+    expect("df_signal_entry", t.refusal == DF_REFUSAL_NO_SUCH_SIGNAL && !t.carried && !t.start && !t.width && !t.limit && !t.place);
+    df_found f = df_find_signal(L, sizeof L, 1, 8 * 53);
+    expect("df_find_signal", !f.refusal && !f.carried && !f.signal);
+    f = df_find_signal(L, sizeof L - 1, 1, 8 * 53);
+    expect("df_find_signal", f.refusal == DF_REFUSAL_LIST_ENDS && f.carried == 36 && !f.signal);
     df_place p = df_check_place(8 * 61 + 4);
     expect("df_check_place", !p.refusal && p.place == 8 * 41 + 2);
 }
@@ -88,12 +97,23 @@ static void train(void)
     expect("df_e_answer", !o.refusal && !o.carried && !memcmp(out, "\6\5\4\3\2\1\x1A\x07\7\0", 10));
 }
 
+/* what is expected of texts: those of the first and last number, and something for every other */
+static void texts(void)
+{
+    expect("df_refusal_text", !strcmp(df_refusal_text(DF_REFUSAL_LIST_ENDS), "list ends inside a count or a section"));
+    expect("df_refusal_text", !strcmp(df_refusal_text(27), "no check place in the table") && DF_REFUSAL_NO_CHECK_PLACE == 27);
+    expect("df_refusal_text", !strcmp(df_refusal_text(DF_NOT_REFUSED), "not refused") && df_refusal_text(UINT32_MAX));
+    expect("df_reason_text", !strcmp(df_reason_text(DF_REASON_LIVE_OK), "live ok") && df_reason_text(UINT32_MAX));
+    expect("df_reason_text", !strcmp(df_reason_text(8), "code not known") && DF_REASON_CODE_NOT_KNOWN == 8);
+}
+
 int main(void)
 {
     lists();
     telegrams();
     shown();
     train();
+    texts();
     if (!bad)
         puts("every call of the header answers as it should");
     return bad;

@@ -19,16 +19,16 @@ static uint8_t store[DF_STORE_OCTETS];
 static int refused(uint32_t refusal, uint64_t carried)
 {
     if (refusal != 0)
-        printf("refused %" PRIu32 " at %" PRIu64 "\n", refusal, carried);
+        printf("refused %" PRIu32 " at %" PRIu64 ": %s\n", refusal, carried, df_refusal_text(refusal));
     return refusal != 0;
 }
 
-static int print_reading(uint32_t clock)
+static int print_reading(uint32_t clock, uint64_t signal)
 {
-    df_reading r = df_read(list, sizeof list, store, sizeof store, clock, 1, 0);
+    df_reading r = df_read(list, sizeof list, store, sizeof store, clock, 1, signal);
     if (refused(r.refusal, r.carried))
         return 1;
-    printf("value %" PRIu64 " reason %" PRIu32 "\n", r.value, r.reason);
+    printf("value %" PRIu64 " reason %" PRIu32 " %s\n", r.value, r.reason, df_reason_text(r.reason));
     return 0;
 }
 
@@ -48,8 +48,13 @@ int main(void)
     if (refused(taken.refusal, taken.carried))
         return 1;
 
+    /* The signal by its place: R1 octet 54 bit 0. */
+    df_found voltage = df_find_signal(list, sizeof list, 1, 8 * (54 - 1));
+    if (refused(voltage.refusal, voltage.carried))
+        return 1;
+
     /* At the age of 5,000 ms the value is live, a millisecond later it is replaced. */
-    if (print_reading(6000) || print_reading(6001))
+    if (print_reading(6000, voltage.signal) || print_reading(6001, voltage.signal))
         return 1;
 
     /* The route writes its four bits and leaves the others. */
@@ -61,5 +66,6 @@ int main(void)
 
     /* A list that lacks its last octet is refused, and the refusal says where. */
     df_judged cut = df_judge(list, sizeof list - 1);
-    return !refused(cut.refusal, cut.carried);
+    refused(cut.refusal, cut.carried);
+    return cut.refusal != DF_REFUSAL_LIST_ENDS;
 }

@@ -9,6 +9,7 @@ use Rattle.paper.specs.Answer.{Answer, gives, refused, forget, mapAnswer, Given
 use Rattle.paper.specs.Telegrams.{checkPlace}
 use Rattle.paper.specs.SignalList.{Counts, judge, OfTwo, ofBoth, firstRefused, secondRefused, GivenTwo, NumberedTwo}
 use Rattle.paper.specs.Extends.{extendsLists}
+use Rattle.paper.specs.Pairs.{Entry, entryOf, finding}
 use Rattle.paper.specs.Store.{taking}
 use Rattle.paper.specs.Reading.{Reading, reading}
 use Rattle.paper.specs.Marshalling.{Marshalled, marshalling}
@@ -19,7 +20,7 @@ use Rattle.paper.specs.ETelegrams.{EReading, eReading, answering}
 use Rattle.paper.proofs.RefusalLaws as laws
 use Rattle.dustferrule.specs.declared.DfOutcome.{DfOutcome}
 use Rattle.dustferrule.specs.declared.DfMarshalled.{DfMarshalled}
-use Rattle.dustferrule.specs.Results.{outcomeC, judgedC, extendingC, livesC, placeC, readingC, shownC, membersC, eReadC, WrittenC, DeliveredC}
+use Rattle.dustferrule.specs.Results.{outcomeC, judgedC, extendingC, entryC, foundC, livesC, placeC, readingC, shownC, membersC, eReadC, WrittenC, DeliveredC}
 
 -- ---- each result, of any answer
 
@@ -34,6 +35,12 @@ unfolding NumberedTwo
 extending-given (ofBoth b) h = (λ e. (b, refl), λ g. refl)
 extending-given (firstRefused n at) h = (λ e. absurd (omega arith), λ g. let e = g .1 in let z : _≡_ {A = ℕ} 0 1 = cc in absurd (omega arith))
 extending-given (secondRefused n at) h = (λ e. absurd (omega arith), λ g. let e = g .1 in let z : _≡_ {A = ℕ} 0 1 = cc in absurd (omega arith))
+
+pub entry-given : (a : Answer Entry) → Numbered a → (entryC a .refusal ≡ 0) ↔ Given a
+entry-given = laws.zero-given (λ a. entryC a .refusal) (λ a. refl) (λ n at. refl)
+
+pub found-given : (a : Answer ℕ) → Numbered a → (foundC a .refusal ≡ 0) ↔ Given a
+found-given = laws.zero-given (λ a. foundC a .refusal) (λ a. refl) (λ n at. refl)
 
 pub lives-given : (a : Answer ℕ) → Numbered a → (livesC a .refusal ≡ 0) ↔ Given a
 lives-given = laws.zero-given (λ a. livesC a .refusal) (λ a. refl) (λ n at. refl)
@@ -81,6 +88,12 @@ judge-given xs = judged-given _ (laws.numbered-judge xs)
 
 pub extends-given : (xs ys : List ℕ) → (extendingC (extendsLists xs ys) .refusal ≡ 0) ↔ GivenTwo (extendsLists xs ys)
 extends-given xs ys = extending-given _ (laws.numbered-extends xs ys)
+
+pub signal-entry-given : (xs : List ℕ) (k : ℕ) → (entryC (entryOf xs k) .refusal ≡ 0) ↔ Given (entryOf xs k)
+signal-entry-given xs k = entry-given _ (laws.numbered-entry xs k)
+
+pub find-signal-given : (xs : List ℕ) (type start : ℕ) → (foundC (finding xs type start) .refusal ≡ 0) ↔ Given (finding xs type start)
+find-signal-given xs type start = found-given _ (laws.numbered-finding xs type start)
 
 pub check-place-given : (b : ℕ) → (placeC (checkPlace b) .refusal ≡ 0) ↔ Given (checkPlace b)
 check-place-given b = place-given _ (laws.numbered-place b)

@@ -6,6 +6,7 @@ use mathlib.Core.List.{List}
 use lib.Ieee.{Float, binary32, ofBits}
 use Rattle.paper.specs.Answer.{Answer, gives, refused, after, forget, mapAnswer}
 use Rattle.paper.specs.SignalList.{Counts, OfTwo, ofBoth, firstRefused, secondRefused}
+use Rattle.paper.specs.Pairs.{Entry}
 use Rattle.paper.specs.Reading.{Reading}
 use Rattle.paper.specs.Marshalling.{Marshalled}
 use Rattle.paper.specs.Shown.{Shown, asCode, asSpeed, asPercentage, asCurrent}
@@ -14,6 +15,8 @@ use Rattle.paper.specs.ETelegrams.{EReading}
 use Rattle.dustferrule.specs.declared.DfOutcome.{DfOutcome}
 use Rattle.dustferrule.specs.declared.DfJudged.{DfJudged}
 use Rattle.dustferrule.specs.declared.DfExtending.{DfExtending}
+use Rattle.dustferrule.specs.declared.DfEntry.{DfEntry}
+use Rattle.dustferrule.specs.declared.DfFound.{DfFound}
 use Rattle.dustferrule.specs.declared.DfMarshalled.{DfMarshalled}
 use Rattle.dustferrule.specs.declared.DfPlace.{DfPlace}
 use Rattle.dustferrule.specs.declared.DfReading.{DfReading}
@@ -38,6 +41,27 @@ abbrev pub extendingC : OfTwo Bool → DfExtending
 extendingC (ofBoth b) = record { refusal = 0; which = 0; carried = 0; extends = yesNo b }
 extendingC (firstRefused n at) = record { refusal = n; which = 1; carried = at; extends = 0 }
 extendingC (secondRefused n at) = record { refusal = n; which = 2; carried = at; extends = 0 }
+
+-- the paper's type is the code's kind
+abbrev pub entryC : Answer Entry → DfEntry
+entryC (gives e) = record {
+  refusal = 0;
+  carried = 0;
+  start = e .signal .start;
+  width = e .signal .width;
+  kind = e .signal .type;
+  check = e .signal .check;
+  since = e .signal .since;
+  limit = e .signal .limit;
+  replacement = e .signal .replacement;
+  place = e .place;
+}
+entryC (refused n at) =
+    record { refusal = n; carried = at; start = 0; width = 0; kind = 0; check = 0; since = 0; limit = 0; replacement = 0; place = 0 }
+
+abbrev pub foundC : Answer ℕ → DfFound
+foundC (gives k) = record { refusal = 0; carried = 0; signal = k }
+foundC (refused n at) = record { refusal = n; carried = at; signal = 0 }
 
 abbrev pub livesC : Answer ℕ → DfMarshalled
 livesC (gives n) = record { refusal = 0; carried = 0; lives = n }

@@ -7,6 +7,7 @@ ghost use Rattle.paper.specs.Answer.{gives};
 ghost use Rattle.paper.specs.Telegrams.{checkPlace};
 ghost use Rattle.paper.specs.SignalList.{judge as judging};
 ghost use Rattle.paper.specs.Extends.{extendsLists};
+ghost use Rattle.paper.specs.Pairs.{entryOf, finding};
 ghost use Rattle.paper.specs.Store.{taking};
 ghost use Rattle.paper.specs.Reading.{reading};
 ghost use Rattle.paper.specs.Marshalling.{marshalling};
@@ -18,15 +19,18 @@ ghost use Rattle.refusals.specs.Refusal.{numberOf, carriedOf};
 ghost use Rattle.refusals.specs.Outcome.{outcomeOf};
 ghost use Rattle.lists.specs.Judged.{judgedAnswer};
 ghost use Rattle.extending.specs.Extending.{extendsAnswer};
+ghost use Rattle.finding.specs.Finding.{entryAnswer, foundAnswer};
 ghost use Rattle.marshalling.specs.Marshalling.{liveAnswer};
 ghost use Rattle.grouping.specs.Place.{placeAnswer};
 ghost use Rattle.reading.specs.Reading.{readAnswer};
 ghost use Rattle.shown.specs.Show.{kindOf, shownOf, showingAnswer};
 ghost use Rattle.train.specs.Marks.{vehicleOf, resolvedAnswer};
 ghost use Rattle.etelegrams.specs.Answers.{eReadAnswer};
-ghost use Rattle.dustferrule.specs.Results.{yesNo, floatOf, outcomeC, judgedC, extendingC, livesC, placeC, readingC, shownC, membersC, eReadC, WrittenC, DeliveredC};
+ghost use Rattle.dustferrule.specs.Results.{yesNo, floatOf, outcomeC, judgedC, extendingC, entryC, foundC, livesC, placeC, readingC, shownC, membersC, eReadC, WrittenC, DeliveredC};
 use gateway::ERead;
+use gateway::EntryOutcome;
 use gateway::ExtendsOutcome;
+use gateway::Found;
 use gateway::Judged;
 use gateway::Kind;
 use gateway::Marshalled;
@@ -63,6 +67,28 @@ pub struct DfExtending {
     pub which: u32,
     pub carried: u64,
     pub extends: u32,
+}
+
+// A signal's entry, kind being the paper's type, and the place of its check, 0 for none.
+#[repr(C)]
+pub struct DfEntry {
+    pub refusal: u32,
+    pub carried: u64,
+    pub start: u64,
+    pub width: u64,
+    pub kind: u64,
+    pub check: u64,
+    pub since: u64,
+    pub limit: u64,
+    pub replacement: u64,
+    pub place: u64,
+}
+
+#[repr(C)]
+pub struct DfFound {
+    pub refusal: u32,
+    pub carried: u64,
+    pub signal: u64,
 }
 
 #[repr(C)]
@@ -186,6 +212,57 @@ fn extending_c(o: ExtendsOutcome) -> DfExtending
             which: 2,
             carried: carried(f),
             extends: 0,
+        },
+    }
+}
+
+fn entry_c(o: EntryOutcome) -> DfEntry
+    ensures { λ r. ⌜ r ≡ entryC (entryAnswer o) ⌝ }
+{
+    match o {
+        EntryOutcome::Entry(e) => {
+            let s = e.signal;
+            DfEntry {
+                refusal: 0,
+                carried: 0,
+                start: s.start as u64,
+                width: s.width as u64,
+                kind: s.kind as u64,
+                check: s.check as u64,
+                since: s.since as u64,
+                limit: s.limit,
+                replacement: s.replacement,
+                place: e.place as u64,
+            }
+        }
+        EntryOutcome::Refused(f) => DfEntry {
+            refusal: number(f),
+            carried: carried(f),
+            start: 0,
+            width: 0,
+            kind: 0,
+            check: 0,
+            since: 0,
+            limit: 0,
+            replacement: 0,
+            place: 0,
+        },
+    }
+}
+
+fn found_c(o: Found) -> DfFound
+    ensures { λ r. ⌜ r ≡ foundC (foundAnswer o) ⌝ }
+{
+    match o {
+        Found::At(k) => DfFound {
+            refusal: 0,
+            carried: 0,
+            signal: k as u64,
+        },
+        Found::Refused(f) => DfFound {
+            refusal: number(f),
+            carried: carried(f),
+            signal: 0,
         },
     }
 }
@@ -321,6 +398,20 @@ pub extern "C" fn df_extends(a: &[u8], b: &[u8]) -> DfExtending
     ensures { λ r. ⌜ r ≡ extendingC (extendsLists (now (a .entry)) (now (b .entry))) ⌝ }
 {
     extending_c(gateway::extends(a, b))
+}
+
+#[no_mangle]
+pub extern "C" fn df_signal_entry(list: &[u8], signal: u64) -> DfEntry
+    ensures { λ r. ⌜ r ≡ entryC (entryOf (now (list .entry)) signal) ⌝ }
+{
+    entry_c(gateway::signal_entry(list, signal as usize))
+}
+
+#[no_mangle]
+pub extern "C" fn df_find_signal(list: &[u8], kind: u64, start: u64) -> DfFound
+    ensures { λ r. ⌜ r ≡ foundC (finding (now (list .entry)) kind start) ⌝ }
+{
+    found_c(gateway::find_signal(list, kind as usize, start as usize))
 }
 
 #[no_mangle]

@@ -9,6 +9,7 @@ use Rattle.paper.specs.Answer.{Answer, gives, refused, refuseIf, andThen
 use Rattle.paper.specs.Telegrams.{Row, covers, rows, placeIn, checkPlace}
 use Rattle.paper.specs.SignalList
 use Rattle.paper.specs.SignalList.{Counts, judge, OfTwo, ofTwo, firstRefused, secondRefused, NumberedTwo}
+use Rattle.paper.specs.Pairs.{entryOf, finding}
 use Rattle.paper.specs.Store.{taking}
 use Rattle.paper.specs.Reading.{reading}
 use Rattle.paper.specs.Marshalling.{marshalling}
@@ -90,6 +91,14 @@ numbered-in (r ∷ rs) b = by (covers r b) (numbered-in rs b)
 
 pub numbered-place : (b : ℕ) → Numbered (checkPlace b)
 numbered-place b = numbered-in rows b
+
+pub numbered-entry : (xs : List ℕ) (k : ℕ) → Numbered (entryOf xs k)
+unfolding entryOf
+numbered-entry xs k = numbered-under xs _ (λ n. numbered-if _ 11 _ _ (omega arith) (numbered-gives _))
+
+pub numbered-finding : (xs : List ℕ) (type start : ℕ) → Numbered (finding xs type start)
+unfolding finding
+numbered-finding xs type start = numbered-under xs _ (λ n. numbered-if _ 11 _ _ (omega arith) (numbered-gives _))
 
 pub numbered-taking : (store : List ℕ) (v now : ℕ) (telegram : List ℕ) → Numbered (taking store v now telegram)
 unfolding taking

@@ -1,6 +1,6 @@
 //! The bench example of document 01 in Rust: judges the list L, takes vehicle 1's telegram, reads the voltage selection and marshals it.
 
-use dustferrule::{judge, marshal, read, take, Refusal, STORE_OCTETS};
+use dustferrule::{find_signal, judge, marshal, read, take, Error, STORE_OCTETS};
 
 /// Voltage selection (4.3): R1 octet 54 bits 0-3, check octet 41 bits 2/3, known codes 0-6 and 15, limit 5,000 ms, routed to bits 0-3.
 #[rustfmt::skip]
@@ -11,7 +11,7 @@ const LIST: [u8; 44] = [
     0x00, 0x01, 0x00, 0x00, 0x01, 0x00, 0x00, 0x00,
 ];
 
-fn bench() -> Result<(), Refusal> {
+fn bench() -> Result<(), Error> {
     let mut telegram = [0; 128];
     telegram[0] = 0x11; // R1
     telegram[1] = 1; // version 1
@@ -28,10 +28,18 @@ fn bench() -> Result<(), Refusal> {
     let mut store = [0; STORE_OCTETS];
     take(&mut store, 1, 1_000, &telegram)?;
 
+    // The signal by its place: R1 octet 54 bit 0.
+    let voltage = find_signal(&LIST, 1, 8 * (54 - 1))?;
+
     // At the age of 5,000 ms the value is live, a millisecond later it is replaced.
     for clock in [6_000, 6_001] {
-        let reading = read(&LIST, &store, clock, 1, 0)?;
-        println!("value {} reason {}", reading.value, reading.reason);
+        let reading = read(&LIST, &store, clock, 1, voltage)?;
+        let reason = reading.reason;
+        println!(
+            "value {} reason {} {reason}",
+            reading.value,
+            reason.number()
+        );
     }
 
     // The route writes its four bits and leaves the others.
@@ -44,7 +52,7 @@ fn bench() -> Result<(), Refusal> {
 }
 
 fn main() {
-    if let Err(refusal) = bench() {
-        println!("refused {} at {}", refusal.number, refusal.carried);
+    if let Err(error) = bench() {
+        println!("{error}");
     }
 }

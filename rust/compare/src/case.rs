@@ -6,6 +6,8 @@ use std::fmt;
 pub enum Call {
     Judge,
     Extends,
+    SignalEntry,
+    FindSignal,
     CheckPlace,
     Take,
     Read,
@@ -40,9 +42,11 @@ const fn form(
 }
 
 impl Call {
-    pub const ALL: [Call; 11] = [
+    pub const ALL: [Call; 13] = [
         Call::Judge,
         Call::Extends,
+        Call::SignalEntry,
+        Call::FindSignal,
         Call::CheckPlace,
         Call::Take,
         Call::Read,
@@ -59,6 +63,8 @@ impl Call {
         match self {
             Call::Judge => form("judge", &["list"], None, &[]),
             Call::Extends => form("extends", &["list A", "list B"], None, &[]),
+            Call::SignalEntry => form("signal_entry", &["list"], None, &["signal"]),
+            Call::FindSignal => form("find_signal", &["list"], None, &["type", "start"]),
             Call::CheckPlace => form("check_place", &[], None, &["bit"]),
             Call::Take => form("take", &["store", "telegram"], Some(0), &["vehicle", "clock"]),
             Call::Read => form("read", &["list", "store"], None, &["clock", "vehicle", "signal"]),
@@ -153,22 +159,27 @@ impl fmt::Display for Hex<'_> {
 pub struct Answer {
     pub refusal: u32,
     pub carried: u64,
-    pub gives: [u64; 5],
+    pub gives: [u64; 8],
 }
 
 impl Answer {
-    pub fn refused(number: impl Into<u32>, carried: u64) -> Self {
+    /// A result with these fields behind the refusal and what it carries.
+    pub fn with<const N: usize>(refusal: u32, carried: u64, fields: [u64; N]) -> Self {
+        let mut gives = [0; 8];
+        gives[..N].copy_from_slice(&fields);
         Answer {
-            refusal: number.into(),
+            refusal,
             carried,
-            ..Answer::default()
+            gives,
         }
     }
 
+    pub fn refused(number: impl Into<u32>, carried: u64) -> Self {
+        Answer::with(number.into(), carried, [])
+    }
+
     pub fn gives<const N: usize>(fields: [u64; N]) -> Self {
-        let mut answer = Answer::default();
-        answer.gives[..N].copy_from_slice(&fields);
-        answer
+        Answer::with(0, 0, fields)
     }
 }
 

@@ -16,7 +16,9 @@ pub const REQUESTS: [u16; 25] = [
 
 pub fn case(r: &Random) -> Case {
     match r.below(100) {
-        0..=19 => Case::new(Call::Judge, vec![any_list(r)], vec![]),
+        0..=13 => Case::new(Call::Judge, vec![any_list(r)], vec![]),
+        14..=16 => signal_entry(r),
+        17..=19 => find_signal(r),
         20..=34 => {
             let (a, b) = pair::pair(r);
             Case::new(Call::Extends, vec![a, b], vec![])
@@ -31,6 +33,40 @@ pub fn case(r: &Random) -> Case {
         92..=94 => e_read(r),
         _ => e_answer(r),
     }
+}
+
+/// The number of a signal, mostly one that the list has.
+fn signal(r: &Random, list: &List) -> u64 {
+    let signals = list.signals.len() as u64;
+    match r.below(24) {
+        0 => r.of(&[signals, signals + 1, 256, u64::MAX]),
+        1 => r.beyond(0),
+        2..=4 => signals.saturating_sub(1),
+        _ => r.below(signals.max(1)),
+    }
+}
+
+fn signal_entry(r: &Random) -> Case {
+    let list = make::list_with_signals(r);
+    let number = signal(r, &list);
+    Case::new(Call::SignalEntry, vec![mostly_good(r, &list)], vec![number])
+}
+
+/// Mostly the type and start of a signal; else one of them is another, or both together are another signal's key.
+fn find_signal(r: &Random) -> Case {
+    let list = make::list_with_signals(r);
+    let wanted = list.signals.get(signal(r, &list) as usize);
+    let (kind, start) = wanted.map_or((r.below(3), r.below(1_024)), |s| (s.kind, s.start));
+    let numbers = match r.below(12) {
+        0 => vec![r.of(&[0, 1, 2, 3, 255, u64::MAX]), start],
+        1 => vec![r.beyond(kind), start],
+        2 => vec![kind, r.near(start)],
+        3 => vec![kind, r.beyond(start)],
+        4 => vec![kind.saturating_sub(1), start + 1_024],
+        5 => vec![r.below(4), r.below(1_100)],
+        _ => vec![kind, start],
+    };
+    Case::new(Call::FindSignal, vec![mostly_good(r, &list)], numbers)
 }
 
 fn check_place(r: &Random) -> Case {
@@ -97,12 +133,7 @@ fn read(r: &Random) -> Case {
     let list = make::list_with_signals(r);
     let now = store::clock(r);
     let store = store::store(r, &list, now);
-    let signals = list.signals.len() as u64;
-    let signal = match r.below(24) {
-        0 => r.of(&[signals, signals + 1, 256, u64::MAX]),
-        1 => r.beyond(0),
-        _ => r.below(signals.max(1)),
-    };
+    let signal = signal(r, &list);
     let areas = vec![mostly_good(r, &list), any_store(r, store)];
     Case::new(Call::Read, areas, vec![now.into(), vehicle(r), signal])
 }

@@ -35,6 +35,16 @@ fn wanted(call: Call) -> Vec<Row> {
             each("first refused", &[1, 2, 3, 4]),
             each("second refused", &[1, 2, 3, 4]),
         ],
+        Call::SignalEntry => [
+            each("type", &[0, 1, 2]),
+            vec![("no check", 0), ("a check", 0)],
+            refusals(&[1, 2, 3, 4, 11]),
+        ],
+        Call::FindSignal => [
+            each("type", &[0, 1, 2]),
+            refusals(&[1, 2, 3, 4, 11]),
+            vec![],
+        ],
         Call::CheckPlace => [
             (320..=352)
                 .step_by(2)
@@ -110,6 +120,12 @@ fn rows(case: &Case, answer: &Answer) -> Vec<Row> {
             rows
         }
         Call::Extends => vec![(["no", "yes"][first as usize], 0)],
+        Call::SignalEntry => {
+            let [_, _, kind, check, ..] = answer.gives;
+            let under = if check == 0 { "no check" } else { "a check" };
+            vec![("type", kind), (under, 0)]
+        }
+        Call::FindSignal => vec![("type", case.numbers[0])],
         Call::CheckPlace => vec![("place", first)],
         Call::Take => vec![("type", (case.areas[1][0] & 15).into())],
         Call::Read => vec![("reason", second)],
@@ -172,7 +188,7 @@ impl Reached {
 
 fn named((what, number): Row) -> String {
     match number {
-        0 if !matches!(what, "reason" | "kind") => what.to_string(),
+        0 if !matches!(what, "reason" | "kind" | "type") => what.to_string(),
         _ => format!("{what} {number}"),
     }
 }

@@ -17,12 +17,20 @@ fn misfit(call: Call) -> ! {
     panic!("{call:?}: areas or numbers do not fit")
 }
 
-/// `reference` and the wrappers of `dustferrule` have the same names and shapes: one text serves for both.
+fn refused_by_reference(refusal: reference::Refusal) -> Answer {
+    Answer::refused(refusal.number, refusal.carried)
+}
+
+fn refused_by_wrappers(error: dustferrule::Error) -> Answer {
+    Answer::refused(error.refusal.number(), error.carried)
+}
+
+/// `reference` and the wrappers of `dustferrule` have the same names and shapes, but for their refusals: one text serves for both.
 macro_rules! side {
-    ($side:ident, $library:ident) => {
+    ($side:ident, $library:ident, $refused:ident) => {
         pub fn $side(call: Call, mut lent: Lent) -> Answer {
-            use $library::{Extends, Kind, Refusal, Shown};
-            let refused = |refusal: Refusal| Answer::refused(refusal.number, refusal.carried);
+            use $library::{Extends, Kind, Shown};
+            let refused = $refused;
             let done = |()| Answer::default();
             let result = match (call, &mut lent.areas[..], lent.numbers) {
                 (Call::Judge, [list], []) => $library::judge(list).map(|n| {
@@ -30,16 +38,32 @@ macro_rules! side {
                     Answer::gives(counts.map(|count| count as u64))
                 }),
                 (Call::Extends, [a, b], []) => {
-                    let which = |refusal: Refusal, which| Answer {
-                        gives: [0, which, 0, 0, 0],
-                        ..refused(refusal)
+                    let which = |refused: Answer, which| {
+                        Answer::with(refused.refusal, refused.carried, [0, which])
                     };
                     Ok(match $library::extends(a, b) {
                         Extends::Yes => Answer::gives([1]),
                         Extends::No => Answer::gives([0]),
-                        Extends::First(refusal) => which(refusal, 1),
-                        Extends::Second(refusal) => which(refusal, 2),
+                        Extends::First(refusal) => which(refused(refusal), 1),
+                        Extends::Second(refusal) => which(refused(refusal), 2),
                     })
+                }
+                (Call::SignalEntry, [list], &[signal]) => {
+                    $library::signal_entry(list, signal).map(|e| {
+                        Answer::gives([
+                            e.start.into(),
+                            e.width.into(),
+                            e.kind.into(),
+                            e.check.into(),
+                            e.since.into(),
+                            e.limit.into(),
+                            e.replacement,
+                            e.place.into(),
+                        ])
+                    })
+                }
+                (Call::FindSignal, [list], &[kind, start]) => {
+                    $library::find_signal(list, kind, start).map(|number| Answer::gives([number]))
                 }
                 (Call::CheckPlace, [], &[bit]) => {
                     $library::check_place(bit).map(|place| Answer::gives([place]))
@@ -49,7 +73,7 @@ macro_rules! side {
                 }
                 (Call::Read, [list, store], &[clock, vehicle, signal]) => {
                     $library::read(list, store, clock as u32, vehicle, signal)
-                        .map(|r| Answer::gives([r.value, r.reason.into()]))
+                        .map(|r| Answer::gives([r.value, r.reason as u64]))
                 }
                 (Call::Marshal, [list, store, data], &[clock]) => {
                     $library::marshal(list, store, clock as u32, data)
@@ -89,8 +113,8 @@ macro_rules! side {
     };
 }
 
-side!(by_reference, reference);
-side!(by_wrappers, dustferrule);
+side!(by_reference, reference, refused_by_reference);
+side!(by_wrappers, dustferrule, refused_by_wrappers);
 
 fn outcome(r: raw::df_outcome) -> Answer {
     Answer::refused(r.refusal, r.carried)
@@ -98,46 +122,63 @@ fn outcome(r: raw::df_outcome) -> Answer {
 
 /// The library as C calls it: every field of a result is kept, also those that an answer does not use.
 pub fn by_header(call: Call, mut lent: Lent) -> Answer {
-    let (refusal, carried, gives) = match (call, &mut lent.areas[..], lent.numbers) {
+    match (call, &mut lent.areas[..], lent.numbers) {
         (Call::Judge, [list], []) => {
             let r = unsafe { raw::df_judge(list.as_ptr(), list.len()) };
             let counts = [r.checks, r.signals, r.codes, r.routes, r.version];
-            (r.refusal, r.carried, counts)
+            Answer::with(r.refusal, r.carried, counts)
         }
         (Call::Extends, [a, b], []) => {
             let r = unsafe { raw::df_extends(a.as_ptr(), a.len(), b.as_ptr(), b.len()) };
-            let gives = [r.extends.into(), r.which.into(), 0, 0, 0];
-            (r.refusal, r.carried, gives)
+            Answer::with(r.refusal, r.carried, [r.extends.into(), r.which.into()])
+        }
+        (Call::SignalEntry, [list], &[signal]) => {
+            let r = unsafe { raw::df_signal_entry(list.as_ptr(), list.len(), signal) };
+            let entry = [
+                r.start,
+                r.width,
+                r.kind,
+                r.check,
+                r.since,
+                r.limit,
+                r.replacement,
+                r.place,
+            ];
+            Answer::with(r.refusal, r.carried, entry)
+        }
+        (Call::FindSignal, [list], &[kind, start]) => {
+            let r = unsafe { raw::df_find_signal(list.as_ptr(), list.len(), kind, start) };
+            Answer::with(r.refusal, r.carried, [r.signal])
         }
         (Call::CheckPlace, [], &[bit]) => {
             let r = unsafe { raw::df_check_place(bit) };
-            (r.refusal, 0, [r.place, 0, 0, 0, 0])
+            Answer::with(r.refusal, 0, [r.place])
         }
         (Call::Take, [store, telegram], &[vehicle, clock]) => {
             let (to, from) = (store.as_mut_ptr(), telegram.as_ptr());
-            return outcome(unsafe {
+            outcome(unsafe {
                 raw::df_take(to, store.len(), vehicle, clock as u32, from, telegram.len())
-            });
+            })
         }
         (Call::Read, [list, store], &[clock, vehicle, signal]) => {
             let (list, len, from) = (list.as_ptr(), list.len(), store.as_ptr());
             let r = unsafe {
                 raw::df_read(list, len, from, store.len(), clock as u32, vehicle, signal)
             };
-            (r.refusal, r.carried, [r.value, r.reason.into(), 0, 0, 0])
+            Answer::with(r.refusal, r.carried, [r.value, r.reason.into()])
         }
         (Call::Marshal, [list, store, data], &[clock]) => {
             let (list, len, from) = (list.as_ptr(), list.len(), store.as_ptr());
             let (to, to_len) = (data.as_mut_ptr(), data.len());
             let r =
                 unsafe { raw::df_marshal(list, len, from, store.len(), clock as u32, to, to_len) };
-            (r.refusal, r.carried, [r.lives, 0, 0, 0, 0])
+            Answer::with(r.refusal, r.carried, [r.lives])
         }
         (Call::Compose, [list, marks, out], &[kind]) => {
             let (list, len, to) = (list.as_ptr(), list.len(), out.as_mut_ptr());
             let (values, number) = (lent.values.as_ptr(), lent.values.len());
             let (marks, checks) = (marks.as_ptr(), marks.len());
-            return outcome(unsafe {
+            outcome(unsafe {
                 raw::df_compose(
                     list,
                     len,
@@ -149,11 +190,9 @@ pub fn by_header(call: Call, mut lent: Lent) -> Answer {
                     to,
                     out.len(),
                 )
-            });
+            })
         }
-        (Call::Show, [], &[0, _, raw]) => {
-            return Answer::gives([0, unsafe { raw::df_show_code(raw) }]);
-        }
+        (Call::Show, [], &[0, _, raw]) => Answer::gives([0, unsafe { raw::df_show_code(raw) }]),
         (Call::Show, [], &[kind, width, raw]) => {
             let (r, tag) = unsafe {
                 match kind {
@@ -164,30 +203,25 @@ pub fn by_header(call: Call, mut lent: Lent) -> Answer {
                 }
             };
             let tag = if r.refusal == 0 { tag } else { 0 };
-            (r.refusal, 0, [tag, r.value.to_bits().into(), 0, 0, 0])
+            Answer::with(r.refusal, 0, [tag, r.value.to_bits().into()])
         }
         (Call::Resolve, [marks], &[address]) => {
             let r = unsafe { raw::df_resolve(marks.as_ptr(), marks.len(), address) };
-            (r.refusal, 0, [r.set, r.size.into(), 0, 0, 0])
+            Answer::with(r.refusal, 0, [r.set, r.size.into()])
         }
         (Call::ERead, [telegram], []) => {
             let r = unsafe { raw::df_e_read(telegram.as_ptr(), telegram.len()) };
-            let gives = [r.code.into(), r.report.into(), r.status.into(), 0, 0];
-            (r.refusal, 0, gives)
+            let gives = [r.code.into(), r.report.into(), r.status.into()];
+            Answer::with(r.refusal, 0, gives)
         }
         (Call::EAnswer, [telegram, head, out], &[status]) => {
             let (telegram, len) = (telegram.as_ptr(), telegram.len());
             let (head, head_len) = (head.as_ptr(), head.len());
             let (to, to_len) = (out.as_mut_ptr(), out.len());
-            return outcome(unsafe {
+            outcome(unsafe {
                 raw::df_e_answer(telegram, len, head, head_len, status as u8, to, to_len)
-            });
+            })
         }
         _ => misfit(call),
-    };
-    Answer {
-        refusal,
-        carried,
-        gives,
     }
 }

@@ -2,6 +2,7 @@
 
 use crate::case::{Call, Case};
 use crate::generate::REQUESTS;
+use crate::list::{List, Signal};
 use crate::store::plant;
 use reference::{STORE, TELEGRAM};
 
@@ -29,6 +30,7 @@ pub fn each(mut try_one: impl FnMut(Case)) {
     e_telegrams(&mut try_one);
     telegrams(&mut try_one);
     lists(&mut try_one);
+    signals(&mut try_one);
     readings(&mut try_one);
 }
 
@@ -129,6 +131,54 @@ fn lists(try_one: &mut impl FnMut(Case)) {
     }
 }
 
+/// 64 checks and 256 signals of all types, of which every fifth has no check; no two entries are alike.
+fn most_signals() -> List {
+    let mut list = List {
+        checks: (0..32).flat_map(|i| [16 + 2 * i, 320 + 2 * i]).collect(),
+        ..List::default()
+    };
+    list.checks.sort_unstable();
+    for (kind, count, first, apart) in [(0, 56, 80, 4), (1, 100, 384, 6), (2, 100, 384, 6)] {
+        list.signals.extend((0..count).map(|i| Signal {
+            start: first + apart * i,
+            width: apart - i % 2,
+            kind,
+            check: match i % 5 {
+                0 => 0,
+                _ => 1 + i % 32 + if kind == 0 { 0 } else { 32 },
+            },
+            since: 1 + i,
+            limit: 1_000 * i + kind,
+            replacement: i % 8,
+        }));
+    }
+    list
+}
+
+/// Every number, and every type with every start, of L and of a list with as many signals as there can be.
+fn signals(try_one: &mut impl FnMut(Case)) {
+    for list in [L.to_vec(), most_signals().octets()] {
+        for signal in (0..=300).chain(large()) {
+            try_one(Case::new(
+                Call::SignalEntry,
+                vec![list.clone()],
+                vec![signal],
+            ));
+        }
+        for kind in 0..=3 {
+            for start in 0..=1_100 {
+                let numbers = vec![kind, start];
+                try_one(Case::new(Call::FindSignal, vec![list.clone()], numbers));
+            }
+        }
+        for far in large() {
+            for numbers in [vec![far, 424], vec![1, far], vec![far, far]] {
+                try_one(Case::new(Call::FindSignal, vec![list.clone()], numbers));
+            }
+        }
+    }
+}
+
 /// The list L read with every head, every version, every mark and every code, at the ages around its limit.
 fn readings(try_one: &mut impl FnMut(Case)) {
     let mut read = |heard: u8, octets: [(usize, u8); 4], clock: u64| {
@@ -153,5 +203,17 @@ fn readings(try_one: &mut impl FnMut(Case)) {
     }
     for clock in [0, 1, 4_999, 5_000, 5_001, u64::from(u32::MAX)] {
         read(1, [(1, 0x11), (2, 1), (41, 0x10), (54, 0x40)], clock);
+    }
+}
+
+#[cfg(test)]
+mod tests {
+    use super::*;
+    use crate::list::MOST;
+
+    #[test]
+    fn the_list_with_most_signals_is_good() {
+        let counts = reference::judge(&most_signals().octets()).unwrap();
+        assert_eq!([counts.checks, counts.signals], [MOST[0], MOST[1]]);
     }
 }

@@ -1,13 +1,6 @@
 //! What the calls answer.
 
-/// A refusal of document 01's table.
-#[derive(Debug, Clone, Copy, PartialEq, Eq)]
-pub struct Refusal {
-    /// The number in the table, 1 to 27.
-    pub number: u8,
-    /// The offset of refusals 1 to 4, the signal number (from 0) of refusal 15; 0 with every other number.
-    pub carried: u64,
-}
+use crate::numbers::{Error, Reason};
 
 /// What a good list holds.
 #[derive(Debug, Clone, Copy, PartialEq, Eq)]
@@ -32,9 +25,30 @@ pub enum Extends {
     /// Both lists are good, and it does not.
     No,
     /// The first list was refused.
-    First(Refusal),
+    First(Error),
     /// The first list is good, and the second was refused.
-    Second(Refusal),
+    Second(Error),
+}
+
+/// A signal's entry, as it stands in its list.
+#[derive(Debug, Clone, Copy, PartialEq, Eq)]
+pub struct Entry {
+    /// Its first bit, as a bit address.
+    pub start: u16,
+    /// Its bits.
+    pub width: u8,
+    /// The type: 0 common, 1 R1, 2 R2.
+    pub kind: u8,
+    /// Which check of the list, from 1; 0 for none.
+    pub check: u8,
+    /// The since-version.
+    pub since: u8,
+    /// The time limit in ms; 0 for none.
+    pub limit: u32,
+    /// The replacement.
+    pub replacement: u64,
+    /// The place of its check, as a bit address; 0 for none.
+    pub place: u16,
 }
 
 /// A value and its reason.
@@ -42,9 +56,8 @@ pub enum Extends {
 pub struct Reading {
     /// The value read, or the replacement.
     pub value: u64,
-    /// 0 live ok, 1 live forced, 2 never heard, 3 too old, 4 type does not carry it, 5 since-version above the telegram's, 6 mark error,
-    /// 7 mark undefined, 8 code not known; with 2 to 8 the value is the replacement.
-    pub reason: u8,
+    /// Why it is this value.
+    pub reason: Reason,
 }
 
 /// How a raw value is to be shown.

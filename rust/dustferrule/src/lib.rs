@@ -1,36 +1,45 @@
 //! Dustferrule, the proved gateway library for UIC 556 train buses, for Rust programs.
 //!
 //! Every call is total: for all octets and numbers it answers or refuses, as document 01 says; a refusal changes no octet it was lent.
-//! Nothing here allocates, blocks or keeps state. The library itself is proved; these wrappers, which hand slices over and name what
-//! comes back, are not.
+//! Nothing here allocates, blocks, keeps state or needs the standard library. The library itself is proved; these wrappers, which hand
+//! slices over and name what comes back, are not.
 
+#![no_std]
 #![warn(missing_docs)]
 
 mod answers;
+mod numbers;
 pub mod raw;
 
-pub use answers::{Counts, EReading, Extends, Kind, Members, Reading, Refusal, Shown};
+pub use answers::{Counts, EReading, Entry, Extends, Kind, Members, Reading, Shown};
+pub use numbers::{Error, Reason, Refusal};
 
 /// The length of a store: a slot for each of 63 vehicles, vehicle 1 first. A store of zeros has heard nobody.
 // Spelled here too, since a program that links the library needs no other crate; `compare` does not build where `reference` has another.
 pub const STORE_OCTETS: usize = 8379;
 
 /// The answer, or the refusal where its number is not 0.
-fn unless_refused<T>(number: u32, carried: u64, answer: T) -> Result<T, Refusal> {
+fn unless_refused<T>(number: u32, carried: u64, answer: T) -> Result<T, Error> {
     match number {
         0 => Ok(answer),
-        _ => Err(Refusal {
-            number: number as u8,
+        _ => Err(Error {
+            refusal: Refusal::of(number).unwrap_or_else(|| newer_library("refusal", number)),
             carried,
         }),
     }
+}
+
+/// The library gives no number but those of the header: another was linked than these wrappers are for.
+#[cold]
+fn newer_library(what: &str, number: u32) -> ! {
+    panic!("the library that is linked gives {what} {number}, which these wrappers do not know: it is of another version")
 }
 
 // SAFETY, of every `unsafe` below: a slice names as much memory as its length says, is never null, also when empty, and one that is
 // lent for writing overlaps no other.
 
 /// Judges a signal list. Refusals 1 to 4.
-pub fn judge(list: &[u8]) -> Result<Counts, Refusal> {
+pub fn judge(list: &[u8]) -> Result<Counts, Error> {
     let judged = unsafe { raw::df_judge(list.as_ptr(), list.len()) };
     let counts = Counts {
         checks: judged.checks as usize,
@@ -48,19 +57,42 @@ pub fn extends(a: &[u8], b: &[u8]) -> Extends {
     match unless_refused(r.refusal, r.carried, r.extends) {
         Ok(0) => Extends::No,
         Ok(_) => Extends::Yes,
-        Err(refusal) if r.which == 1 => Extends::First(refusal),
-        Err(refusal) => Extends::Second(refusal),
+        Err(error) if r.which == 1 => Extends::First(error),
+        Err(error) => Extends::Second(error),
     }
 }
 
+/// The entry of a signal by its number, from 0. Refusals 1 to 4, then 11.
+pub fn signal_entry(list: &[u8], signal: u64) -> Result<Entry, Error> {
+    let r = unsafe { raw::df_signal_entry(list.as_ptr(), list.len(), signal) };
+    // An accepted entry has each number in as many octets as the list gives it.
+    let entry = Entry {
+        start: r.start as u16,
+        width: r.width as u8,
+        kind: r.kind as u8,
+        check: r.check as u8,
+        since: r.since as u8,
+        limit: r.limit as u32,
+        replacement: r.replacement,
+        place: r.place as u16,
+    };
+    unless_refused(r.refusal, r.carried, entry)
+}
+
+/// The number, from 0, of the signal of a type (0, 1 or 2) that starts at a bit address. Refusals 1 to 4, then 11.
+pub fn find_signal(list: &[u8], kind: u64, start: u64) -> Result<u64, Error> {
+    let r = unsafe { raw::df_find_signal(list.as_ptr(), list.len(), kind, start) };
+    unless_refused(r.refusal, r.carried, r.signal)
+}
+
 /// The check place, as a bit address, of a bit of R1 octets 47-73. Refusal 27.
-pub fn check_place(bit: u64) -> Result<u64, Refusal> {
+pub fn check_place(bit: u64) -> Result<u64, Error> {
     let r = unsafe { raw::df_check_place(bit) };
     unless_refused(r.refusal, 0, r.place)
 }
 
 /// Takes an R-telegram of a vehicle (1-63) at a clock value into the store. Refusals 5 to 10.
-pub fn take(store: &mut [u8], vehicle: u64, now: u32, telegram: &[u8]) -> Result<(), Refusal> {
+pub fn take(store: &mut [u8], vehicle: u64, now: u32, telegram: &[u8]) -> Result<(), Error> {
     let r = unsafe {
         raw::df_take(
             store.as_mut_ptr(),
@@ -81,7 +113,7 @@ pub fn read(
     now: u32,
     vehicle: u64,
     signal: u64,
-) -> Result<Reading, Refusal> {
+) -> Result<Reading, Error> {
     let r = unsafe {
         raw::df_read(
             list.as_ptr(),
@@ -95,13 +127,13 @@ pub fn read(
     };
     let reading = Reading {
         value: r.value,
-        reason: r.reason as u8,
+        reason: Reason::of(r.reason).unwrap_or_else(|| newer_library("reason", r.reason)),
     };
     unless_refused(r.refusal, r.carried, reading)
 }
 
 /// Writes every route's value into its field of the vehicle bus data and gives the number of live ones. Refusals 1 to 5, 12.
-pub fn marshal(list: &[u8], store: &[u8], now: u32, bus: &mut [u8]) -> Result<u64, Refusal> {
+pub fn marshal(list: &[u8], store: &[u8], now: u32, bus: &mut [u8]) -> Result<u64, Error> {
     let r = unsafe {
         raw::df_marshal(
             list.as_ptr(),
@@ -124,7 +156,7 @@ pub fn compose(
     values: &[u64],
     marks: &[u8],
     out: &mut [u8],
-) -> Result<(), Refusal> {
+) -> Result<(), Error> {
     let r = unsafe {
         raw::df_compose(
             list.as_ptr(),
@@ -142,7 +174,7 @@ pub fn compose(
 }
 
 /// Shows a raw value of a field of this width. The scaled kinds may be refused 26.
-pub fn show(kind: Kind, width: u64, raw: u64) -> Result<Shown, Refusal> {
+pub fn show(kind: Kind, width: u64, raw: u64) -> Result<Shown, Error> {
     let (r, shown): (_, fn(f32) -> Shown) = match kind {
         Kind::Code => return Ok(Shown::Code(unsafe { raw::df_show_code(raw) })),
         Kind::Speed => (unsafe { raw::df_show_speed(width, raw) }, Shown::Speed),
@@ -161,7 +193,7 @@ pub fn show(kind: Kind, width: u64, raw: u64) -> Result<Shown, Refusal> {
 
 /// The vehicles of a train that meet an address. A vehicle is one octet of marks: 1 leading, 2 coach, 4 tractive, 8 led, 16 sleeping;
 /// the three high bits are not read. Refusals 17 to 20.
-pub fn resolve(marks: &[u8], address: u64) -> Result<Members, Refusal> {
+pub fn resolve(marks: &[u8], address: u64) -> Result<Members, Error> {
     let r = unsafe { raw::df_resolve(marks.as_ptr(), marks.len(), address) };
     let members = Members {
         set: r.set,
@@ -171,7 +203,7 @@ pub fn resolve(marks: &[u8], address: u64) -> Result<Members, Refusal> {
 }
 
 /// Reads an E-telegram's code, request or report, and octet 9. Refusals 21, 22.
-pub fn e_read(telegram: &[u8]) -> Result<EReading, Refusal> {
+pub fn e_read(telegram: &[u8]) -> Result<EReading, Error> {
     let r = unsafe { raw::df_e_read(telegram.as_ptr(), telegram.len()) };
     let reading = EReading {
         code: r.code as u16,
@@ -182,7 +214,7 @@ pub fn e_read(telegram: &[u8]) -> Result<EReading, Refusal> {
 }
 
 /// Answers a request: head (6 octets), report code and status into the first 9 octets of `out`. Refusals 21 to 25.
-pub fn e_answer(telegram: &[u8], head: &[u8], status: u8, out: &mut [u8]) -> Result<(), Refusal> {
+pub fn e_answer(telegram: &[u8], head: &[u8], status: u8, out: &mut [u8]) -> Result<(), Error> {
     let r = unsafe {
         raw::df_e_answer(
             telegram.as_ptr(),

@@ -1,4 +1,5 @@
-//! `include/dustferrule.h`, line for line: what the proved library exports.
+//! `include/dustferrule.h`, line for line: what the proved library exports. (Its lists of refusals and reasons are [`crate::Refusal`] and
+//! [`crate::Reason`].)
 //!
 //! What the caller owes: each pointer with its length names memory that can be read (and written, where it is `*mut`), no longer than
 //! isize::MAX octets and aligned; an area that is written overlaps no other area of the same call; and no pointer is null, also with
@@ -33,6 +34,30 @@ pub struct df_extending {
     pub which: u32,
     pub carried: u64,
     pub extends: u32,
+}
+
+/// `kind`: the header's `type`; `place`: of its check, 0 for none.
+#[repr(C)]
+#[derive(Debug, Clone, Copy)]
+pub struct df_entry {
+    pub refusal: u32,
+    pub carried: u64,
+    pub start: u64,
+    pub width: u64,
+    pub kind: u64,
+    pub check: u64,
+    pub since: u64,
+    pub limit: u64,
+    pub replacement: u64,
+    pub place: u64,
+}
+
+#[repr(C)]
+#[derive(Debug, Clone, Copy)]
+pub struct df_found {
+    pub refusal: u32,
+    pub carried: u64,
+    pub signal: u64,
 }
 
 #[repr(C)]
@@ -88,6 +113,10 @@ extern "C" {
     pub fn df_judge(list: *const u8, list_len: usize) -> df_judged;
 
     pub fn df_extends(a: *const u8, a_len: usize, b: *const u8, b_len: usize) -> df_extending;
+
+    pub fn df_signal_entry(list: *const u8, list_len: usize, signal: u64) -> df_entry;
+
+    pub fn df_find_signal(list: *const u8, list_len: usize, kind: u64, start: u64) -> df_found;
 
     pub fn df_check_place(bit: u64) -> df_place;
 

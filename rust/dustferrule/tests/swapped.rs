@@ -1,14 +1,93 @@
-//! The tests of `reference`, run on the proved library: the same names stand for the other implementation.
+//! The tests of `reference`, run on the proved library: the same names stand for the other implementation. `reference` has numbers where the
+//! wrappers have a `Refusal` and a `Reason`; here they are numbers again.
 
 // Every test file brings what the tests share.
 #![allow(clippy::duplicate_mod)]
 
-extern crate dustferrule as reference;
+extern crate self as reference;
+
+use dustferrule::Error;
+pub use dustferrule::{Counts, EReading, Entry, Kind, Members, Shown};
+
+#[derive(Debug, Clone, Copy, PartialEq, Eq)]
+pub struct Refusal {
+    pub number: u8,
+    pub carried: u64,
+}
+
+#[derive(Debug, Clone, Copy, PartialEq, Eq)]
+pub struct Reading {
+    pub value: u64,
+    pub reason: u8,
+}
+
+#[derive(Debug, Clone, Copy, PartialEq, Eq)]
+pub enum Extends {
+    Yes,
+    No,
+    First(Refusal),
+    Second(Refusal),
+}
+
+fn plain(error: Error) -> Refusal {
+    Refusal {
+        number: error.refusal.number(),
+        carried: error.carried,
+    }
+}
+
+/// Each call with its refusal as a number.
+macro_rules! calls {
+    ($($call:ident($($name:ident: $of:ty),*) -> $gives:ty;)+) => {
+        $(pub fn $call($($name: $of),*) -> Result<$gives, Refusal> {
+            dustferrule::$call($($name),*).map_err(plain)
+        })+
+    };
+}
+
+calls! {
+    judge(list: &[u8]) -> Counts;
+    signal_entry(list: &[u8], signal: u64) -> Entry;
+    find_signal(list: &[u8], kind: u64, start: u64) -> u64;
+    check_place(bit: u64) -> u64;
+    take(store: &mut [u8], vehicle: u64, now: u32, telegram: &[u8]) -> ();
+    marshal(list: &[u8], store: &[u8], now: u32, bus: &mut [u8]) -> u64;
+    compose(list: &[u8], kind: u64, values: &[u64], marks: &[u8], out: &mut [u8]) -> ();
+    show(kind: Kind, width: u64, raw: u64) -> Shown;
+    resolve(marks: &[u8], address: u64) -> Members;
+    e_read(telegram: &[u8]) -> EReading;
+    e_answer(telegram: &[u8], head: &[u8], status: u8, out: &mut [u8]) -> ();
+}
+
+pub fn extends(a: &[u8], b: &[u8]) -> Extends {
+    match dustferrule::extends(a, b) {
+        dustferrule::Extends::Yes => Extends::Yes,
+        dustferrule::Extends::No => Extends::No,
+        dustferrule::Extends::First(error) => Extends::First(plain(error)),
+        dustferrule::Extends::Second(error) => Extends::Second(plain(error)),
+    }
+}
+
+pub fn read(
+    list: &[u8],
+    store: &[u8],
+    now: u32,
+    vehicle: u64,
+    signal: u64,
+) -> Result<Reading, Refusal> {
+    let read = dustferrule::read(list, store, now, vehicle, signal).map_err(plain)?;
+    Ok(Reading {
+        value: read.value,
+        reason: read.reason.number(),
+    })
+}
 
 #[path = "../../reference/tests/bench.rs"]
 mod bench;
 #[path = "../../reference/tests/compose.rs"]
 mod compose;
+#[path = "../../reference/tests/entry.rs"]
+mod entry;
 #[path = "../../reference/tests/etelegram.rs"]
 mod etelegram;
 #[path = "../../reference/tests/extends.rs"]

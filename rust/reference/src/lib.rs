@@ -9,6 +9,7 @@
 #![warn(missing_docs)]
 
 mod compose;
+mod entry;
 mod etelegram;
 mod extends;
 mod grouping;
@@ -23,6 +24,7 @@ mod store;
 mod train;
 
 pub use compose::compose;
+pub use entry::{find_signal, signal_entry, Entry};
 pub use etelegram::{e_answer, e_read, EReading};
 pub use extends::{extends, Extends};
 pub use grouping::check_place;
