@@ -120,7 +120,7 @@ fn span(line: &[u8], k: usize) -> Field
     between(first, address(word(line, k + 5), word(line, k + 7)))
 }
 
-// The field that the n words from word k on name.
+// Inner: the field that the n words from word k on name.
 pub fn field_at(line: &[u8], k: usize, n: usize) -> Field
     requires { ⌜ k ≤ 2 ⌝ }
 {

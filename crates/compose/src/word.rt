@@ -6,7 +6,7 @@ fn is_space(octet: u8) -> bool {
     (octet == 32) | (octet == 9) | (octet == 13)
 }
 
-// Where an octet first stands from `from` on, or the end.
+// Inner: where an octet first stands from `from` on, or the end.
 pub fn find(text: &[u8], from: usize, octet: u8) -> usize
     requires { ⌜ from ≤ length (now text) ⌝ }
     ensures { λ r. ⌜ (from ≤ r) × (r ≤ length (now (text .entry))) ⌝ }
