@@ -1,8 +1,11 @@
 #!/usr/bin/env bash
-# bench.sh [times|counts|page]: the proved library beside the independent implementation, as tables in Markdown. Outside the gate.
+# bench.sh [times|counts|page|lookup [page]]: the proved library beside the independent implementation, as tables in Markdown. Outside the
+# gate.
 #   times    medians and fastest samples, all in one process
 #   counts   instructions executed: of x86-64 code, and of this machine's where it is another (some minutes: x86-64 is emulated)
 #   page     both, into docs/BENCHMARK.md
+#   lookup   known codes by halving beside the linear scan that stood before, and today's reads, all in one process; the libraries of both
+#            commits are proved and built from this clone's history, some ten minutes each, once
 # On x86-64 the product's own archive is linked. On another machine emulated times would mean nothing: there the module that the archive
 # is made of is compiled for the machine, by the kit's compiler with the kit's flags.
 set -euo pipefail
@@ -27,6 +30,38 @@ built() {
     local cargo=$1
     shift
     (cd rust && "$cargo" build "$@" --locked -q --profile measured -p bench)
+}
+
+# The commit that brought the lookup by halving. It and the one before it differ in that alone.
+HALVING=5c0cb04471b87f973d5f55e27b08a37a2cd00002
+
+# of_history NAME COMMIT: the library of a commit, its calls as NAME_df_.., and its lookup, which it does not export, as NAME_known
+of_history() {
+    local name=$1 here=$PWD commit tree
+    commit=$(git rev-parse -q --verify "$2^{commit}") || { echo "bench.sh: $2 is not in this clone's history" >&2; exit 1; }
+    tree=$room/history/$commit
+    if [ ! -e "$tree" ]; then
+        rm -rf "$tree.new" && mkdir -p "$tree.new"
+        git archive "$commit" | tar -x -C "$tree.new"
+        mv "$tree.new" "$tree"
+    fi
+    (
+        cd "$tree"
+        . "$here/rust/module.sh"
+        library >&2
+        sed "s/@df_/@${name}_df_/g" "$kept/module.ll" | archive "$machine" "$name" "$room/$machine"
+        { sed 's/^define \(.*@df_\)/define internal \1/' "$kept/module.ll" && sed "s/NAME/$name/" "$here/rust/bench/known.ll"; } |
+            archive "$machine" "${name}_known" "$room/$machine"
+    )
+}
+
+looked_up() {
+    of_history linear "$HALVING^"
+    of_history halving "$HALVING"
+    libraries "$machine"
+    BENCH_LIB=$room/$machine built cargo_here --features lookup
+    rust/target/measured/bench lookup >"$room/lookup.md"
+    if [ "${1:-}" = page ]; then python3 rust/bench/page.py lookup <"$room/lookup.md"; else cat "$room/lookup.md"; fi
 }
 
 timed() {
@@ -85,5 +120,6 @@ case ${1:-times} in
 times) timed ;;
 counts) counted ;;
 page) page ;;
-*) echo "usage: bench.sh [times|counts|page]" >&2; exit 2 ;;
+lookup) looked_up "${2:-}" ;;
+*) echo "usage: bench.sh [times|counts|page|lookup [page]]" >&2; exit 2 ;;
 esac

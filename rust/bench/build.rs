@@ -1,4 +1,5 @@
-//! Links the proved library and its field functions, which `bench.sh` writes for this machine into the folder that `BENCH_LIB` names.
+//! Links the proved library and its field functions, which `bench.sh` writes for this machine into the folder that `BENCH_LIB` names; with
+//! the feature `lookup` the two libraries of the history too.
 
 use std::env;
 
@@ -9,7 +10,11 @@ fn main() {
         println!("cargo::error=BENCH_LIB is not set: run rust/bench.sh");
         return;
     };
-    for library in ["dustferrule", "fields"] {
+    let mut libraries = vec!["dustferrule", "fields"];
+    if env::var("CARGO_FEATURE_LOOKUP").is_ok() {
+        libraries.extend(["linear", "linear_known", "halving", "halving_known"]);
+    }
+    for library in libraries {
         println!("cargo::rerun-if-changed={folder}/lib{library}.a");
         println!("cargo::rustc-link-lib=static={library}");
     }

@@ -108,7 +108,7 @@ pub fn growing(units: usize) -> [Case; 3] {
 fn reads() -> Vec<Case> {
     let longest = leak(lists::list(64, 5_000));
     let store = leak(lists::store(&lists::telegram()));
-    let coded = leak(lists::coded(500));
+    let coded = leak(lists::coded(1, &lists::ranges(500)));
     // The last code of the last entry.
     let mut telegram = vec![0x11, 1];
     telegram.resize(128, 0);

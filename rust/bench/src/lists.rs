@@ -77,23 +77,31 @@ fn routes(list: &mut Vec<u8>, units: usize) {
     }
 }
 
-/// One signal of 16 bits with `entries` code entries, one check and one route.
-pub fn coded(entries: usize) -> Vec<u8> {
+/// One check, so many signals of 16 bits under it, side by side, with these code entries (signal, low, high), and one route.
+pub fn coded(signals: usize, entries: &[(usize, usize, usize)]) -> Vec<u8> {
     let mut list = Vec::new();
     put16(&mut list, 1);
     put16(&mut list, 322);
-    put16(&mut list, 1);
-    put16(&mut list, 400);
-    list.extend([16, 1, 1, 1, 0, 0, 0x13, 0x88, 0, 0, 0, 0, 0, 0]);
-    put16(&mut list, entries);
-    for number in 0..entries {
-        put16(&mut list, 0);
-        put16(&mut list, 100 * number);
-        put16(&mut list, 100 * number + 50);
+    put16(&mut list, signals);
+    for number in 0..signals {
+        put16(&mut list, 400 + 16 * number);
+        list.extend([16, 1, 1, 1, 0, 0, 0x13, 0x88, 0, 0, 0, 0, 0, 0]);
+    }
+    put16(&mut list, entries.len());
+    for &(signal, low, high) in entries {
+        put16(&mut list, signal);
+        put16(&mut list, low);
+        put16(&mut list, high);
     }
     put16(&mut list, 1);
     list.extend([0, 0, 1, 0, 0, 0]);
     list
+}
+
+/// So many code entries of signal 0, 51 codes each and 49 between two.
+pub fn ranges(entries: usize) -> Vec<(usize, usize, usize)> {
+    let range = |number| (0, 100 * number, 100 * number + 50);
+    (0..entries).map(range).collect()
 }
 
 /// One value for each signal of [`list`], none of them code 1.

@@ -3,10 +3,13 @@
 //!     bench                       times, and how they grow
 //!     bench count RUNS            makes every call so often between two marks, for what counts instructions
 //!     bench counted RUNS FILE ..  the counts, one for each mark, of one machine or more
+//!     bench lookup                with the feature `lookup`: known codes by halving and by the linear scan that stood before
 
 mod cases;
 mod counts;
 mod lists;
+#[cfg(feature = "lookup")]
+mod lookup;
 mod measure;
 mod proved;
 mod rust;
@@ -101,6 +104,8 @@ fn main() {
     let words: Vec<&str> = words.iter().map(String::as_str).collect();
     match words[..] {
         [] => timed(),
+        #[cfg(feature = "lookup")]
+        ["lookup"] => lookup::timed(),
         ["count", runs] => counts::run(all(), number(runs)),
         ["counted", ref files @ ..] => counted(files),
         _ => panic!("usage: bench, bench count RUNS, or bench counted RUNS FILE .."),

@@ -36,19 +36,21 @@ fn times(mut samples: Vec<Duration>, calls: u64) -> Times {
     }
 }
 
+/// The times of each of these, which make so many calls a run, sampled in turn.
+pub fn each<const SIDES: usize>(mut sides: [&mut Run; SIDES], calls: u64) -> [Times; SIDES] {
+    let runs = sides.each_mut().map(|side| runs_of(side));
+    let mut samples = [const { Vec::new() }; SIDES];
+    for _ in 0..SAMPLES {
+        for (number, side) in sides.iter_mut().enumerate() {
+            samples[number].push(sample(side, runs[number]));
+        }
+    }
+    let mut runs = runs.into_iter();
+    samples.map(|samples| times(samples, calls * runs.next().unwrap_or(1)))
+}
+
 /// The times of the proved side and of the other.
 pub fn both(case: &mut Case) -> (Times, Times) {
-    let (ours, theirs) = (runs_of(&mut case.proved), runs_of(&mut case.rust));
-    let (proved, rust) = (0..SAMPLES)
-        .map(|_| {
-            (
-                sample(&mut case.proved, ours),
-                sample(&mut case.rust, theirs),
-            )
-        })
-        .unzip();
-    (
-        times(proved, ours * case.calls),
-        times(rust, theirs * case.calls),
-    )
+    let [proved, rust] = each([&mut case.proved, &mut case.rust], case.calls);
+    (proved, rust)
 }

@@ -65,7 +65,7 @@ pub struct ERead {
     status: u32,
 }
 
-type To<T> = *mut MaybeUninit<T>;
+pub type To<T> = *mut MaybeUninit<T>;
 
 extern "C" {
     fn df_judge(to: To<Judged>, list: *const u8, list_len: usize);
@@ -125,7 +125,7 @@ extern "C" {
 // that is handed a place for its answer always writes the whole answer.
 
 #[inline(always)]
-fn answer<T>(call: impl FnOnce(To<T>)) -> T {
+pub fn answer<T>(call: impl FnOnce(To<T>)) -> T {
     let mut to = MaybeUninit::uninit();
     call(&mut to);
     unsafe { to.assume_init() }
