@@ -45,7 +45,7 @@ fn value_fits(list: &[u8], n: Counts, kind: usize, values: &[u64], k: usize, own
     let s = lists::signal_in(list, n, k);
     let v = values[k];
     !telegrams::is_carried(kind, s.kind)
-        | (v < entries::pow2(s.width)) & known::knows(list, n, k, own, v)
+        | octets::fits(v, s.width) & known::knows(list, n, k, own, v)
 }
 
 // The first check with a written mark above 3, or the number of checks.

@@ -6,7 +6,7 @@ use mathlib.Core.Bool.{Bool, true, false, not, _&&_, _||_}
 use native.Mathlib.Omega.{arith}
 use lib.Dec.{leb, eqb}
 use borrow.Author.Tests.{lt-ltb, le-leb, ne-eqb}
-use Rattle.paper.specs.SignalList.{Signal, Code, Route, fieldEnd, clearRule, signalRule, codeRule, routeEnd, routeRule}
+use Rattle.paper.specs.SignalList.{Signal, Code, Route, fieldEnd, clearRule, signalRule, signalRuleTo, codeRule, routeEnd, routeRule}
 use Rattle.bools.proofs.Tests.{stops-short, asks-on}
 use Rattle.entries.specs.Entries.{inOrder, ownRule, codeKeeps, routeKeeps}
 
@@ -35,7 +35,7 @@ first-in-order (suc group) start = rw (lt-ltb 0 (suc group) (omega arith))
 module _ (checks : ℕ) (check : ℕ → ℕ) (signal : ℕ → Signal) (k : ℕ) {kind past : ℕ} {s : Signal}
     (type : Before (λ j. signal j .type) k kind) (end : Before (λ j. fieldEnd (signal j)) k past) (here : s ≡ signal k) where
   in-two : signalRule checks check signal k ≡ (ownRule checks check kind past s && clearRule checks check s)
-  unfolding signalRule ownRule
+  unfolding signalRuleTo ownRule
   in-two = rw (here, asks-before (λ a b. inOrder a b (signal k .type) (signal k .start)) (first-in-order (signal k .type) (signal k .start)) k type end)
 
   -- b is what the test of its own part gave: it settles the entry, or leaves it to the checks

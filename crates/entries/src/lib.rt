@@ -19,7 +19,7 @@ pub const CODE_SIZE: usize = 6;
 pub const ROUTE_SIZE: usize = 6;
 
 // The greatest width of a field.
-pub const WIDEST: usize = 48;
+pub const WIDEST: usize = 64;
 
 pub struct Signal {
     pub start: usize,
@@ -50,14 +50,6 @@ pub fn before(k: usize) -> usize
     ensures { λ r. ⌜ r ≡ k - 1 ⌝ }
 {
     if 0 < k { k - 1 } else { 0 }
-}
-
-// Inner: every field is narrow enough.
-pub fn pow2(w: usize) -> u64
-    requires { ⌜ w < 64 ⌝ }
-    ensures { λ r. ⌜ r ≡ 2 ^ w ⌝ }
-{
-    1 << w
 }
 
 // The octet at `at`, 0 past the end: a number that an entry names is not known to exist until its rule was tested.
@@ -175,10 +167,9 @@ pub fn named_rule(list: &[u8], checks: usize, s: Signal) -> bool
 }
 
 fn value_rule(s: Signal) -> bool
-    requires { ⌜ s .width ≤ widest ⌝ }
     ensures { λ r. ⌜ r ≡ valueRule (signalOf s) ⌝ }
 {
-    (1 <= s.since) & (s.since <= 255) & (s.limit <= 600000) & (s.replacement < pow2(s.width))
+    (1 <= s.since) & (s.since <= 255) & (s.limit <= 600000) & octets::fits(s.replacement, s.width)
 }
 
 // An entry of `group` that begins at `start`, behind one of the group `last` that reaches to `past`: groups never fall, and within one it begins no earlier.
@@ -188,18 +179,14 @@ fn in_order(last: usize, past: usize, group: usize, start: usize) -> bool
     (last < group) | (last == group) & (past <= start)
 }
 
-// Inner: s, behind a field of type `kind` that ends at `past`, keeps its rule but for the checks that it may share a bit with. The width first: only then is
-// 2^width computed.
+// Inner: s, behind a field of type `kind` that ends at `past`, keeps its rule but for the checks that it may share a bit with.
 pub fn signal_own(list: &[u8], checks: usize, kind: usize, past: usize, s: Signal) -> bool
     requires { ⌜ entry checkSize checks ≤ length (now list) ⌝ }
     requires { ⌜ Placeable s ⌝ }
     ensures { λ r. ⌜ r ≡ ownRule checks (checkAt (now (list .entry))) kind past (signalOf s) ⌝ }
 {
-    let w = s.width;
-    if WIDEST < w {
-        return false;
-    }
-    (1 <= w)
+    (1 <= s.width)
+        & (s.width <= WIDEST)
         & (s.kind <= 2)
         & place_rule(s)
         & named_rule(list, checks, s)
@@ -239,7 +226,7 @@ pub fn code_rule(sig: &[u8], signals: usize, last: usize, least: usize, c: Code)
     if 16 < w {
         return false;
     }
-    (c.low <= c.high) & ((c.high as u64) < pow2(w)) & in_order(last, least, c.signal, c.low)
+    (c.low <= c.high) & octets::fits(c.high as u64, w) & in_order(last, least, c.signal, c.low)
 }
 
 // Inner: r, behind a route that ends at `past`, keeps its rule.

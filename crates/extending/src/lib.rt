@@ -99,7 +99,7 @@ fn codes_kept(
         return ranges_kept(a, m, b, n, i, own, j, its);
     }
     let s = lists::signal_in(a, m, i);
-    range_kept(b, n, j, its, 0, entries::pow2(s.width) as usize - 1)
+    range_kept(b, n, j, its, 0, octets::most(s.width) as usize)
 }
 
 // Equal type, start, width, check place and since-version; p and q are the places. The same signal goes by type and start, never by its number.

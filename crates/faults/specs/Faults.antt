@@ -3,6 +3,7 @@ use Prim.Native.Nat.{ℕ, _+_, _^_}
 use mathlib.Core.Bool.{Bool, not, _&&_, _||_}
 use mathlib.Core.List.{List, [], _∷_}
 use lib.Dec.{ltb, leb, eqb}
+use Rattle.paper.specs.Octets.{fits}
 use Rattle.paper.specs.SignalList.{Signal, Code, Route, fieldEnd, routeEnd, widthRule, typeRule, placeRule, namedRule}
 use Rattle.paper.specs.Answer.{Sought, found, nothing}
 use Rattle.paper.specs.Broken.{Fault as PaperFault}
@@ -33,7 +34,7 @@ placeTests checks check s = widthRule s ∷ typeRule s ∷ placeRule s ∷ named
 
 -- since, limit and replacement of s; the order of k behind p
 abbrev pub valueTests : Signal → List Bool
-valueTests s = (leb 1 (s .since) && leb (s .since) 255) ∷ leb (s .limit) 600000 ∷ ltb (s .replacement) (2 ^ s .width) ∷ []
+valueTests s = (leb 1 (s .since) && leb (s .since) 255) ∷ leb (s .limit) 600000 ∷ fits (s .replacement) (s .width) ∷ []
 
 abbrev pub orderTests : ℕ → Signal → Signal → List Bool
 orderTests k p s =
@@ -42,7 +43,7 @@ orderTests k p s =
 -- of a code entry c behind p, of a signal of so many bits
 abbrev pub codeTestsOf : ℕ → ℕ → ℕ → Code → Code → List Bool
 codeTestsOf signals width k p c =
-    ltb (c .signal) signals ∷ leb width 16 ∷ leb (c .low) (c .high) ∷ ltb (c .high) (2 ^ width)
+    ltb (c .signal) signals ∷ leb width 16 ∷ leb (c .low) (c .high) ∷ fits (c .high) width
     ∷ (eqb k 0 || leb (p .signal) (c .signal)) ∷ (eqb k 0 || not (eqb (p .signal) (c .signal)) || leb (p .high + 2) (c .low)) ∷ []
 
 -- of a route r that ends at `end`, behind one that ends at `past`

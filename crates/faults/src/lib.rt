@@ -48,14 +48,6 @@ fn unless(kept: bool, number: usize, later: usize) -> usize
     if kept { later } else { number }
 }
 
-// v is below 2^w, for any width that an octet can say.
-fn is_below(v: u64, w: usize) -> bool
-    requires { ⌜ v < 2 ^ 48 ⌝ }
-    ensures { λ r. ⌜ r ≡ ltb v (2 ^ w) ⌝ }
-{
-    if w < 64 { v < entries::pow2(w) } else { true }
-}
-
 // The signal that an entry names; all 0 where there is none.
 fn named_signal(sig: &[u8], signals: usize, j: usize) -> Signal
     requires { ⌜ entry signalSize signals ≤ length (now sig) ⌝ }
@@ -101,10 +93,9 @@ fn check_fault(list: &[u8], k: usize) -> Fault
 
 // Since, limit and replacement.
 fn value_number(s: Signal, later: usize) -> usize
-    requires { ⌜ s .replacement < 2 ^ 48 ⌝ }
     ensures { λ r. ⌜ r ≡ brokenOr 5 (valueTests (signalOf s)) later ⌝ }
 {
-    let last = unless(is_below(s.replacement, s.width), 7, later);
+    let last = unless(octets::fits(s.replacement, s.width), 7, later);
     unless(
         (1 <= s.since) & (s.since <= 255),
         5,
@@ -164,7 +155,7 @@ fn code_number(signals: usize, width: usize, k: usize, p: Code, c: Code) -> usiz
 {
     let is_clear = (k == 0) | (p.signal != c.signal) | (p.high + 2 <= c.low);
     let order = unless((k == 0) | (p.signal <= c.signal), 5, unless(is_clear, 6, 0));
-    let high = unless(is_below(c.high as u64, width), 4, order);
+    let high = unless(octets::fits(c.high as u64, width), 4, order);
     unless(
         c.signal < signals,
         1,

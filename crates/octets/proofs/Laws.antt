@@ -51,7 +51,7 @@ module _ (b w k : ℕ) (all : b + w + k ≡ 64) where
 
 -- n ones from the k lowest bits on
 module _ (k n : ℕ) (h : k + n ≤ 64) where
-  ones : 18446744073709551615 / 2 ^ (64 - n) ≡ 2 ^ n - 1
+  pub ones : 18446744073709551615 / 2 ^ (64 - n) ≡ 2 ^ n - 1
   ones =
       let e : 64 ≡ n + (64 - n) = omega arith in
       ap (λ (i : ℕ). (2 ^ i - 1) / 2 ^ (64 - n)) e

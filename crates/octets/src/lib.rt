@@ -1,14 +1,29 @@
 // Fields, numbers and runs of octets in lent slices. What has a `requires` is inner: its caller in the library shows it.
 ghost use mathlib.Core.Path.{_≡_};
-ghost use Prim.Native.Nat.{_+_, _*_, _%_, _^_, _<_, _≤_, min};
+ghost use Prim.Native.Nat.{_+_, _-_, _*_, _%_, _^_, _<_, _≤_, min};
 ghost use lib.ListN.{length, replicate};
-ghost use Rattle.paper.specs.Octets.{field, put, octetsOf, over, fieldOf, withField};
+ghost use Rattle.paper.specs.Octets.{field, fits, put, octetsOf, over, fieldOf, withField};
 ghost use Rattle.octets.specs.Fields.{Within, FieldRead, NumberRead, merged};
 
 fn least(a: usize, b: usize) -> usize
     ensures { λ r. ⌜ r ≡ min a b ⌝ }
 {
     if a < b { a } else { b }
+}
+
+// Whether v fits in a field of w bits: any value does from 64 bits on.
+pub fn fits(v: u64, w: usize) -> bool
+    ensures { λ r. ⌜ r ≡ fits v w ⌝ }
+{
+    if w < 64 { v < 1 << w } else { true }
+}
+
+// Inner: the greatest value that fits in w bits.
+pub fn most(w: usize) -> u64
+    requires { ⌜ (1 ≤ w) × (w ≤ 64) ⌝ }
+    ensures { λ r. ⌜ r ≡ 2 ^ w - 1 ⌝ }
+{
+    0xFFFF_FFFF_FFFF_FFFF >> (64 - w)
 }
 
 // The low n bits of x.

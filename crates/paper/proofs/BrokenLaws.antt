@@ -11,7 +11,7 @@ use borrow.Author.Tests.{lt-ltb, le-ltb, le-leb, lt-leb, eq-eqb, ne-eqb, ltb-tru
 use Rattle.paper.specs.Octets.{number}
 use Rattle.paper.specs.Answer.{Answer, gives, refused, refuseIf, andThen, shift, Sought, found, nothing}
 use Rattle.paper.specs.First.{stop, firstBad}
-use Rattle.paper.specs.SignalList.{Signal, Code, Route, Counts, fieldEnd, entry, rest, checkSize, signalSize, codeSize, routeSize, mostChecks, mostSignals, mostCodes, mostRoutes, checkAt, signalAt, codeAt, routeAt, checkRule, signalRule, codeRule, routeRule, opening, judgeEntries, judgeSection, ending, fromRoutes, fromCodes, fromSignals, judge}
+use Rattle.paper.specs.SignalList.{Signal, Code, Route, Counts, fieldEnd, entry, rest, checkSize, signalSize, codeSize, routeSize, mostChecks, mostSignals, mostCodes, mostRoutes, checkAt, signalAt, codeAt, routeAt, checkRule, signalRule, signalRuleTo, codeRule, routeRule, opening, judgeEntries, judgeSection, ending, fromRoutes, fromCodes, fromSignals, fromSignalsTo, judge, judgeTo}
 use Rattle.paper.specs.Broken.{checkTests, signalTests, codeTests, routeTests, brokenOr, broken, Fault, checkFault, signalFault, codeFault, routeFault, whereOpen, faultIn, faultFromRoutes, faultFromCodes, faultFromSignals, faultOf, refusedThree, faultAt}
 use Rattle.paper.proofs.FirstLaws.{first-fails}
 
@@ -88,7 +88,7 @@ unfolding checkRule
 check-tests check k = refl
 
 pub signal-tests : (checks : ℕ) (check : ℕ → ℕ) (signal : ℕ → Signal) (k : ℕ) → every true (signalTests checks check signal k) ≡ signalRule checks check signal k
-unfolding signalRule
+unfolding signalRuleTo
 signal-tests checks check signal k =
     rw (two _ (eqb k 0 || leb (signal (k - 1) .type) (signal k .type)) _, in-turn (eqb k 0) (signal (k - 1) .type) (signal k .type) (leb (fieldEnd (signal (k - 1))) (signal k .start)), three _ (leb 1 (signal k .since) && leb (signal k .since) 255) _ _)
 
@@ -219,7 +219,7 @@ module _ (base checks : ℕ) (check : ℕ → ℕ) (xs : List ℕ) where
   signals-say = record { asks = signal-tests checks check (signalAt xs); rule-is = λ k. refl; at-is = λ k. refl }
 
   signals-at : refusedThree (shift base (fromSignals checks check xs)) ≡ faultAt (faultFromSignals base checks check xs)
-  unfolding fromSignals faultFromSignals
+  unfolding fromSignalsTo faultFromSignals
   signals-at =
       section-at _ _ _ _ _ _ _ signals-say _ _
       (λ n. further base (entry signalSize n) (fromCodes n (signalAt xs) checks (rest signalSize n xs)) (codes-at _ _ _ _ checks))
@@ -234,7 +234,7 @@ module _ (xs : List ℕ) where
 
   -- an entry is at fault exactly where judging refuses with 3, and at that offset
   pub fault-exactly : refusedThree (judge xs) ≡ faultAt (faultOf xs)
-  unfolding judge faultOf
+  unfolding judgeTo faultOf
   fault-exactly =
       ap refusedThree (sym (shift-none (judge xs)))
       ∙ section-at _ _ _ _ _ _ _ checks-say _ _

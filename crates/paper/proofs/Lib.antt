@@ -13,6 +13,7 @@ pub mod ReadingLaws
 pub mod MarshallingLaws
 pub mod ComposingLaws
 pub mod ExtendsLaws
+pub mod WidthLaws
 pub mod PairLaws
 pub mod RefusalLaws
 pub mod Demands

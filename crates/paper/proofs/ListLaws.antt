@@ -14,7 +14,7 @@ use borrow.Author.Tests.{ltb-true, ltb-false, leb-true, eqb-true, eqb-false, le-
 use Rattle.paper.specs.Octets.{number}
 use Rattle.paper.specs.Answer.{Answer, gives, refused, refuseIf, andThen, shift}
 use Rattle.paper.specs.First.{firstBad}
-use Rattle.paper.specs.SignalList.{Signal, Code, Route, fieldEnd, routeEnd, entry, rest, checkSize, signalSize, codeSize, routeSize, mostChecks, mostSignals, mostCodes, mostRoutes, checkAt, signalAt, codeAt, routeAt, checkRule, placeRule, namedRule, orderRule, apart, signalRule, codeRule, routeRule, opening, judgeEntries, judgeSection, greatestSince, Counts, ending, fromRoutes, fromCodes, fromSignals, judge, SignalList, listOf, signalsPart, codesPart, routesPart}
+use Rattle.paper.specs.SignalList.{Signal, Code, Route, fieldEnd, routeEnd, entry, rest, checkSize, signalSize, codeSize, routeSize, mostChecks, mostSignals, mostCodes, mostRoutes, checkAt, signalAt, codeAt, routeAt, checkRule, placeRule, namedRule, orderRule, apart, signalRule, signalRuleTo, codeRule, routeRule, opening, judgeEntries, judgeSection, greatestSince, Counts, ending, fromRoutes, fromCodes, fromSignals, fromSignalsTo, judge, judgeTo, SignalList, listOf, signalsPart, codesPart, routesPart}
 use Rattle.paper.specs.Accepted.{Opened, Holds, CheckKept, Placed, CheckNamed, Follows, SignalKept, CodeKept, RouteKept, Kept, Laid, RefusedWithin}
 use Rattle.bools.proofs.Tests.{both, either, other}
 use Rattle.paper.proofs.AnswerLaws.{not-refused, and-then, not-shifted, gives-one}
@@ -118,7 +118,7 @@ apart-of : (s : Signal) (place : ℕ) → apart s place ≡ true → (fieldEnd s
 apart-of s place e = ⊎-elim (λ h. inl (leb-true _ _ h)) (λ h. inr (leb-true _ _ h)) (either _ _ e)
 
 pub signal-kept : (checks : ℕ) (check : ℕ → ℕ) (signal : ℕ → Signal) (k : ℕ) → signalRule checks check signal k ≡ true → SignalKept checks check signal k
-unfolding signalRule
+unfolding signalRuleTo
 signal-kept checks check signal k e =
     let p = both _ _ e in
     let q = both _ _ (p .0) in
@@ -205,7 +205,7 @@ module _ (signals : ℕ) (signal : ℕ → Signal) (checks : ℕ) (n : Counts) w
 from-signals : (checks : ℕ) (check : ℕ → ℕ) (n : Counts) (xs : List ℕ) → fromSignals checks check xs ≡ gives n
     → (Holds mostSignals signalSize (signalRule checks check (signalAt xs)) xs (n .signals))
     × (fromCodes (n .signals) (signalAt xs) checks (rest signalSize (n .signals) xs) ≡ gives n)
-unfolding fromSignals
+unfolding fromSignalsTo
 from-signals checks check n xs e =
     let b = and-then (judgeSection mostSignals signalSize (signalRule checks check (signalAt xs)) xs)
     (λ signals. shift (entry signalSize signals) (fromCodes signals (signalAt xs) checks (rest signalSize signals xs))) n e in
@@ -216,7 +216,7 @@ from-signals checks check n xs e =
 
 from-checks : (n : Counts) (xs : List ℕ) → judge xs ≡ gives n
     → (Holds mostChecks checkSize (checkRule (checkAt xs)) xs (n .checks)) × (fromSignals (n .checks) (checkAt xs) (rest checkSize (n .checks) xs) ≡ gives n)
-unfolding judge
+unfolding judgeTo
 from-checks n xs e =
     let a = and-then (judgeSection mostChecks checkSize (checkRule (checkAt xs)) xs)
     (λ checks. shift (entry checkSize checks) (fromSignals checks (checkAt xs) (rest checkSize checks xs))) n e in
@@ -245,7 +245,7 @@ laid xs n e =
 
 -- and a list that is laid out so is accepted: 1-4 are given exactly when some rule is broken
 pub accepts-it : (xs : List ℕ) (n : Counts) → Laid xs n → judge xs ≡ gives n
-unfolding judge fromSignals fromCodes fromRoutes ending refuseIf
+unfolding judgeTo fromSignalsTo fromCodes fromRoutes ending refuseIf
 accepts-it xs n h =
     rw (
       section-it _ _ _ _ _ (h .checks),
@@ -339,7 +339,7 @@ module _ (signals : ℕ) (signal : ℕ → Signal) (checks : ℕ) where
       (routes-within n (rest codeSize n xs)))
 
 pub signals-within : (checks : ℕ) (check : ℕ → ℕ) (xs : List ℕ) → RefusedWithin (length xs) (fromSignals checks check xs)
-unfolding fromSignals
+unfolding fromSignalsTo
 signals-within checks check xs =
     within-then (length xs) (judgeSection mostSignals signalSize (signalRule checks check (signalAt xs)) xs) _
     (section-within _ _ _ xs)

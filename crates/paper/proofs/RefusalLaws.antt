@@ -8,7 +8,7 @@ use native.Mathlib.Omega.{arith}
 use Rattle.paper.specs.Answer.{Answer, gives, refused, refuseIf, andThen, shift, mapAnswer, forget, Given, Numbered}
 use Rattle.paper.specs.Telegrams.{Row, covers, rows, placeIn, checkPlace}
 use Rattle.paper.specs.SignalList
-use Rattle.paper.specs.SignalList.{Counts, judge, OfTwo, ofTwo, firstRefused, secondRefused, NumberedTwo}
+use Rattle.paper.specs.SignalList.{Counts, judge, judgeTo, OfTwo, ofTwo, firstRefused, secondRefused, NumberedTwo}
 use Rattle.paper.specs.Pairs.{entryOf, finding}
 use Rattle.paper.specs.Store.{taking}
 use Rattle.paper.specs.Reading.{reading}
@@ -68,7 +68,7 @@ numbered-section limit size rule xs =
     (λ n. numbered-if _ 3 _ _ (omega arith) (numbered-gives _))
 
 pub numbered-judge : (xs : List ℕ) → Numbered (judge xs)
-unfolding judge SignalList.fromSignals SignalList.fromCodes SignalList.fromRoutes SignalList.ending
+unfolding judgeTo SignalList.fromSignalsTo SignalList.fromCodes SignalList.fromRoutes SignalList.ending
 numbered-judge xs =
     numbered-then _ _ (numbered-section _ _ _ _) (λ checks. numbered-shift _ _
     (numbered-then _ _ (numbered-section _ _ _ _) (λ signals. numbered-shift _ _

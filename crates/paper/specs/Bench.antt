@@ -7,7 +7,7 @@ use Rattle.paper.specs.Octets.{number}
 use Rattle.paper.specs.Answer.{gives, refused, refuseIf}
 use Rattle.paper.specs.First.{firstFrom, firstBad, all, some, greatest}
 use Rattle.paper.specs.SignalList
-use Rattle.paper.specs.SignalList.{Counts, judge}
+use Rattle.paper.specs.SignalList.{Counts, judge, judgeTo}
 
 -- "The list L, 44 octets, for voltage selection (4.3), octet 54 bits 0-3, check 41 2/3"
 unfoldable pub listL : List ℕ
@@ -23,5 +23,5 @@ countsL = record { checks = 1; signals = 1; codes = 2; routes = 1; version = 1 }
 
 -- L; "L less its last octet: refusal 1 at 36; L with an octet more: 4 at 44; empty list: 1 at 0"
 judged : (judge listL ≡ gives countsL) × (judge (take 43 listL) ≡ refused 1 36) × (judge (listL ++ (0 ∷ [])) ≡ refused 4 44) × (judge [] ≡ refused 1 0)
-unfolding listL number refuseIf firstFrom firstBad all some greatest SignalList.checkAt SignalList.signalAt SignalList.codeAt SignalList.routeAt SignalList.checkRule SignalList.signalRule SignalList.codeRule SignalList.routeRule SignalList.opening SignalList.judgeEntries SignalList.judgeSection SignalList.greatestSince SignalList.ending SignalList.fromRoutes SignalList.fromCodes SignalList.fromSignals judge
+unfolding listL number refuseIf firstFrom firstBad all some greatest SignalList.checkAt SignalList.signalAt SignalList.codeAt SignalList.routeAt SignalList.checkRule SignalList.signalRuleTo SignalList.codeRule SignalList.routeRule SignalList.opening SignalList.judgeEntries SignalList.judgeSection SignalList.greatestSince SignalList.ending SignalList.fromRoutes SignalList.fromCodes SignalList.fromSignalsTo judgeTo
 judged = (refl, refl, refl, refl)

@@ -42,7 +42,7 @@ table =
     ∷ breaks (checks (14 ∷ [])) 1 0 2 0 0 14 2 2
     ∷ breaks (checks (1024 ∷ [])) 1 0 3 0 0 1024 2 2
     ∷ breaks (checks (16 ∷ 18 ∷ 18 ∷ [])) 1 2 4 0 0 18 2 6
-    ∷ breaks (alone (signal 320 49 1 0 1 0 0 ∷ [])) 2 0 1 0 1 320 49 4
+    ∷ breaks (alone (signal 320 65 1 0 1 0 0 ∷ [])) 2 0 1 0 1 320 65 4
     ∷ breaks (alone (signal 320 8 3 0 1 0 0 ∷ [])) 2 0 2 0 3 320 8 4
     ∷ breaks (alone (signal 1017 8 1 0 1 0 0 ∷ [])) 2 0 3 0 1 1017 8 4
     ∷ breaks (made (318 ∷ []) (signal 320 8 1 1 1 0 0 ∷ []) [] []) 2 0 4 0 1 320 8 6
@@ -68,6 +68,6 @@ table =
 -- the one computed test: the table with its answers worked out is the table
 pub each-rule : map (λ b. record { list = b .list; said = ask (faults (b .list)) }) table ≡ table
 unfolding table joined made ask number octetsOf refuseIf firstFrom firstBad all SignalList.checkAt SignalList.signalAt SignalList.codeAt SignalList.routeAt
-    SignalList.checkRule SignalList.signalRule SignalList.codeRule SignalList.routeRule SignalList.opening faultIn faultFromRoutes faultFromCodes
+    SignalList.checkRule SignalList.signalRuleTo SignalList.codeRule SignalList.routeRule SignalList.opening faultIn faultFromRoutes faultFromCodes
     faultFromSignals faultOf
 each-rule = refl

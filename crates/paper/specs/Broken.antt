@@ -3,6 +3,7 @@ use Prim.Native.Nat.{ℕ, suc, _+_, _-_, _%_, _^_}
 use mathlib.Core.Bool.{Bool, not, cond, _&&_, _||_}
 use mathlib.Core.List.{List, [], _∷_}
 use lib.Dec.{ltb, leb, eqb}
+use Rattle.paper.specs.Octets.{fits}
 use Rattle.paper.specs.Answer.{Answer, gives, refused, Sought, found, nothing}
 use Rattle.paper.specs.First.{stop, firstBad}
 use Rattle.paper.specs.SignalList.{Signal, Code, Route, fieldEnd, routeEnd, entry, rest, checkSize, signalSize, codeSize, routeSize, mostChecks, mostSignals, mostCodes, mostRoutes, checkAt, signalAt, codeAt, routeAt, checkRule, widthRule, typeRule, placeRule, namedRule, clearRule, signalRule, codeRule, routeRule, opening}
@@ -18,7 +19,7 @@ checkTests check k = eqb (check k % 2) 0 ∷ leb 16 (check k) ∷ leb (check k) 
 abbrev pub signalTests : ℕ → (ℕ → ℕ) → (ℕ → Signal) → ℕ → List Bool
 signalTests checks check signal k =
     widthRule (signal k) ∷ typeRule (signal k) ∷ placeRule (signal k) ∷ namedRule checks check (signal k)
-    ∷ (leb 1 (signal k .since) && leb (signal k .since) 255) ∷ leb (signal k .limit) 600000 ∷ ltb (signal k .replacement) (2 ^ signal k .width)
+    ∷ (leb 1 (signal k .since) && leb (signal k .since) 255) ∷ leb (signal k .limit) 600000 ∷ fits (signal k .replacement) (signal k .width)
     ∷ (eqb k 0 || leb (signal (k - 1) .type) (signal k .type))
     ∷ (eqb k 0 || not (eqb (signal (k - 1) .type) (signal k .type)) || leb (fieldEnd (signal (k - 1))) (signal k .start))
     ∷ clearRule checks check (signal k) ∷ []
@@ -28,7 +29,7 @@ signalTests checks check signal k =
 abbrev pub codeTests : ℕ → (ℕ → Signal) → (ℕ → Code) → ℕ → List Bool
 codeTests signals signal code k =
     ltb (code k .signal) signals ∷ leb (signal (code k .signal) .width) 16
-    ∷ leb (code k .low) (code k .high) ∷ ltb (code k .high) (2 ^ signal (code k .signal) .width)
+    ∷ leb (code k .low) (code k .high) ∷ fits (code k .high) (signal (code k .signal) .width)
     ∷ (eqb k 0 || leb (code (k - 1) .signal) (code k .signal))
     ∷ (eqb k 0 || not (eqb (code (k - 1) .signal) (code k .signal)) || leb (code (k - 1) .high + 2) (code k .low)) ∷ []
 

@@ -5,7 +5,7 @@ use mathlib.Core.Bool.{Bool, true, not, _&&_, _||_}
 use mathlib.Core.List.{List, _∷_}
 use lib.ListN.{length, getD, replicate}
 use lib.Dec.{ltb, leb, eqb}
-use Rattle.paper.specs.Octets.{Put, puts}
+use Rattle.paper.specs.Octets.{fits, Put, puts}
 use Rattle.paper.specs.Answer.{Answer, gives, refuseIf}
 use Rattle.paper.specs.First.{firstBad}
 use Rattle.paper.specs.Telegrams.{isType, typeLength, carries, markWidth}
@@ -39,18 +39,20 @@ markFits l type marks j = not (writesCheck l type j) || leb (getD marks j 0) 3
 
 unfoldable pub valueFits : SignalList → ℕ → List ℕ → ℕ → Bool
 valueFits l type values k =
-    not (writesSignal l type k) || ltb (getD values k 0) (2 ^ l .signal k .width) && knows l k (getD values k 0)
+    not (writesSignal l type k) || fits (getD values k 0) (l .signal k .width) && knows l k (getD values k 0)
 
 -- 1-4, then 9, 13, 14, 15 with the first signal at fault, 16; `room` is the length of the output
-unfoldable pub composing : List ℕ → ℕ → List ℕ → List ℕ → ℕ → Answer (List ℕ)
-composing xs type values marks room =
-    underList xs (λ l.
+abbrev pub composingBy : ℕ → List ℕ → List ℕ → ℕ → SignalList → Answer (List ℕ)
+composingBy type values marks room l =
     refuseIf (not (isType type)) 9 0
     (refuseIf (not (eqb (length values) (l .signals) && eqb (length marks) (l .checks))) 13 0
     (refuseIf (ltb (firstBad (markFits l type marks) (l .checks)) (l .checks)) 14 0
     (refuseIf (ltb (firstBad (valueFits l type values) (l .signals)) (l .signals)) 15 (firstBad (valueFits l type values) (l .signals))
     (refuseIf (not (eqb room (typeLength type))) 16 0
-    (gives (composed l type values marks)))))))
+    (gives (composed l type values marks))))))
+
+unfoldable pub composing : List ℕ → ℕ → List ℕ → List ℕ → ℕ → Answer (List ℕ)
+composing xs type values marks room = underList xs (composingBy type values marks room)
 
 -- what passes the tests
 pub record Fitting (l : SignalList) (type : ℕ) (values marks : List ℕ) : Type 0 where

@@ -9,7 +9,7 @@ use Rattle.paper.specs.Answer.{refuseIf}
 use Rattle.paper.specs.First.{firstFrom, firstBad, all, some, count, greatest}
 use Rattle.paper.specs.Telegrams.{applicationType, telegramType, versionOf, rows, placeIn}
 use Rattle.paper.specs.SignalList
-use Rattle.paper.specs.SignalList.{Signal, judge, version, hasCodes, inRange, knownIn, knows, placeOf}
+use Rattle.paper.specs.SignalList.{Signal, judgeTo, version, hasCodes, inRange, knownIn, knows, placeOf}
 use Rattle.paper.specs.Store.{slotOf, taken, taking, age}
 use Rattle.paper.specs.Reading.{heard, markOf, codeOf, hindrances, reasonOf, readingOf, readingAt, reading}
 use Rattle.paper.specs.Marshalling.{routed, marshalled, live, marshalling}
@@ -88,6 +88,10 @@ long head n = head ∷ replicate n 0
 abbrev offered : ℕ → List ℕ → Question
 offered v t = takes silent v 0 t []
 
+-- one signal of so many bits, from a bit that starts no octet, composed with a value
+abbrev composesWide : ℕ → ℕ → Question
+composesWide width v = composes (made [] (signal 325 width 1 0 1 0 0 ∷ []) [] []) 1 (v ∷ []) [] (replicate 128 0) []
+
 -- an E-telegram with the code 1007 and n octets behind octet 9
 abbrev eLong : ℕ → List ℕ
 eLong n = 0 ∷ 0 ∷ 0 ∷ 0 ∷ 0 ∷ 0 ∷ 0x10 ∷ 0x07 ∷ 1 ∷ replicate n 0
@@ -101,14 +105,15 @@ edges =
     ∷ between oneCheck 1022 (counted 1 0 0 0) 1024 (refuses 3 2)
     ∷ between oneCheck 20 (counted 1 0 0 0) 21 (refuses 3 2)
     ∷ between (λ c. judges (made (100 ∷ c ∷ []) [] [] [])) 102 (counted 2 0 0 0) 100 (refuses 3 4)
-    -- "Signals, at most 256"; "Width 1-48"
+    -- "Signals, at most 256"; C-15: "widths run from 1 to 64"
     ∷ between opensSignals 256 (refuses 1 2) 257 (refuses 2 2)
-    ∷ between (λ w. oneSignal [] (signal 320 w 1 0 1 0 0)) 48 (counted 0 1 0 0) 49 (refuses 3 4)
+    ∷ between (λ w. oneSignal [] (signal 320 w 1 0 1 0 0)) 64 (counted 0 1 0 0) 65 (refuses 3 4)
     ∷ between (λ w. oneSignal [] (signal 320 w 1 0 1 0 0)) 1 (counted 0 1 0 0) 0 (refuses 3 4)
     -- "Type 0 (common) lies wholly in addresses 16-319; type 1 (R1) or 2 (R2) wholly in 320-1023"
     ∷ between (λ t. oneSignal [] (signal 320 1 t 0 1 0 0)) 2 (counted 0 1 0 0) 3 (refuses 3 4)
     ∷ between (λ s. oneSignal [] (signal s 8 0 0 1 0 0)) 16 (counted 0 1 0 0) 15 (refuses 3 4)
     ∷ between (λ s. oneSignal [] (signal s 8 0 0 1 0 0)) 312 (counted 0 1 0 0) 313 (refuses 3 4)
+    ∷ between (λ s. oneSignal [] (signal s 64 0 0 1 0 0)) 256 (counted 0 1 0 0) 257 (refuses 3 4)
     ∷ between (λ s. oneSignal [] (signal s 8 1 0 1 0 0)) 320 (counted 0 1 0 0) 319 (refuses 3 4)
     ∷ between (λ s. oneSignal [] (signal s 8 2 0 1 0 0)) 1016 (counted 0 1 0 0) 1017 (refuses 3 4)
     -- "Check 0 is none, k names the k-th check, which exists and lies below 320 exactly if the type is 0"
@@ -120,6 +125,7 @@ edges =
     ∷ edge (oneSignal [] (signal 320 8 1 0 255 0 0)) (gave (0 ∷ 1 ∷ 0 ∷ 0 ∷ 255 ∷ [])) (oneSignal [] (signal 320 8 1 0 256 0 0)) (refuses 3 4)
     ∷ between (λ n. oneSignal [] (signal 320 8 1 0 1 n 0)) 600000 (counted 0 1 0 0) 600001 (refuses 3 4)
     ∷ between (λ n. oneSignal [] (signal 320 8 1 0 1 0 n)) 255 (counted 0 1 0 0) 256 (refuses 3 4)
+    ∷ between (λ n. oneSignal [] (signal 320 47 1 0 1 0 n)) 0x7FFFFFFFFFFF (counted 0 1 0 0) 0x800000000000 (refuses 3 4)
     -- "Types never fall"; "each start is at or past the end of the field before"; "No field shares a bit with any check"
     ∷ between (λ t. twoSignals (signal 320 8 1 0 1 0 0) (signal 400 8 t 0 1 0 0)) 1 (counted 0 2 0 0) 0 (refuses 3 20)
     ∷ between (λ s. twoSignals (signal 320 8 2 0 1 0 0) (signal s 8 2 0 1 0 0)) 328 (counted 0 2 0 0) 327 (refuses 3 20)
@@ -139,6 +145,7 @@ edges =
     ∷ between (λ v. oneRoute 0 v 0) 63 (counted 0 1 0 1) 64 (refuses 3 24)
     ∷ between (λ z. judges (set listL 41 z)) 0 (counted 1 1 2 1) 1 (refuses 3 38)
     ∷ between (λ s. oneRoute 0 1 s) 2040 (counted 0 1 0 1) 2041 (refuses 3 24)
+    ∷ between (λ s. judges (made [] (signal 320 64 1 0 1 0 0 ∷ []) [] (route 0 1 s ∷ []))) 1984 (counted 0 1 0 1) 1985 (refuses 3 24)
     ∷ between twoRoutes 8 (counted 0 1 0 2) 7 (refuses 3 30)
     -- 1, 2 and 4: a count, its entries, and what is behind the routes
     ∷ edge (judges (take 44 listL)) (counted 1 1 2 1) (judges (take 37 listL)) (refuses 1 36)
@@ -166,6 +173,9 @@ edges =
     ∷ between (λ m. composes listL 1 (0 ∷ []) (m ∷ []) (replicate 128 0) []) 3 (gave []) 4 (refuses 14 0)
     ∷ between (λ v. composes listL 1 (v ∷ []) (1 ∷ []) (replicate 128 0) []) 15 (gave []) 16 (refuses 15 0)
     ∷ between (λ v. composes listL 1 (v ∷ []) (1 ∷ []) (replicate 128 0) []) 6 (gave []) 7 (refuses 15 0)
+    ∷ between (composesWide 49) 0x1FFFFFFFFFFFF (gave []) 0x2000000000000 (refuses 15 0)
+    ∷ between (composesWide 63) 0x7FFFFFFFFFFFFFFF (gave []) 0x8000000000000000 (refuses 15 0)
+    ∷ between (composesWide 64) 0xFFFFFFFFFFFFFFFF (gave []) 0x10000000000000000 (refuses 15 0)
     ∷ between (λ n. composes listL 1 (0 ∷ []) (1 ∷ []) (replicate n 0) []) 128 (gave []) 127 (refuses 16 0)
     -- shown; the grouping; the train; E-telegrams
     ∷ between (λ w. shows speed w 64) 16 (gave (1 ∷ 0x3F800000 ∷ [])) 15 (refuses 26 0)
@@ -186,8 +196,8 @@ edges =
 pub at-each-edge : map (λ e. edge (e .at) (ask (e .at)) (e .past) (ask (e .past))) edges ≡ edges
 unfolding edges evens joined made ask listL telegram silent heardAt bit field withBit setBit put puts number octetsOf over refuseIf firstFrom firstBad all
     some count greatest applicationType telegramType versionOf rows placeIn SignalList.checkAt SignalList.signalAt SignalList.codeAt SignalList.routeAt
-    SignalList.checkRule SignalList.signalRule SignalList.codeRule SignalList.routeRule SignalList.opening SignalList.judgeEntries SignalList.judgeSection
-    SignalList.greatestSince SignalList.ending SignalList.fromRoutes SignalList.fromCodes SignalList.fromSignals judge hasCodes inRange knownIn knows
+    SignalList.checkRule SignalList.signalRuleTo SignalList.codeRule SignalList.routeRule SignalList.opening SignalList.judgeEntries SignalList.judgeSection
+    SignalList.greatestSince SignalList.ending SignalList.fromRoutes SignalList.fromCodes SignalList.fromSignalsTo judgeTo hasCodes inRange knownIn knows
     placeOf version slotOf taken taking age heard markOf codeOf hindrances reasonOf readingOf readingAt reading routed marshalled live marshalling headed
     composed markFits valueFits composing showing ofBits round toBits consistRule meets member setTo membersOf resolving requests isRequest isReport
     eReading answerTo answering

@@ -12,6 +12,7 @@ pub mod Store
 pub mod Reading
 pub mod Marshalling
 pub mod Composing
+pub mod Widths
 pub mod Shown
 pub mod Train
 pub mod ETelegrams

@@ -10,7 +10,7 @@ use Rattle.paper.specs.Answer.{Answer, gives, refuseIf, after}
 use Rattle.paper.specs.First.{firstFrom, firstBad, all, some, count, greatest}
 use Rattle.paper.specs.Telegrams.{applicationType, telegramType, versionOf, ok}
 use Rattle.paper.specs.SignalList
-use Rattle.paper.specs.SignalList.{judge, version, hasCodes, inRange, knownIn, knows, placeOf}
+use Rattle.paper.specs.SignalList.{judge, judgeTo, version, hasCodes, inRange, knownIn, knows, placeOf}
 use Rattle.paper.specs.Store.{storeOctets, slotOf, taken, taking, age}
 use Rattle.paper.specs.Reading.{Reading, heard, markOf, codeOf, hindrances, reasonOf, readingOf, readingAt, reading}
 use Rattle.paper.specs.Marshalling.{Marshalled, routed, marshalled, live, marshalling}
@@ -90,7 +90,7 @@ table =
 
 -- the one computed test: every row's answer is the expected one
 pub marked : map (λ r. response (r .asked)) table ≡ map (λ r. r .expected) table
-unfolding table telegram silent heardAt listL bit field withBit setBit put puts number octetsOf over refuseIf firstFrom firstBad all some count greatest applicationType telegramType versionOf SignalList.checkAt SignalList.signalAt SignalList.codeAt SignalList.routeAt SignalList.checkRule SignalList.signalRule SignalList.codeRule SignalList.routeRule SignalList.opening SignalList.judgeEntries SignalList.judgeSection SignalList.greatestSince SignalList.ending SignalList.fromRoutes SignalList.fromCodes SignalList.fromSignals judge hasCodes inRange knownIn knows placeOf slotOf taken taking age heard markOf codeOf hindrances reasonOf readingOf readingAt reading routed marshalled live marshalling showing ofBits round
+unfolding table telegram silent heardAt listL bit field withBit setBit put puts number octetsOf over refuseIf firstFrom firstBad all some count greatest applicationType telegramType versionOf SignalList.checkAt SignalList.signalAt SignalList.codeAt SignalList.routeAt SignalList.checkRule SignalList.signalRuleTo SignalList.codeRule SignalList.routeRule SignalList.opening SignalList.judgeEntries SignalList.judgeSection SignalList.greatestSince SignalList.ending SignalList.fromRoutes SignalList.fromCodes SignalList.fromSignalsTo judgeTo hasCodes inRange knownIn knows placeOf slotOf taken taking age heard markOf codeOf hindrances reasonOf readingOf readingAt reading routed marshalled live marshalling showing ofBits round
 marked = refl
 
 -- so each row holds by its place
@@ -102,5 +102,5 @@ marked-at i d e =
 
 -- the other way: an R1 composed under L with the value 4 and the mark ok is the telegram of (a)
 pub composed-a : composing listL 1 (4 ∷ []) (ok ∷ []) 128 ≡ gives (telegram 0x10 0x40)
-unfolding telegram listL withBit setBit put puts number refuseIf firstFrom firstBad all some greatest SignalList.checkAt SignalList.signalAt SignalList.codeAt SignalList.routeAt SignalList.checkRule SignalList.signalRule SignalList.codeRule SignalList.routeRule SignalList.opening SignalList.judgeEntries SignalList.judgeSection SignalList.greatestSince SignalList.ending SignalList.fromRoutes SignalList.fromCodes SignalList.fromSignals judge hasCodes inRange knownIn knows version headed composed markFits valueFits composing
+unfolding telegram listL withBit setBit put puts number refuseIf firstFrom firstBad all some greatest SignalList.checkAt SignalList.signalAt SignalList.codeAt SignalList.routeAt SignalList.checkRule SignalList.signalRuleTo SignalList.codeRule SignalList.routeRule SignalList.opening SignalList.judgeEntries SignalList.judgeSection SignalList.greatestSince SignalList.ending SignalList.fromRoutes SignalList.fromCodes SignalList.fromSignalsTo judgeTo hasCodes inRange knownIn knows version headed composed markFits valueFits composing
 composed-a = refl

@@ -33,12 +33,14 @@ pub record Marshalled : Type 0 where
   pub lives : ℕ
 
 -- 1-5, then 12 "data shorter than a route's end"
-unfoldable pub marshalling : List ℕ → List ℕ → ℕ → List ℕ → Answer Marshalled
-marshalling xs store now bus =
-    underList xs (λ l.
+abbrev pub marshallingBy : List ℕ → ℕ → List ℕ → SignalList → Answer Marshalled
+marshallingBy store now bus l =
     refuseIf (not (isStore store)) 5 0
     (refuseIf (some (λ r. ltb (8 * length bus) (routeEnd (l .signal) (l .route r))) (l .routes)) 12 0
-    (gives (record { octets = marshalled l store now bus (l .routes); lives = count (live l store now) (l .routes) }))))
+    (gives (record { octets = marshalled l store now bus (l .routes); lives = count (live l store now) (l .routes) })))
+
+unfoldable pub marshalling : List ℕ → List ℕ → ℕ → List ℕ → Answer Marshalled
+marshalling xs store now bus = underList xs (marshallingBy store now bus)
 
 -- what marshalling that is not refused tells
 pub record Marshals (xs store : List ℕ) (now : ℕ) (bus : List ℕ) (m : Marshalled) : Type 0 where

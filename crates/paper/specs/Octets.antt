@@ -4,6 +4,7 @@ use Prim.Native.Nat.{ℕ, zero, suc, _+_, _-_, _*_, _/_, _%_, _^_, _<_}
 use mathlib.Core.Bool.{Bool, cond}
 use mathlib.Core.List.{List, [], _∷_, _++_}
 use lib.ListN.{length, getD, take, drop, set}
+use lib.Dec.{ltb}
 
 -- "Octets count from 1."
 abbrev pub octet : List ℕ → ℕ → ℕ
@@ -21,6 +22,10 @@ bit l a = getD l (a / 8) 0 / 2 ^ (7 - a % 8) % 2
 unfoldable pub field : List ℕ → ℕ → ℕ → ℕ
 field l start zero = 0
 field l start (suc width) = field l start width * 2 + bit l (start + width)
+
+-- a value fits in a field of so many bits
+abbrev pub fits : ℕ → ℕ → Bool
+fits value width = ltb value (2 ^ width)
 
 -- the octet x with its bit b replaced by v: the b bits above, v, the 7 - b bits below
 unfoldable pub withBit : ℕ → ℕ → ℕ → ℕ

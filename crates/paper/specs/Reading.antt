@@ -78,13 +78,15 @@ unfoldable pub readingAt : SignalList → List ℕ → ℕ → ℕ → ℕ → R
 readingAt l store now v k = readingOf l (slotOf store v) now k
 
 -- 1-4, then 5, 6, 11
-unfoldable pub reading : List ℕ → List ℕ → ℕ → ℕ → ℕ → Answer Reading
-reading xs store now v k =
-    underList xs (λ l.
+abbrev pub readingBy : List ℕ → ℕ → ℕ → ℕ → SignalList → Answer Reading
+readingBy store now v k l =
     refuseIf (not (isStore store)) 5 0
     (refuseIf (not (isVehicle v)) 6 0
     (refuseIf (not (ltb k (l .signals))) 11 0
-    (gives (readingAt l store now v k)))))
+    (gives (readingAt l store now v k))))
+
+unfoldable pub reading : List ℕ → List ℕ → ℕ → ℕ → ℕ → Answer Reading
+reading xs store now v k = underList xs (readingBy store now v k)
 
 -- ---- What is said of readings
 

@@ -5,7 +5,7 @@ use mathlib.Core.Bool.{Bool, not, cond, _&&_, _||_}
 use mathlib.Core.List.{List}
 use lib.ListN.{length, getD, drop}
 use lib.Dec.{ltb, leb, eqb}
-use Rattle.paper.specs.Octets.{number}
+use Rattle.paper.specs.Octets.{number, fits}
 use Rattle.paper.specs.Answer.{Answer, gives, refused, refuseIf, andThen, shift}
 use Rattle.paper.specs.First.{firstBad, all, some, greatest}
 
@@ -99,12 +99,15 @@ routeAt xs k =
 unfoldable pub checkRule : (ℕ → ℕ) → ℕ → Bool
 checkRule check k = eqb (check k % 2) 0 && leb 16 (check k) && leb (check k) 1022 && (eqb k 0 || ltb (check (k - 1)) (check k))
 
--- "Width 1-48."
+-- "Width 1-48", which C-15 amends: "Let widths run from 1 to 64". What goes by the greatest width has it as a parameter.
 abbrev pub widest : ℕ
-widest = 48
+widest = 64
+
+abbrev pub widthRuleTo : ℕ → Signal → Bool
+widthRuleTo most s = leb 1 (s .width) && leb (s .width) most
 
 abbrev pub widthRule : Signal → Bool
-widthRule s = leb 1 (s .width) && leb (s .width) widest
+widthRule s = widthRuleTo widest s
 
 -- "Type 0 (common) lies wholly in addresses 16-319; type 1 (R1) or 2 (R2) wholly in 320-1023."
 abbrev pub typeRule : Signal → Bool
@@ -124,7 +127,7 @@ namedRule checks check s =
 
 -- "Since 1-255. Limit 0-600,000; 0 means none. Replacement below 2^width."
 abbrev pub valueRule : Signal → Bool
-valueRule s = leb 1 (s .since) && leb (s .since) 255 && leb (s .limit) 600000 && ltb (s .replacement) (2 ^ s .width)
+valueRule s = leb 1 (s .since) && leb (s .since) 255 && leb (s .limit) 600000 && fits (s .replacement) (s .width)
 
 -- "Types never fall from one entry to the next; within a type each start is at or past the end of the field before."
 abbrev pub orderRule : Signal → Signal → Bool
@@ -137,11 +140,14 @@ apart s place = leb (fieldEnd s) place || leb (place + 2) (s .start)
 abbrev pub clearRule : ℕ → (ℕ → ℕ) → Signal → Bool
 clearRule checks check s = all (λ j. apart s (check j)) checks
 
-unfoldable pub signalRule : ℕ → (ℕ → ℕ) → (ℕ → Signal) → ℕ → Bool
-signalRule checks check signal k =
-    widthRule (signal k) && typeRule (signal k) && placeRule (signal k) && namedRule checks check (signal k) && valueRule (signal k)
+unfoldable pub signalRuleTo : ℕ → ℕ → (ℕ → ℕ) → (ℕ → Signal) → ℕ → Bool
+signalRuleTo most checks check signal k =
+    widthRuleTo most (signal k) && typeRule (signal k) && placeRule (signal k) && namedRule checks check (signal k) && valueRule (signal k)
     && (eqb k 0 || orderRule (signal (k - 1)) (signal k))
     && clearRule checks check (signal k)
+
+abbrev pub signalRule : ℕ → (ℕ → ℕ) → (ℕ → Signal) → ℕ → Bool
+signalRule checks check signal k = signalRuleTo widest checks check signal k
 
 -- "The signal exists and has width at most 16; low ≤ high < 2^width. Signal numbers never fall; within a signal, low exceeds the
 -- previous high by at least 2."
@@ -152,7 +158,7 @@ unfoldable pub codeRule : ℕ → (ℕ → Signal) → (ℕ → Code) → ℕ �
 codeRule signals signal code k =
     ltb (code k .signal) signals && leb (signal (code k .signal) .width) 16
     && leb (code k .low) (code k .high)
-    && ltb (code k .high) (2 ^ signal (code k .signal) .width)
+    && fits (code k .high) (signal (code k .signal) .width)
     && (eqb k 0 || codeOrder (code (k - 1)) (code k))
 
 -- the first bit past a route's destination field, which is as wide as its signal
@@ -216,16 +222,22 @@ fromCodes signals signal checks xs =
     andThen (judgeSection mostCodes codeSize (codeRule signals signal (codeAt xs)) xs)
     (λ codes. shift (entry codeSize codes) (fromRoutes signals signal checks codes (rest codeSize codes xs)))
 
-unfoldable pub fromSignals : ℕ → (ℕ → ℕ) → List ℕ → Answer Counts
-fromSignals checks check xs =
-    andThen (judgeSection mostSignals signalSize (signalRule checks check (signalAt xs)) xs)
+unfoldable pub fromSignalsTo : ℕ → ℕ → (ℕ → ℕ) → List ℕ → Answer Counts
+fromSignalsTo most checks check xs =
+    andThen (judgeSection mostSignals signalSize (signalRuleTo most checks check (signalAt xs)) xs)
     (λ signals. shift (entry signalSize signals) (fromCodes signals (signalAt xs) checks (rest signalSize signals xs)))
 
+abbrev pub fromSignals : ℕ → (ℕ → ℕ) → List ℕ → Answer Counts
+fromSignals checks check xs = fromSignalsTo widest checks check xs
+
 -- "Judging goes section by section"
-unfoldable pub judge : List ℕ → Answer Counts
-judge xs =
+unfoldable pub judgeTo : ℕ → List ℕ → Answer Counts
+judgeTo most xs =
     andThen (judgeSection mostChecks checkSize (checkRule (checkAt xs)) xs)
-    (λ checks. shift (entry checkSize checks) (fromSignals checks (checkAt xs) (rest checkSize checks xs)))
+    (λ checks. shift (entry checkSize checks) (fromSignalsTo most checks (checkAt xs) (rest checkSize checks xs)))
+
+abbrev pub judge : List ℕ → Answer Counts
+judge xs = judgeTo widest xs
 
 -- ---- A list, apart from how its octets are laid out: what reading, marshalling, composing and extending go by
 
@@ -288,8 +300,11 @@ placeOf l s = cond (eqb (s .check) 0) 0 (l .check (s .check - 1))
 -- ---- Calls that go by lists
 
 -- "1-4 come first as judging meets them": a call that goes by a list judges it, and goes on with what is accepted
+abbrev pub underListTo : {A : Type 0} → ℕ → List ℕ → (SignalList → Answer A) → Answer A
+underListTo most xs call = andThen (judgeTo most xs) (λ n. call (listOf xs n))
+
 abbrev pub underList : {A : Type 0} → List ℕ → (SignalList → Answer A) → Answer A
-underList xs call = andThen (judge xs) (λ n. call (listOf xs n))
+underList xs call = underListTo widest xs call
 
 -- what a call on two lists answers: a value, or the refusal of the first that is refused, and which that is
 pub data OfTwo (A : Type 0) : Type 0 where

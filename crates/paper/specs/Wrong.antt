@@ -14,7 +14,7 @@ use Rattle.paper.specs.Answer.{refuseIf}
 use Rattle.paper.specs.First.{firstFrom, firstBad, all, some, next, count, greatest}
 use Rattle.paper.specs.Telegrams.{applicationType, telegramType, versionOf, rows, placeIn}
 use Rattle.paper.specs.SignalList
-use Rattle.paper.specs.SignalList.{Signal, judge, version, hasCodes, inRange, knownIn, knows, placeOf}
+use Rattle.paper.specs.SignalList.{Signal, judgeTo, version, hasCodes, inRange, knownIn, knows, placeOf}
 use Rattle.paper.specs.Broken.{faultIn, faultFromRoutes, faultFromCodes, faultFromSignals, faultOf}
 use Rattle.paper.specs.Extends.{codesKept, keeps, stands, newer, extendsLists}
 use Rattle.paper.specs.Extends as Extending
@@ -109,6 +109,13 @@ two s t = made [] (s ∷ t ∷ []) [] []
 abbrev plain : ℕ → ℕ → ℕ → Signal
 plain start type since = signal start 8 type 0 since 0 0
 
+-- one of so many bits; an R1 composed with such a one into octets EE: octets 54, 61 and 62
+abbrev wide : ℕ → ℕ → Signal
+wide start width = signal start width 1 0 1 0 0
+
+abbrev composes-wide : ℕ → ℕ → ℕ → Question
+composes-wide start width v = composes (one (wide start width)) 1 (v ∷ []) [] (replicate 128 0xEE) (53 ∷ 60 ∷ 61 ∷ [])
+
 abbrev counts : ℕ → ℕ → ℕ → ℕ → List ℕ
 counts checks signals codes routes = gave (checks ∷ signals ∷ codes ∷ routes ∷ 1 ∷ [])
 
@@ -158,6 +165,7 @@ table =
     ∷ asked-as "start-before-the-end-before"
     (judges (two (plain 320 1 1) (plain 327 1 1))) (refuses 3 20)
     (judges (two (plain 320 1 1) (plain 328 1 1))) (counts 0 2 0 0)
+    ∷ asked-as "width-65" (judges (one (signal 320 65 1 0 1 0 0))) (refuses 3 4) (judges (one (signal 320 64 1 0 1 0 0))) (counts 0 1 0 0)
     ∷ saying "overlap-at-the-next-entry" (judges (made (400 ∷ []) (plain 320 1 1 ∷ plain 400 1 1 ∷ []) [] [])) (refuses 3 22) (refuses 3 38)
     ∷ asked-as "overlap-passed"
     (judges (made (400 ∷ []) (plain 400 1 1 ∷ []) [] [])) (refuses 3 6)
@@ -253,6 +261,7 @@ table =
     ∷ saying "refuses-every-reading" (read 0x10 0x40) (value 4 0) (refuses 11 0)
     ∷ asked-as "replaces-every-value" (read 0x10 0x40) (value 4 0) (reads listL silent 5000 1 0) (value 0 2)
     ∷ asked-as "bit-0-least" (read 0x10 0x40) (value 4 0) (read 0x10 0x02) (value 0 0)
+    ∷ saying "cut-to-48-bits" (reads (one (wide 424 64)) (heardAt 0 0x80 0) 0 1 0) (value 0x8000000000000000 0) (value 0 0)
     ∷ asked-as "forced-as-error" (read 0x20 0x40) (value 4 1) (read 0x00 0x40) (value 0 6)
     ∷ asked-as "forced-as-ok" (read 0x20 0x40) (value 4 1) (read 0x10 0x40) (value 4 0)
     ∷ asked-as "undefined-passed" (read 0x30 0x40) (value 0 7) (read 0x10 0x40) (value 4 0)
@@ -283,6 +292,9 @@ table =
     ∷ saying "forced-not-counted" (marshals listL (heardAt 0x20 0x40 0) 0 (0xAB ∷ [])) (filled 1 0x4B) (filled 0 0x4B)
     ∷ saying "four-bits-write-eight" (marshal listL) (filled 1 0x4B) (filled 1 0x04)
     ∷ saying "neighbour-bits-wiped" (marshal listL) (filled 1 0x4B) (filled 1 0x40)
+    ∷ saying "replacement-in-the-high-octets"
+    (marshals (made [] (signal 424 64 1 0 1 0 0x010203040506 ∷ []) [] (route 0 1 0 ∷ [])) silent 0 (replicate 8 0xAB)) (gave (0 ∷ 0 ∷ 0 ∷ 1 ∷ 2 ∷ 3 ∷ 4 ∷ 5 ∷ 6 ∷ []))
+    (gave (0 ∷ 1 ∷ 2 ∷ 3 ∷ 4 ∷ 5 ∷ 6 ∷ 0 ∷ 0 ∷ []))
     ∷ saying "stale-value-left" (marshals listL silent 0 (0xAB ∷ [])) (filled 0 0x0B) (filled 0 0xAB)
     ∷ saying "twelve-loosened" (marshal (set listL 43 5)) (refuses 12 0 ++ (0xAB ∷ [])) (filled 1 0xAA)
     -- composing
@@ -293,6 +305,11 @@ table =
     ∷ asked-as "mark-untested" (compose listL 4 5) (unsent 14 0) (compose listL 4 1) (sent 1 0x10 0x40)
     ∷ asked-as "value-untested" (compose listL 16 1) (unsent 15 0) (compose listL 0 1) (sent 1 0x10 0x00)
     ∷ asked-as "reserved-code-composed" (compose listL 7 1) (unsent 15 0) (compose no-codes 7 1) (sent 1 0x10 0x70)
+    ∷ saying "all-ones-refused" (composes-wide 424 64 0xFFFFFFFFFFFFFFFF) (gave (0xFF ∷ 0xFF ∷ 0 ∷ [])) (refuses 15 0 ++ (0xEE ∷ 0xEE ∷ 0xEE ∷ []))
+    ∷ asked-as "two-to-the-49-at-49"
+    (composes-wide 424 49 0x2000000000000) (refuses 15 0 ++ (0xEE ∷ 0xEE ∷ 0xEE ∷ []))
+    (composes-wide 424 49 0) (gave (0 ∷ 0 ∷ 0 ∷ []))
+    ∷ saying "ninth-octet-left-out" (composes-wide 425 64 0xFFFFFFFFFFFFFFFF) (gave (0x7F ∷ 0xFF ∷ 0x80 ∷ [])) (gave (0x7F ∷ 0xFF ∷ 0 ∷ []))
     ∷ saying "values-before-marks" (compose listL 16 5) (unsent 14 0) (unsent 15 0)
     ∷ saying "r3-past-octet-40"
     (composes listL 3 (4 ∷ []) (5 ∷ []) (replicate 40 0xEE) (0 ∷ 39 ∷ [])) (gave (0x13 ∷ 0 ∷ []))
@@ -356,9 +373,9 @@ written r = record { paper-says = r .right; it-says = r .wrong; same = false }
 pub wrong : map told table ≡ map written table
 unfolding table answered sameNumbers joined made ask listL telegram silent heardAt bit field withBit setBit put puts number octetsOf over refuseIf
     firstFrom firstBad all some next count greatest applicationType telegramType versionOf rows placeIn SignalList.checkAt SignalList.signalAt
-    SignalList.codeAt SignalList.routeAt SignalList.checkRule SignalList.signalRule SignalList.codeRule SignalList.routeRule SignalList.opening
+    SignalList.codeAt SignalList.routeAt SignalList.checkRule SignalList.signalRuleTo SignalList.codeRule SignalList.routeRule SignalList.opening
     SignalList.judgeEntries SignalList.judgeSection SignalList.greatestSince SignalList.ending SignalList.fromRoutes SignalList.fromCodes
-    SignalList.fromSignals judge faultIn faultFromRoutes faultFromCodes faultFromSignals faultOf hasCodes inRange knownIn knows placeOf version codesKept keeps stands newer Extending.extends extendsLists entryOf
+    SignalList.fromSignalsTo judgeTo faultIn faultFromRoutes faultFromCodes faultFromSignals faultOf hasCodes inRange knownIn knows placeOf version codesKept keeps stands newer Extending.extends extendsLists entryOf
     routeEntry signalFound finding has index nextPair pairing slotOf taken taking age heard heldIn holding markOf codeOf hindrances reasonOf readingOf
     readingAt reading routed marshalled live marshalling headed composed markFits valueFits composing showing ofBits round toBits consistRule meets member
     setTo membersOf resolving requests isRequest isReport eReading answerTo answering

@@ -17,7 +17,7 @@ unfolding codeKeeps
 returns-3 c =
     let e = c .before .before .before in
     let w = e .before in
-    rw (lt-ltb _ _ (w .before .if1 .left), ← (w .width-of .ensures .is), le-leb _ _ (e .if2 .left), ← (c .before .pow2 .ensures), ← (c .in-order .ensures))
+    rw (lt-ltb _ _ (w .before .if1 .left), ← (w .width-of .ensures .is), le-leb _ _ (e .if2 .left), ← (c .before .fits2 .ensures), ← (c .in-order .ensures))
 
 pub code-rule-spec : {M : Type 1} → statement M
 code-rule-spec =

@@ -3,7 +3,6 @@ use Prim.Native.Nat.{ℕ, _-_, _^_}
 use mathlib.Core.Path.{_≡_, ap, _∙_}
 use mathlib.Core.Bool.{true}
 use native.Mathlib.Omega.{arith}
-use lib.Pow.{pow-pos}
 use denote.Ref.{now}
 use borrow.Author.Needs.{needs}
 use Rattle.paper.specs.SignalList.{Signal, hasCodes}
@@ -43,13 +42,11 @@ returns-2 c =
     c .ranges-kept .ensures
     ∙ kept-ranges _ _ _ _ (some-b e) (kept s) (has-some _ _ (ordered-of _ (kept s)) _ _ _ (s .pre .0 .2) (t .if2 .taken))
 
-pow2-requires : tie.Need-pow2-requires
-pow2-requires c κs =
+most-requires : tie.Need-most-requires
+most-requires c κs =
     let s = c .before .before .before .before .before .before .before in
-    omega (arith, width c, kept s .signal (s .args .i) (s .pre .0 .1) .wide)
-
-sub-range-kept : tie.Need-sub-range-kept
-sub-range-kept c = rw (c .pow2 .ensures) (pow-pos (c .before .signal-in .result .width))
+    let k = kept s .signal (s .args .i) (s .pre .0 .1) in
+    omega (arith, width c, k .some, k .wide)
 
 returns-3 : tie.Need-returns-3
 returns-3 c =
@@ -58,7 +55,7 @@ returns-3 c =
     let e = t .before .before in
     let s = e .before .before .before .before in
     c .range-kept .ensures
-    ∙ ap (λ (x : ℕ). rangeKept (listed (now (s .args .b)) (s .args .n)) (s .args .j) 0 (x - 1)) (p .pow2 .ensures ∙ ap (λ (x : ℕ). 2 ^ x) (width (p .before)))
+    ∙ ap (λ (x : ℕ). rangeKept (listed (now (s .args .b)) (s .args .n)) (s .args .j) 0 x) (p .most .ensures ∙ ap (λ (x : ℕ). 2 ^ x - 1) (width (p .before)))
     ∙ kept-whole _ _ _ _ (some-b e) (has-none _ _ (ordered-of _ (kept s)) _ _ _ (s .pre .0 .2) (omega (arith, t .if2 .left, s .pre .0 .2 .ordered)))
 
 pub codes-kept-spec : {M : Type 1} → statement M
@@ -69,7 +66,6 @@ codes-kept-spec =
     (λ c κs. search needs)
     returns-2
     (λ c κs. search needs)
-    pow2-requires
-    sub-range-kept
+    most-requires
     (λ c κs. search needs)
     returns-3)

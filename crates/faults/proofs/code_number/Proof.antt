@@ -7,7 +7,7 @@ returns : tie.Need-returns
 returns c =
     let e = c .before .before .before .before .before in
     let o = e .before .before in
-    rw (← (o .before .unless .ensures), ← (o .unless2 .ensures), ← (e .before .is-below .ensures), ← (e .unless3 .ensures), ← (c .before .before .unless4 .ensures), ← (c .before .unless5 .ensures))
+    rw (← (o .before .unless .ensures), ← (o .unless2 .ensures), ← (e .before .fits2 .ensures), ← (e .unless3 .ensures), ← (c .before .before .unless4 .ensures), ← (c .before .unless5 .ensures))
     (c .unless6 .ensures)
 
 pub code-number-spec : {M : Type 1} → statement M

@@ -5,7 +5,7 @@ use native.Mathlib.Omega.{arith}
 use denote.Ref.{now}
 use borrow.Author.Needs.{needs}
 use Rattle.paper.specs.Answer.{Answer}
-use Rattle.paper.specs.SignalList.{Counts, signalSize, mostSignals, checkAt, signalAt, signalRule, fromCodes, fromSignals}
+use Rattle.paper.specs.SignalList.{Counts, signalSize, mostSignals, checkAt, signalAt, signalRule, fromCodes, fromSignalsTo}
 use Rattle.paper.proofs.ListLaws.{codes-within}
 use Rattle.lists.proofs.Laws.{Part, onward, Opens, opens, not-opened, entry-broken, entries-kept, moves, follows}
 use Rattle.lists.proofs.from_signals.Statement.{statement}
@@ -32,7 +32,7 @@ opened : (c : tie.After-known-told2) → Opens (part (c .before .before .before)
 opened c = opens _ (c .before .before .before .«open» .ensures) _ (c .before .opened2 .given .1)
 
 returns : tie.Need-returns
-unfolding fromSignals
+unfolding fromSignalsTo
 returns c = entry-broken (opened (c .before .before)) (c .before .first-bad-signal .ensures) (c .if1 .taken)
 
 moved-requires : tie.Need-moved-requires
@@ -41,11 +41,11 @@ moved-requires c κs =
     moves (opened t) (from (t .before .before .before)) (c .from-codes .ensures) (c .before .rest .ensures) (search needs) (codes-within _ _ _ _)
 
 returns-2 : tie.Need-returns-2
-unfolding fromSignals
+unfolding fromSignalsTo
 returns-2 c = not-opened _ (c .before .before .before .«open» .ensures) _ (c .before .opened .given .1)
 
 returns-3 : tie.Need-returns-3
-unfolding fromSignals
+unfolding fromSignalsTo
 returns-3 c =
     let r = c .before in
     let e = r .before .before in

@@ -6,7 +6,7 @@ use native.Mathlib.Omega.{arith}
 use denote.Ref.{now}
 use borrow.Author.Needs.{needs}
 use Rattle.paper.specs.Answer.{Answer}
-use Rattle.paper.specs.SignalList.{Counts, entry, checkSize, mostChecks, checkAt, checkRule, fromSignals, judge}
+use Rattle.paper.specs.SignalList.{Counts, entry, checkSize, mostChecks, checkAt, checkRule, fromSignals, judge, judgeTo}
 use Rattle.paper.proofs.ListLaws.{signals-within}
 use Rattle.lists.proofs.Laws.{Part, onward, Opens, opens, not-opened, found-small, entry-broken, entries-kept, all-kept, moves, follows}
 use Rattle.lists.proofs.judge.Statement.{statement}
@@ -25,7 +25,7 @@ opened : (c : tie.After-known-told2) → Opens (part (c .before .before .before)
 opened c = opens _ (c .before .before .before .«open» .ensures) _ (c .before .opened2 .given .1)
 
 returns : tie.Need-returns
-unfolding judge
+unfolding judgeTo
 returns c = entry-broken (opened (c .before .before)) (ap (entry checkSize) (c .before .first-bad-check .ensures)) (c .if1 .taken)
 
 from-signals-requires : tie.Need-from-signals-requires
@@ -40,11 +40,11 @@ moved-requires c κs =
     moves (opened t) (from (t .before .before .before)) (c .from-signals .ensures) (c .before .rest .ensures) (search needs) (signals-within _ _ _)
 
 returns-2 : tie.Need-returns-2
-unfolding judge
+unfolding judgeTo
 returns-2 c = not-opened _ (c .before .before .before .«open» .ensures) _ (c .before .opened .given .1)
 
 returns-3 : tie.Need-returns-3
-unfolding judge
+unfolding judgeTo
 returns-3 c =
     let r = c .before in
     let e = r .before .before in
