@@ -2,7 +2,7 @@
 //! head, the list's version, every signal the type carries and every check within the telegram's length;
 //! all other bits are 0."
 
-use crate::list::{knows, List, Signal};
+use crate::list::{fits, knows, List, Signal};
 use crate::octets::write_field;
 use crate::refusal::Refusal;
 use crate::store::length_of;
@@ -72,6 +72,6 @@ fn first_at_fault(list: &List, kind: u8, values: &[u64]) -> Option<usize> {
         .enumerate()
         .position(|(number, (signal, &value))| {
             let codes = codes.next_of(number);
-            signal.carried_by(kind) && (value >> signal.width() != 0 || !knows(codes, value))
+            signal.carried_by(kind) && !(fits(value, signal.width()) && knows(codes, value))
         })
 }

@@ -9,6 +9,9 @@ pub(crate) const MOST_SIGNALS: usize = 256;
 const MOST_CODES: usize = 512;
 const MOST_ROUTES: usize = 512;
 
+/// "Width 1-48", which document 02 amends, C-15: "Let widths run from 1 to 64".
+const WIDEST: u8 = 64;
+
 /// Octets 3-40 end here, and octets 41-128 begin: "Type 0 (common) lies wholly in addresses 16-319; type
 /// 1 (R1) or 2 (R2) wholly in 320-1023."
 const COMMON_END: u32 = 320;
@@ -201,6 +204,12 @@ impl<'a> CodesInOrder<'a> {
     }
 }
 
+/// Whether a value is below 2^width, for a width of 1 to 64: "at width 64 every value fits".
+#[inline]
+pub(crate) fn fits(value: u64, width: u8) -> bool {
+    value <= u64::MAX >> (64 - width)
+}
+
 /// Whether a value is known to the signal with these entries. "A signal with no entry knows every code."
 #[inline]
 pub(crate) fn knows(codes: &[CodeEntry], value: u64) -> bool {
@@ -283,12 +292,12 @@ fn first_bad_signal(
         let past = first + u32::from(signal.width());
         let good = signal.kind() == kind
             && kind <= 2
-            && (1..=48).contains(&signal.width())
+            && (1..=WIDEST).contains(&signal.width())
             && least <= first
             && past <= end
             && signal.since() >= 1
             && signal.limit() <= 600_000
-            && signal.replacement() >> signal.width() == 0
+            && fits(signal.replacement(), signal.width())
             && match usize::from(signal.check()).checked_sub(1) {
                 None => true,
                 Some(named) => place(named).is_some_and(|place| (place < COMMON_END) == common),

@@ -106,6 +106,36 @@ fn the_first_signal_at_fault() {
     assert_eq!((out[0], out[1], out[2], out[40]), (0x12, 7, 0, 0xF0));
 }
 
+/// C-15: "at width 64 every value fits", and in each narrower field 2^width does not.
+#[test]
+fn fields_of_up_to_64_bits() {
+    for width in 1..=64 {
+        let list = List {
+            signals: vec![Signal {
+                start: 425,
+                width,
+                kind: 1,
+                check: 0,
+                since: 1,
+                limit: 0,
+                replacement: 0,
+            }],
+            ..List::default()
+        }
+        .octets();
+        let mut out = [0; 128];
+        let mut answer = |value| compose(&list, 1, &[value], &[], &mut out);
+        assert_eq!(answer(u64::MAX >> (64 - width)), Ok(()));
+        let past = answer((u64::MAX >> (64 - width)).wrapping_add(1));
+        let expected = if width < 64 {
+            Err(refusal(15, 0))
+        } else {
+            Ok(())
+        };
+        assert_eq!(past, expected, "{width}");
+    }
+}
+
 #[test]
 fn made_lists() {
     let mut r = Random::new(8);
@@ -123,7 +153,7 @@ fn made_lists() {
         for _ in 0..r.below(3) {
             let at = r.below(1 + values.len() as u64) as usize;
             if let Some(value) = values.get_mut(at) {
-                *value = r.of(&[0, 1, 2, 5, 16, 255, 65535, 65536, 1 << 48, u64::MAX]);
+                *value = r.of(&[0, 1, 16, 255, 65536, 1 << 48, 1 << 49, 1 << 63, u64::MAX]);
             }
         }
         if r.one_in(4) {

@@ -161,7 +161,9 @@ fn signal_places() {
         signal(64, 1, 0),
         signal(319, 1, 0)
     ])));
+    assert!(ok(&with(&[signal(16, 64, 0), signal(256, 64, 0)])));
     assert!(ok(&with(&[signal(320, 48, 1), signal(976, 48, 1)])));
+    assert!(ok(&with(&[signal(321, 64, 1), signal(960, 64, 1)])));
     assert!(ok(&with(&[signal(320, 48, 2), signal(1023, 1, 2)])));
     // The R1 and R2 parts may lie over each other.
     assert!(ok(&with(&[
@@ -172,7 +174,9 @@ fn signal_places() {
     for (start, width, kind) in [
         (15, 1, 0),
         (16, 0, 0),
-        (16, 49, 0),
+        (16, 65, 0),
+        (257, 64, 0),
+        (961, 64, 1),
         (319, 2, 0),
         (320, 1, 0),
         (319, 2, 1),
@@ -245,8 +249,16 @@ fn signal_numbers() {
     assert!(!of(Signal {
         width: 47,
         replacement: 1 << 47,
-        ..s
+        ..s.clone()
     }));
+    // Six octets are below 2^width from 48 bits on.
+    for width in 49..=64 {
+        assert!(of(Signal {
+            width,
+            replacement: (1 << 48) - 1,
+            ..s.clone()
+        }));
+    }
 }
 
 #[test]
@@ -328,7 +340,7 @@ fn codes() {
 
 #[test]
 fn routes() {
-    let signals = [signal(16, 4, 0), signal(20, 48, 0)];
+    let signals = [signal(16, 4, 0), signal(20, 48, 0), signal(68, 64, 0)];
     let of = |routes: &[(u64, u64, u64, u64)]| {
         let routes = routes
             .iter()
@@ -347,7 +359,9 @@ fn routes() {
     assert!(of(&[(0, 1, 0, 0), (0, 1, 0, 4), (1, 63, 0, 2000)]));
     assert!(!of(&[(1, 63, 0, 2001)]));
     assert!(!of(&[(0, 1, 0, 65535)]));
-    assert!(!of(&[(2, 1, 0, 0)]));
+    assert!(of(&[(2, 63, 0, 1984)]));
+    assert!(!of(&[(2, 63, 0, 1985)]));
+    assert!(!of(&[(3, 1, 0, 0)]));
     assert!(!of(&[(0, 0, 0, 0)]));
     assert!(!of(&[(0, 64, 0, 0)]));
     assert!(!of(&[(0, 1, 1, 0)]));

@@ -23,6 +23,34 @@ fn refusals_and_their_order() {
     assert_eq!(data, [0xA8, 0x2B, 0xAB]);
 }
 
+/// C-15: "replacements keep 6 octets, with leading zeros above", from a bit that starts no octet too.
+#[test]
+fn a_wide_replacement_leads_with_zeros() {
+    let signal = plain::Signal {
+        start: 424,
+        width: 64,
+        kind: 1,
+        check: 0,
+        since: 1,
+        limit: 0,
+        replacement: 0x0102_0304_0506,
+    };
+    let route = plain::Route {
+        signal: 0,
+        vehicle: 1,
+        zero: 0,
+        start: 4,
+    };
+    let list = plain::List {
+        signals: vec![signal],
+        routes: vec![route],
+        ..plain::List::default()
+    };
+    let mut data = [0xFF; 9];
+    assert_eq!(marshal(&list.octets(), &[0; STORE], 0, &mut data), Ok(0));
+    assert_eq!(data, [0xF0, 0, 0, 0x10, 0x20, 0x30, 0x40, 0x50, 0x6F]);
+}
+
 #[test]
 fn made_lists_and_stores() {
     let mut r = Random::new(7);

@@ -3,9 +3,18 @@
 use super::plain::{Code, List, Route, Signal};
 use super::{Random, HEAD, HEARD, SIGNAL_SIZE, SLOT, STAMP, STORE};
 
+/// The greatest value of so many bits, 1 to 64. A replacement has 48 at most.
+fn top(width: u64) -> u64 {
+    u64::MAX >> (64 - width)
+}
+
 /// A good list. `full` asks for as many entries as fit.
 pub fn list(r: &mut Random, full: bool) -> List {
-    let wide = if full { 10 } else { r.of(&[3, 8, 16, 20, 48]) };
+    let wide = if full {
+        10
+    } else {
+        r.of(&[3, 8, 16, 20, 48, 64])
+    };
     list_up_to(r, full, wide)
 }
 
@@ -58,7 +67,7 @@ pub fn list_up_to(r: &mut Random, full: bool, wide: u64) -> List {
                 check,
                 since: r.within(1, versions),
                 limit: r.of(&[0, 1, 100, 5000, 600_000]),
-                replacement: r.word() & ((1 << width) - 1),
+                replacement: r.word() & top(width.min(48)),
             });
             at = start + width;
         }
@@ -138,7 +147,7 @@ pub fn spoiled(r: &mut Random, list: &List) -> Vec<u8> {
             }
             4 if !octets.is_empty() => {
                 let at = r.below(octets.len() as u64) as usize;
-                octets[at] = r.of(&[0, 1, 2, 3, 16, 17, 48, 49, 63, 64, 255]);
+                octets[at] = r.of(&[0, 1, 2, 3, 16, 17, 48, 49, 63, 64, 65, 255]);
             }
             5 if octets.len() > 16 => {
                 // An entry swapped with its neighbour, or near enough.
@@ -200,7 +209,7 @@ pub fn changed(r: &mut Random, list: &List) -> List {
                 2 => step(r, &mut s.check),
                 3 => step(r, &mut s.since),
                 4 => s.limit = r.below(600_001),
-                _ => s.replacement = r.word() & ((1 << s.width) - 1),
+                _ => s.replacement = r.word() & top(s.width.min(48)),
             }
         }
         4 | 5 if !list.signals.is_empty() => {
@@ -279,7 +288,7 @@ pub fn values(r: &mut Random, list: &List) -> Vec<u64> {
         .zip(&list.signals)
         .map(|(i, s)| match list.codes.iter().find(|c| c.signal == i) {
             Some(c) => r.within(c.low, c.high),
-            None => r.word() & ((1 << s.width) - 1),
+            None => r.word() & top(s.width),
         })
         .collect()
 }

@@ -34,6 +34,11 @@ fn number(octets: &[u8]) -> u64 {
         .fold(0, |value, &octet| 256 * value + u64::from(octet))
 }
 
+/// 2^64 is no number of 64 bits.
+fn fits(value: u64, width: u64) -> bool {
+    u128::from(value) < 1 << width
+}
+
 #[derive(Clone, Debug, PartialEq)]
 pub struct Signal {
     pub start: u64,
@@ -144,7 +149,7 @@ impl List {
         for (offset, e) in section(list, &mut at, 256, SIGNAL_SIZE)? {
             let s = Signal::of(&e);
             let rules = [
-                (1..=48).contains(&s.width),
+                (1..=64).contains(&s.width),
                 s.kind <= 2,
                 if s.kind == 0 {
                     s.start >= 16 && s.end() <= 320
@@ -156,7 +161,7 @@ impl List {
                         && (good.checks[s.check as usize - 1] < 320) == (s.kind == 0)),
                 s.since >= 1,
                 s.limit <= 600_000,
-                s.width < 64 && s.replacement < 1 << s.width,
+                s.width <= 64 && fits(s.replacement, s.width),
                 good.signals.iter().all(|before| before.kind <= s.kind),
                 good.signals
                     .iter()
@@ -180,7 +185,7 @@ impl List {
             let rules = [
                 s.width <= 16,
                 c.low <= c.high,
-                c.high < 1 << s.width,
+                fits(c.high, s.width),
                 good.codes.iter().all(|before| before.signal <= c.signal),
                 good.codes
                     .iter()
@@ -387,7 +392,7 @@ pub fn compose(
     }
     for (i, (s, &value)) in list.signals.iter().zip(values).enumerate() {
         if (s.kind == 0 || s.kind == kind)
-            && (value >= 1 << s.width || !list.knows(i as u64, value))
+            && (!fits(value, s.width) || !list.knows(i as u64, value))
         {
             return refuse(15, i as u64);
         }
