@@ -1,7 +1,7 @@
 #!/usr/bin/env python3
 """Writes the signal lists of this folder from signals.csv. data/README.md says what is the sources' and what is a choice.
 
-    data/make.py            writes coach.list, coach-next.list, coach-wrong.list and L.list
+    data/make.py            writes coach.list, coach-next.list, coach-wrong.list, counters.list and L.list
     data/make.py --check    only says whether they are as they would be written
 """
 import csv
@@ -73,9 +73,17 @@ def successor(signals, since):
 L = bytes.fromhex("0001 0142 0001 01A8 04 01 01 01 00001388 000000000000 0002 0000 0000 0006 0000 000F 000F 0001 0000 01 00 0000")
 
 
+# A national list, written by hand as L is: a check at octet 41 bits 0-1; R1 octets 74-81 under it, two counters of 32 bits in a field of 64,
+# with a replacement of six octets; R1 octet 82 bits 0-3; 64 bits from octet 90 bit 3 on; and the first of vehicles 1 and 2, then the last of 1, routed
+COUNTERS = bytes.fromhex(
+    "0001 0140 0003 0248 40 01 01 01 00001388 FFFFFFFFFFFF 0288 04 01 01 01 00001388 000000000000 02CB 40 01 00 01 00001388 000000000007"
+    "0000 0003 0000 01 00 0000 0000 02 00 0040 0002 01 00 0084")
+
+
 def main():
     files = {
         "L.list": L,
+        "counters.list": COUNTERS,
         "coach.list": pack(list(read_signals()), ROUTES),
         "coach-next.list": pack(successor(list(read_signals()), 3), ROUTES),
         "coach-wrong.list": pack(successor(list(read_signals()), 2), ROUTES),

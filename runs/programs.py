@@ -48,6 +48,32 @@ FULL = slots.store(*[slots.slot(5000, R1)] * slots.VEHICLES)
 ACROSS = lists.pack([], [lists.signal(372, 12), lists.signal(384, 8), lists.signal(400, 16)], [], [lists.route(0, 1, 4), lists.route(1, 1, 16)])
 ACROSS_2 = lists.pack([], [lists.signal(372, 11), lists.signal(384, 8, limit=600000, replacement=7)])
 
+# fields of up to 64 bits, from any bit of an octet, beside narrow ones; the same with one a bit narrower; and one with the places that are
+# longest to say, of 48 bits at most
+def wide(third):
+    return lists.pack([lists.check(320)], [
+        lists.signal(256, 64, 0, replacement=2**48 - 1), lists.signal(424, 64, check=1, replacement=0x010203040506), lists.signal(489, 49), lists.signal(539, third),
+        lists.signal(700, 4, check=1), lists.signal(955, 64, replacement=7), lists.signal(960, 64, 2),
+    ], [], [lists.route(1, 1, 0), lists.route(1, 2, 68), lists.route(2, 1, 133), lists.route(5, 1, 1984)])
+
+
+WIDE, WIDE_2 = wide(63), wide(62)
+LONG_PLACE = lists.pack([], [lists.signal(903, 48, replacement=2**48 - 1), lists.signal(952, 4)], [], [lists.route(0, 1, 1999)])
+
+
+def put(octets, *fields):
+    """The octets with each (start, width, value) in its field."""
+    whole = int.from_bytes(octets, "big")
+    for start, width, value in fields:
+        shift = 8 * len(octets) - start - width
+        whole = whole & ~((2**width - 1) << shift) | value << shift
+    return whole.to_bytes(len(octets), "big")
+
+
+MOST_64 = 2**64 - 1
+R1_WIDE = put(b"\x11\x01" + bytes(126), (320, 2, 2), (256, 64, 2**63), (424, 64, MOST_64), (489, 49, 2**49 - 1), (539, 63, 2**63 - 1), (700, 4, 9), (955, 64, MOST_64))
+WIDE_HEARD = slots.store(slots.slot(6000, R1_WIDE))
+
 # lists as long as a telegram: 22 and 8 checks, a signal, and ten code ranges and none
 LIST_128 = lists.pack([lists.check(20 + 2 * k) for k in range(22)], [lists.signal(384, 8)], [lists.code(0, 2 * k, 2 * k) for k in range(10)])
 LIST_40 = lists.pack([lists.check(20 + 2 * k) for k in range(8)], [lists.signal(384, 8)])
@@ -56,6 +82,7 @@ assert (len(LIST_128), len(LIST_40)) == (128, 40)
 FILES = {
     "coach.list": data("coach.list"), "next.list": data("coach-next.list"), "L.list": lists.L, "across.list": ACROSS, "across-2.list": ACROSS_2,
     "ends.list": lists.L[:-1], "above.list": b"\xff\xff", "broken.list": lists.pack([lists.check(17)]), "more.list": lists.L + b"\0",
+    "wide.list": WIDE, "wide-2.list": WIDE_2, "long.list": LONG_PLACE, "wide-heard": WIDE_HEARD, "r1-wide": R1_WIDE, "bus-256": b"\xff" * 256,
     "huge.list": lists.LONGEST + bytes(1000), "longest.list": lists.LONGEST,
     "r1": R1, "r2": R2, "r3": R3, "values": data("scene/1-R1.values"),
     "empty": b"", "one": b"\x11", "app": b"\x21" + R1[1:], "kind": b"\x14" + R1[1:], "r1-127": R1[:127], "r1-129": R1 + b"\0", "r3-128": R3 + bytes(88), "r2-2": R2[:2], "r3-5000": R3 + bytes(4960),
@@ -144,6 +171,7 @@ def take_table():
     yield ["take", "store", "63", "4294967295", "r3"], says("taken R3 version 1 vehicle 63 at 4294967295", store=slots.taken(NEW, 63, 4294967295, R3))
     yield ["take", "full", "7", "7", "r3"], says("taken R3 version 1 vehicle 7 at 7", full=slots.taken(FULL, 7, 7, R3))
     yield ["take", "store", "007", "7", "r3"], says("taken R3 version 1 vehicle 7 at 7", store=slots.taken(NEW, 7, 7, R3))
+    yield ["take", "store", "1", "6000", "r1-wide"], says("taken R1 version 1 vehicle 1 at 6000", store=WIDE_HEARD)
     yield ["take", "store-1", "99", "1", "one"], refused(NO_STORE)
     yield ["take", "store+1", "1", "1", "r1"], refused(NO_STORE)
     yield ["take", "store", "0", "1", "one"], refused("6: vehicle not 1-63")
@@ -192,6 +220,11 @@ def believe_table():
     yield ["believe", "coach.list", "train", "6000", "3"], as_in("believe-old-version")
     yield ["believe", "across.list", "train", CLOCK], as_in("believe-across")
     yield ["believe", "coach.list", "store", CLOCK], says("never heard: 1-63")
+    yield ["believe", "wide.list", "wide-heard", CLOCK], as_in("believe-wide")
+    yield ["believe", "wide.list", "wide-heard", CLOCK, "2"], as_in("believe-wide-never")
+    yield ["believe", "wide.list", "wide-heard", CLOCK, "1", "4"], as_in("believe-wide-4")
+    yield ["believe", "wide.list", "wide-heard", CLOCK, "1", "table"], as_in("believe-wide-table")
+    yield ["believe", "long.list", "store", CLOCK, "1"], as_in("believe-long")
     yield ["believe", "L.list", "store", CLOCK, "5"], as_in("believe-never")
     yield ["believe", "L.list", "full", CLOCK], as_in("believe-full")
     yield words, says("vehicle 1: R1 version 3 age 3000 ms\n 1   94  R1 octet 54 bits 0-3                  3  0 live ok")
@@ -245,6 +278,10 @@ def differ_table():
     yield ["differ", "coach.list", "next.list", "train", CLOCK, "64", "only", "table"], refused("6: vehicle not 1-63")
     yield ["differ", "next.list", "coach.list", "train", CLOCK, "2"], as_in("differ-turned")
     yield ["differ", "across.list", "across-2.list", "train", "12000"], as_in("differ-widths")
+    yield ["differ", "wide.list", "wide-2.list", "wide-heard", CLOCK], as_in("differ-wide")
+    yield ["differ", "wide.list", "wide-2.list", "wide-heard", CLOCK, "1", "table"], as_in("differ-wide-table")
+    yield ["differ", "L.list", "wide.list", "wide-heard", CLOCK, "1"], as_in("differ-wide-right")
+    yield ["differ", "wide.list", "L.list", "wide-heard", CLOCK, "1"], as_in("differ-wide-left")
     yield ["differ", "L.list", "L.list", "store", CLOCK, "63"], as_in("differ-never")
     yield ["differ", "coach.list", "next.list", "train", CLOCK, "64"], refused("6: vehicle not 1-63")
     yield ["differ", "coach.list", "next.list", "store+1", CLOCK, "64"], refused(NO_STORE)
@@ -273,6 +310,14 @@ def marshal_table():
     yield ["marshal", "next.list", "train", CLOCK, "bus"], says("marshalled 14 routes, 10 live", bus=routed[:1] + b"\xf4" + routed[2:] + b"\xff\xff")
     yield ["marshal", "coach.list", "store", CLOCK, "bus"], says("marshalled 14 routes, 0 live", bus=b"\x03\x00" + bytes(4) + b"\x0f\xff" + bytes(10) + b"\xff\xff")
     yield ["marshal", "across.list", "train", CLOCK, "bus", "routes"], as_in("marshal-across", bus=b"\xf8\xa2\x20" + b"\xff" * 17)
+    # 64 bits in eight octets, in nine, and up to bit 2048; a replacement has leading zeros, and no neighbour's bit is changed
+    live = ((0, 64, MOST_64), (133, 49, 2**49 - 1), (1984, 64, MOST_64))
+    replaced = ((0, 64, 0x010203040506), (68, 64, 0x010203040506), (133, 49, 0), (1984, 64, 7))
+    yield ["marshal", "wide.list", "wide-heard", CLOCK, "bus-256", "routes"], as_in("marshal-wide", bus_256=put(FILES["bus-256"], (68, 64, 0x010203040506), *live))
+    yield ["marshal", "wide.list", "wide-heard", CLOCK, "bus-256", "table"], as_in("marshal-wide-table", bus_256=put(FILES["bus-256"], (68, 64, 0x010203040506), *live))
+    yield ["marshal", "wide.list", "store", CLOCK, "bus-256"], says("marshalled 4 routes, 0 live", bus_256=put(FILES["bus-256"], *replaced))
+    yield ["marshal", "wide.list", "store", CLOCK, "bus-18"], refused("12: data shorter than a route's end: 18 octets, 256 needed")
+    yield ["marshal", "long.list", "store", CLOCK, "bus-256", "routes"], as_in("marshal-long", bus_256=put(FILES["bus-256"], (1999, 48, 2**48 - 1)))
     yield ["marshal", "longest.list", "full", CLOCK, "bus-4096"], says("marshalled 512 routes, 0 live", bus_4096=bytes(256) + b"\xff" * 3840)
     yield words[:4] + ["bus-17"], refused("12: data shorter than a route's end: 17 octets, 18 needed")
     yield words[:4] + ["bus-17", "table"], refused("12: data shorter than a route's end: 17 octets, 18 needed")
@@ -319,6 +364,9 @@ VALUES = values(
     v_four="value R1 octet 54 bits 0-2 4\n", v_other_type="\nvalue R2 octet 54 bits 0-3 4\n", v_bit="value R1 octet 54 bit 0 1\n", v_beside="value R1 start 425 1\n",
     v_place_15="value R1 octet 54 bits 0-3 16\n", v_place_value="value R1 octet 54 bits 0-3 x\n", v_check_beside="mark octet 41 bits 4-5 ok\n",
     v_place_mark="mark octet 41 bits 2-3 good\n",
+    v_64="value R3 octets 33-40 9223372036854775808\nvalue 1 18446744073709551615\nvalue R1 octet 62 bit 1 to 68 bit 1 562949953421311\n"
+         "value R1 start 539 9223372036854775807\nvalue R1 octet 88 bits 4-7 9\nvalue R1 octet 120 bit 3 to 128 bit 2 18446744073709551615\nmark octet 41 bits 0-1 forced\n",
+    v_49="value 2 562949953421312\n", v_63="value 3 9223372036854775808\n", v_2_64="value 1 18446744073709551616\n",
     v_most="value 0 18446744073709551615\n", v_both="mark 1 4\nvalue 0 16\n", v_long="#" * 65537, v_65536="#" * 65536, v_zero="value 90 3\n",
 )
 
@@ -367,6 +415,13 @@ def compose_table():
         "composed R2 version 1 octets 128" + "".join(f"\nnote: VALUES 'v-place-last' line {n}: R1 octet 54 bits 0-3 is not carried by R2" for n in (1, 2, 3)),
         out=b"\x12\x01" + forced[2:53] + bytes(75))
     yield ["compose", "across.list", "R1", "v-three", "out"], says("composed R1 version 1 octets 128", out=b"\x11\x01" + bytes(44) + bytes.fromhex("08A2 20 00 0102") + bytes(76))
+    # every value in 64 bits, and in fewer none at 2^width; what is not given is the replacement
+    yield ["compose", "wide.list", "R1", "v-64", "out"], says("composed R1 version 1 octets 128", out=R1_WIDE)
+    yield ["compose", "wide.list", "R2", "empty", "out"], says(
+        "composed R2 version 1 octets 128", out=put(b"\x12\x01" + bytes(126), (320, 2, 1), (256, 64, 2**48 - 1)))
+    yield ["compose", "wide.list", "R3", "v-2-64", "out"], error("VALUES 'v-2-64' line 1: value not a whole number below 2^64")
+    for file, k in (("v-49", 2), ("v-63", 3)):
+        yield ["compose", "wide.list", "R1", file, "out"], refused(f"15 signal {k}: a written value at or above 2^width, or its code not known")
     # one place is the same signal under a list and its neighbour, where its number is another's
     for name, version in (("coach.list", 2), ("next.list", 3)):
         yield ["compose", name, "R2", "v-neighbour", "out"], says(f"composed R2 version {version} octets 128", out=scene.telegram("R2", version, {"R2": {416: 3}}))

@@ -22,6 +22,8 @@ struct Asked {
     vehicle: usize,
     signal: usize,
     table: bool,
+    // where the values of the lines end
+    column: usize,
 }
 
 fn help() {
@@ -62,11 +64,11 @@ fn print_row(page: &mut Page, store: &[u8], asked: Asked, k: usize, s: Signal, r
     saying::add(page, saying::say_tab(l, r.reason as u64));
 }
 
-fn print_signal(page: &mut Page, vehicle: usize, k: usize, s: Signal, r: Reading) {
-    let l = saying::say_right(saying::empty(), 2, vehicle as u64);
+fn print_signal(page: &mut Page, asked: Asked, k: usize, s: Signal, r: Reading) {
+    let l = saying::say_right(saying::empty(), 2, asked.vehicle as u64);
     let l = saying::say(saying::say_right(l, 7, k as u64), b"  ");
     let l = words::say_place(l, s.kind, s.start, s.width);
-    let l = saying::say(saying::say_right(l, 48, r.value), b"  ");
+    let l = saying::say(saying::say_right(l, asked.column, r.value), b"  ");
     saying::add(page, words::say_reason(l, r.reason));
 }
 
@@ -87,7 +89,7 @@ fn one_signal(
     if asked.table {
         print_row(page, store, asked, k, s, r);
     } else {
-        print_signal(page, asked.vehicle, k, s, r);
+        print_signal(page, asked, k, s, r);
     }
     words::count_reason(totals, r.reason)
 }
@@ -126,6 +128,18 @@ fn of_vehicle(asked: Asked, vehicle: usize) -> Asked {
         vehicle,
         signal: asked.signal,
         table: asked.table,
+        column: asked.column,
+    }
+}
+
+fn in_column(asked: Asked, column: usize) -> Asked {
+    Asked {
+        words: asked.words,
+        clock: asked.clock,
+        vehicle: asked.vehicle,
+        signal: asked.signal,
+        table: asked.table,
+        column,
     }
 }
 
@@ -208,10 +222,11 @@ fn judge(list: &[u8], store: &[u8], asked: Asked) {
                 words::print_refused(f);
                 return;
             }
+            let column = words::value_column(list, n.signals, 9, true, 48);
             if asked.words == 5 {
-                print_one(list, store, asked);
+                print_one(list, store, in_column(asked, column));
             } else {
-                print_all(list, n.signals, store, asked);
+                print_all(list, n.signals, store, in_column(asked, column));
             }
         }
     }
@@ -249,6 +264,7 @@ fn ask(words: usize, table: bool) {
         vehicle: vehicle as usize,
         signal: signal as usize,
         table,
+        column: 0,
     });
 }
 

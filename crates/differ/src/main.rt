@@ -39,6 +39,9 @@ struct Asked {
     all: bool,
     only: bool,
     table: bool,
+    // where the values of the lines end, the first list's and the second's
+    left: usize,
+    right: usize,
 }
 
 // The lines, and how many of them differ.
@@ -122,6 +125,11 @@ fn say_side(line: Line, column: usize, side: Side) -> Line {
     words::say_reason(saying::say(l, b"  "), side.reason)
 }
 
+// The column between the two sides: behind the longest reason.
+fn bar(left: usize) -> usize {
+    std::num::wrapping_add_usize(left, 28)
+}
+
 // Widths that differ are said behind the line.
 fn say_widths(line: Line, a: Side, b: Side) -> Line {
     if (a.there & b.there) & (a.width != b.width) {
@@ -132,11 +140,13 @@ fn say_widths(line: Line, a: Side, b: Side) -> Line {
 }
 
 // The place, which either side may have, and what each side says there.
-fn print_pair(page: &mut Page, mark: u8, vehicle: usize, place: Side, a: Side, b: Side) {
-    let l = saying::say_right(saying::put(saying::empty(), mark), 4, vehicle as u64);
+fn print_pair(page: &mut Page, mark: u8, asked: Asked, place: Side, a: Side, b: Side) {
+    let head = saying::put(saying::empty(), mark);
+    let l = saying::say_right(head, 4, asked.vehicle as u64);
     let l = words::say_place(saying::say(l, b"  "), place.kind, place.start, place.width);
-    let l = saying::say(saying::pad(say_side(l, 45, a), 73), b"|");
-    saying::add(page, say_widths(say_side(l, 90, b), a, b));
+    let l = saying::pad(say_side(l, asked.left, a), bar(asked.left));
+    let l = say_side(saying::say(l, b"|"), asked.right, b);
+    saying::add(page, say_widths(l, a, b));
 }
 
 fn say_columns(line: Line, side: Side) -> Line {
@@ -183,14 +193,7 @@ fn print_line(
         print_row(page, store, asked, if same { 0 } else { 1 }, place, a, b);
         return;
     }
-    print_pair(
-        page,
-        if same { b' ' } else { b'*' },
-        asked.vehicle,
-        place,
-        a,
-        b,
-    );
+    print_pair(page, if same { b' ' } else { b'*' }, asked, place, a, b);
 }
 
 // The line of a pair: of a signal that both lists have, or one of them.
@@ -268,6 +271,25 @@ fn of_vehicle(asked: Asked, vehicle: usize) -> Asked {
         all: asked.all,
         only: asked.only,
         table: asked.table,
+        left: asked.left,
+        right: asked.right,
+    }
+}
+
+// With the columns of these two lists.
+fn in_columns(asked: Asked, first: &[u8], m: Counts, second: &[u8], n: Counts) -> Asked {
+    let left = words::value_column(first, m.signals, 6, true, 45);
+    let at = bar(left);
+    let least = std::num::wrapping_add_usize(at, 17);
+    let behind = std::num::wrapping_add_usize(at, 1);
+    Asked {
+        clock: asked.clock,
+        vehicle: asked.vehicle,
+        all: asked.all,
+        only: asked.only,
+        table: asked.table,
+        left,
+        right: words::value_column(second, n.signals, behind, false, least),
     }
 }
 
@@ -368,7 +390,8 @@ fn compare(first: &[u8], second: &[u8], store: &[u8], asked: Asked) {
         words::print_refused(f);
         return;
     }
-    print_asked(first, m, second, n, store, asked);
+    let placed = in_columns(asked, first, m, second, n);
+    print_asked(first, m, second, n, store, placed);
 }
 
 fn read_others(first: &[u8], asked: Asked) {
@@ -410,6 +433,8 @@ fn ask(o: Options) {
         all: o.words == 4,
         only: o.own,
         table: o.table,
+        left: 0,
+        right: 0,
     });
 }
 

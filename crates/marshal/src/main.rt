@@ -74,11 +74,11 @@ fn print_row(page: &mut Page, r: usize, t: Route, s: Signal, x: Reading) {
     );
 }
 
-fn print_route(page: &mut Page, r: usize, t: Route, s: Signal, x: Reading) {
+fn print_route(page: &mut Page, column: usize, r: usize, t: Route, s: Signal, x: Reading) {
     let l = saying::say(saying::say_right(saying::empty(), 3, r as u64), b"  ");
     let l = saying::say_right(words::say_field(l, t.start, s.width), 36, t.vehicle as u64);
     let l = words::say_place(saying::say(l, b"  "), s.kind, s.start, s.width);
-    let l = saying::say(saying::say_right(l, 77, x.value), b"  ");
+    let l = saying::say(saying::say_right(l, column, x.value), b"  ");
     saying::add(page, words::say_reason(l, x.reason));
 }
 
@@ -86,40 +86,34 @@ fn one_route(
     page: &mut Page,
     list: &[u8],
     store: &[u8],
-    clock: u32,
+    order: Order,
+    column: usize,
     r: usize,
     t: Route,
-    table: bool,
 ) {
     let entry = gateway::signal_entry(list, t.signal);
     let EntryOutcome::Entry(e) = entry else {
         return;
     };
-    let read = gateway::read(list, store, clock, t.vehicle, t.signal);
+    let read = gateway::read(list, store, order.clock, t.vehicle, t.signal);
     let ReadOutcome::Read(x) = read else {
         return;
     };
     let s = e.signal;
-    if table {
+    if order.table {
         print_row(page, r, t, s, x);
     } else {
-        print_route(page, r, t, s, x);
+        print_route(page, column, r, t, s, x);
     }
 }
 
-fn print_routes(
-    page: &mut Page,
-    list: &[u8],
-    routes: usize,
-    store: &[u8],
-    clock: u32,
-    table: bool,
-) {
+fn print_routes(page: &mut Page, list: &[u8], n: Counts, store: &[u8], order: Order) {
+    let column = words::value_column(list, n.signals, 38, true, 77);
     let mut r = 0;
-    while r < routes {
+    while r < n.routes {
         let route = gateway::route_entry(list, r);
         if let RouteOutcome::Route(t) = route {
-            one_route(page, list, store, clock, r, t, table);
+            one_route(page, list, store, order, column, r, t);
         }
         r += 1;
     }
@@ -145,7 +139,7 @@ fn print_done(list: &[u8], n: Counts, store: &[u8], order: Order, live: usize) {
         print_names(&mut page);
     }
     if order.routes | order.table {
-        print_routes(&mut page, list, n.routes, store, order.clock, order.table);
+        print_routes(&mut page, list, n, store, order);
     }
     if !order.table {
         print_count(&mut page, n, live);

@@ -22,7 +22,7 @@ fn say_check_rule(line: Line, rule: usize) -> Line {
 
 fn say_signal_rule(line: Line, rule: usize) -> Line {
     match rule {
-        1 => say(line, b"width not 1-48"),
+        1 => say(line, b"width not 1-64"),
         2 => say(line, b"type not 0-2"),
         3 => say(
             line,

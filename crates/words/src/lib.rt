@@ -2,6 +2,7 @@
 // No function that a program's input reaches has a `requires`.
 mod believed;
 mod broken;
+mod columns;
 mod replaced;
 mod said;
 
@@ -14,6 +15,7 @@ pub use believed::print_never;
 pub use believed::print_totals;
 pub use believed::say_head;
 pub use broken::print_refused_list;
+pub use columns::value_column;
 pub use replaced::Written;
 pub use replaced::may_replace;
 pub use said::print_refused;
