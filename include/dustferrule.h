@@ -99,7 +99,7 @@ typedef struct { uint32_t refusal; uint64_t carried; uint64_t checks, signals, c
 typedef struct { uint32_t refusal; uint32_t which; uint64_t carried; uint32_t extends; } df_extending;
 
 /* A signal's entry as it stands in the list, and the place of its check as a bit address, 0 for none.
- * type: 0 common, 1 R1, 2 R2; check: 0 none, k the k-th check; limit: ms, 0 none */
+ * width: 1-64; type: 0 common, 1 R1, 2 R2; check: 0 none, k the k-th check; limit: ms, 0 none; replacement: below 2^48 and 2^width */
 typedef struct {
     uint32_t refusal; uint64_t carried; uint64_t start, width, type, check, since, limit, replacement, place;
 } df_entry;
@@ -108,7 +108,7 @@ typedef struct { uint32_t refusal; uint64_t carried; uint64_t signal; } df_found
 
 typedef struct { uint32_t refusal; uint64_t place; } df_place;
 
-/* reason: a number of DF_REASONS; with 2 to 8 the value is the replacement */
+/* reason: a number of DF_REASONS; with 2 to 8 the value is the replacement; a value is below 2^width, so with width 64 any number */
 typedef struct { uint32_t refusal; uint32_t reason; uint64_t carried; uint64_t value; } df_reading;
 
 typedef struct { uint32_t refusal; uint64_t carried; uint64_t lives; } df_marshalled;

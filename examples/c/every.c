@@ -68,6 +68,28 @@ static void telegrams(void)
     expect("df_marshal", !m.refusal && !m.carried && m.lives == 1 && data[0] == 0x4B);
 }
 
+/* 64 bits from R1 octet 54 bit 1 on, replacement 010203040506, routed from vehicle 1 to data bits 4-67: nine octets on either side */
+static const uint8_t W[30] = {0, 0, 0, 1, 0x01, 0xA9, 64, 1, 0, 1, 0, 0, 0x13, 0x88, 1, 2, 3, 4, 5, 6, 0, 0, 0, 1, 0, 0, 1, 0, 0, 4};
+
+static void wide_fields(void)
+{
+    static uint8_t store[DF_STORE_OCTETS];
+    static const uint8_t replaced[9] = {0xF0, 0, 0, 0x10, 0x20, 0x30, 0x40, 0x50, 0x6F};
+    uint8_t out[128], data[9];
+    uint64_t value = UINT64_MAX;
+    memset(data, 0xFF, sizeof data);
+    df_marshalled m = df_marshal(W, sizeof W, store, sizeof store, 0, data, sizeof data);
+    expect("df_marshal, 64 bits", !m.refusal && !m.lives && memcmp(data, replaced, sizeof data) == 0);
+    df_outcome o = df_compose(W, sizeof W, 1, &value, 1, W, 0, out, sizeof out);
+    expect("df_compose, 64 bits", !o.refusal && out[52] == 0 && out[53] == 0x7F && out[54] == 0xFF && out[61] == 0x80 && out[62] == 0);
+    o = df_take(store, sizeof store, 1, 0, out, sizeof out);
+    df_reading r = df_read(W, sizeof W, store, sizeof store, 0, 1, 0);
+    expect("df_read, 64 bits", !o.refusal && !r.refusal && r.reason == 0 && r.value == UINT64_MAX);
+    memset(data, 0, sizeof data);
+    m = df_marshal(W, sizeof W, store, sizeof store, 0, data, sizeof data);
+    expect("df_marshal, 64 bits", !m.refusal && m.lives == 1 && data[0] == 0x0F && data[1] == 0xFF && data[8] == 0xF0);
+}
+
 static void shown(void)
 {
     df_shown s = df_show_speed(16, 16384);
@@ -111,6 +133,7 @@ int main(void)
 {
     lists();
     telegrams();
+    wide_fields();
     shown();
     train();
     texts();

@@ -92,17 +92,47 @@ pub fn growing(units: usize) -> [Case; 3] {
             move |_| proved::extends(black_box(list), black_box(other)),
             move |_| rust::extends(black_box(list), black_box(other)),
         ),
-        said(
-            "marshal",
-            vec![0xA5; 256],
-            move |data| proved::marshal(black_box(list), black_box(store), black_box(NOW), data),
-            move |data| rust::marshal(black_box(list), black_box(store), black_box(NOW), data),
-        ),
+        marshal("marshal", list, store),
     ];
     cases.map(|mut case| {
         case.name += &format!(", list of {} octets", list.len());
         case
     })
+}
+
+fn marshal(name: &str, list: &'static [u8], store: &'static [u8]) -> Case {
+    said(
+        name,
+        vec![0xA5; 256],
+        move |data| proved::marshal(black_box(list), black_box(store), black_box(NOW), data),
+        move |data| rust::marshal(black_box(list), black_box(store), black_box(NOW), data),
+    )
+}
+
+/// A signal of vehicle 63.
+fn read(name: &str, list: &'static [u8], store: &'static [u8], signal: u64) -> Case {
+    said(
+        name,
+        vec![],
+        move |_| {
+            proved::read(
+                black_box(list),
+                black_box(store),
+                black_box(NOW),
+                black_box(63),
+                black_box(signal),
+            )
+        },
+        move |_| {
+            rust::read(
+                black_box(list),
+                black_box(store),
+                black_box(NOW),
+                black_box(63),
+                black_box(signal),
+            )
+        },
+    )
 }
 
 fn reads() -> Vec<Case> {
@@ -119,30 +149,6 @@ fn reads() -> Vec<Case> {
         reference::read(coded, heard, NOW, 1, 0).map(|r| r.reason),
         Ok(0)
     );
-    let read = |name, list: &'static [u8], store: &'static [u8], signal| {
-        said(
-            name,
-            vec![],
-            move |_| {
-                proved::read(
-                    black_box(list),
-                    black_box(store),
-                    black_box(NOW),
-                    black_box(63),
-                    black_box(signal),
-                )
-            },
-            move |_| {
-                rust::read(
-                    black_box(list),
-                    black_box(store),
-                    black_box(NOW),
-                    black_box(63),
-                    black_box(signal),
-                )
-            },
-        )
-    };
     vec![
         read("read, a signal with 500 code entries", coded, heard, 0),
         read(
@@ -154,11 +160,10 @@ fn reads() -> Vec<Case> {
     ]
 }
 
-fn compose() -> Case {
-    let list = leak(lists::list(64, 5_000));
-    let (values, marks) = (leak(lists::values(64)), leak(lists::marks(64)));
+fn compose(name: &str, list: &'static [u8], values: Vec<u64>, marks: Vec<u8>) -> Case {
+    let (values, marks) = (leak(values), leak(marks));
     said(
-        "compose R1, 256 signals",
+        name,
         vec![0xA5; 128],
         move |out| {
             proved::compose(
@@ -179,6 +184,21 @@ fn compose() -> Case {
             )
         },
     )
+}
+
+/// Fields of 64 bits, one from each bit of an octet: all but the first lie over nine octets.
+fn wide() -> [Case; 3] {
+    let list = leak(lists::wide());
+    let values = lists::wide_values();
+    let mut telegram = vec![0; 128];
+    let composed = reference::compose(list, 1, &values, &[], &mut telegram);
+    composed.expect("the telegram of wide fields is composed");
+    let store = leak(lists::store(&telegram));
+    [
+        read("read, a field of 64 bits", list, store, 3),
+        marshal("marshal, 24 routes of 64 bits", list, store),
+        compose("compose R1, 8 signals of 64 bits", list, values, vec![]),
+    ]
 }
 
 fn take(name: &str, telegram: Vec<u8>) -> Case {
@@ -315,13 +335,19 @@ pub fn refused_alike() {
 /// Every call of the table, in its order.
 pub fn all() -> Vec<Case> {
     let [judge, extends, marshal] = growing(64);
+    let longest = leak(lists::list(64, 5_000));
     let telegram = lists::telegram();
     let r3 = [&[0x13], &telegram[1..40]].concat();
     let mut cases = vec![judge];
     cases.extend(reads());
     cases.extend([
         marshal,
-        compose(),
+        compose(
+            "compose R1, 256 signals",
+            longest,
+            lists::values(64),
+            lists::marks(64),
+        ),
         take("take R1", telegram),
         take("take R3", r3),
         extends,
@@ -335,7 +361,8 @@ pub fn all() -> Vec<Case> {
         resolve("resolve 63 vehicles, all", 66),
     ]);
     cases.push(check_place(583));
-    for width in [1, 4, 8, 16, 48, 64] {
+    cases.extend(wide());
+    for width in [1, 4, 8, 16, 48, 49, 63, 64] {
         cases.extend([read_fields(width), write_fields(width)]);
     }
     cases

@@ -104,6 +104,30 @@ pub fn ranges(entries: usize) -> Vec<(usize, usize, usize)> {
     (0..entries).map(range).collect()
 }
 
+/// Eight signals of 64 bits, each from another bit of an octet, and each routed three times, with a bit between two fields.
+pub fn wide() -> Vec<u8> {
+    let mut list = Vec::new();
+    put16(&mut list, 0);
+    put16(&mut list, 8);
+    for number in 0..8 {
+        put16(&mut list, 320 + 65 * number);
+        list.extend([64, 1, 0, 1, 0, 0, 0x13, 0x88, 0, 0, 0, 0, 0, 0]);
+    }
+    put16(&mut list, 0);
+    put16(&mut list, 24);
+    for number in 0..24 {
+        put16(&mut list, (5 * number + 3) % 8);
+        list.extend([1 + number as u8, 0]);
+        put16(&mut list, 65 * number);
+    }
+    list
+}
+
+/// One value for each signal of [`wide`], of all 64 bits.
+pub fn wide_values() -> Vec<u64> {
+    (1..=8).map(|number| u64::MAX / number).collect()
+}
+
 /// One value for each signal of [`list`], none of them code 1.
 pub fn values(units: usize) -> Vec<u64> {
     (0..4 * units as u64).map(|number| 2 + number % 2).collect()

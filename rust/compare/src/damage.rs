@@ -150,7 +150,7 @@ fn damage_signal(r: &Random, list: &mut List) {
     let s = &mut list.signals[at];
     let end = Signal::region(s.kind).1;
     match r.below(13) {
-        0 => s.width = r.of(&[0, 1, 48, 49, 255]),
+        0 => s.width = r.of(&[0, 1, 48, 49, 63, 64, 65, 66, 128, 255]),
         1 => s.width = r.near(s.width),
         2 => s.kind = r.of(&[0, 1, 2, 3, 255]),
         3 => s.start = r.near(s.start),

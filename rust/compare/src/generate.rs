@@ -205,7 +205,8 @@ fn values(r: &Random, list: &List, kind: u64) -> Vec<u64> {
             let top = list.signals[at].top();
             values[at] = r.of(&[
                 top,
-                top + 1,
+                top.wrapping_add(1),
+                1 << r.of(&[47, 48, 49, 62, 63]),
                 r.word() & top,
                 r.word(),
                 u64::MAX,

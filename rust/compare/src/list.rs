@@ -71,6 +71,11 @@ impl Signal {
             _ => u64::MAX,
         }
     }
+
+    /// The greatest replacement of the field, which has six octets.
+    pub fn top_replacement(&self) -> u64 {
+        self.top() & ((1 << 48) - 1)
+    }
 }
 
 /// The number that stands in so many octets at a place.

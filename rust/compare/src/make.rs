@@ -24,7 +24,17 @@ impl Aim {
         let entries = MOST.map(|most| few(r, most));
         let widths = match entries[1] >= DENSE {
             true => (1, 4),
-            false => r.of(&[(1, 2), (1, 4), (1, 8), (3, 16), (15, 18), (1, 48), (44, 48)]),
+            false => r.of(&[
+                (1, 2),
+                (1, 4),
+                (1, 8),
+                (3, 16),
+                (15, 18),
+                (1, 48),
+                (44, 50),
+                (1, 64),
+                (62, 64),
+            ]),
         };
         Aim { entries, widths }
     }
@@ -143,7 +153,8 @@ pub fn signal(r: &Random, checks: &[u64], kind: u64, start: u64, width: u64) -> 
         limit: r.of(&[0, 1, 2, 100, 5_000, 599_999, 600_000]),
         replacement: 0,
     };
-    signal.replacement = r.of(&[0, signal.top(), r.word() & signal.top()]);
+    let top = signal.top_replacement();
+    signal.replacement = r.of(&[0, top, r.word() & top]);
     if !checks.is_empty() && !r.one_in(4) {
         // Any check of the side that the type asks for.
         let split = checks.partition_point(|&check| check < 320);

@@ -43,7 +43,7 @@ fn edit(r: &Random, list: &mut List, version: u64) {
 fn add_signal(r: &Random, list: &mut List, version: u64) {
     let kind = r.below(3);
     let (first, end) = Signal::region(kind);
-    let width = r.within(1, 20);
+    let width = r.of(&[r.within(1, 20), r.within(1, 20), r.within(47, 64)]);
     for _ in 0..20 {
         let start = r.within(first, end - width);
         if list.signals.len() < 256 && list.is_free(kind, start, width) {
@@ -76,10 +76,10 @@ fn edit_signal(r: &Random, list: &mut List) {
     let s = &mut list.signals[at];
     match r.below(9) {
         0 | 1 => s.limit = r.below(600_001),
-        2 | 3 => s.replacement = r.word() & s.top(),
+        2 | 3 => s.replacement = r.word() & s.top_replacement(),
         4 => s.since = r.near(s.since).clamp(1, 255),
         5 => s.start = r.near(s.start) & 1023,
-        6 => s.width = r.near(s.width).clamp(1, 48),
+        6 => s.width = r.near(s.width).clamp(1, 64),
         7 => s.check = r.below(checks + 1),
         _ => s.kind = 3 - s.kind.clamp(1, 2),
     }

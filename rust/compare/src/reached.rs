@@ -4,7 +4,7 @@ use std::collections::{BTreeMap, BTreeSet};
 use std::fmt;
 
 use crate::case::{Answer, Call, Case};
-use crate::list::{LONGEST, MOST};
+use crate::list::{List, Route, Signal, LONGEST, MOST};
 
 /// What an answer shows, with a number where there are several.
 type Row = (&'static str, u64);
@@ -28,7 +28,7 @@ fn wanted(call: Call) -> Vec<Row> {
                 ("codes", 512),
                 ("routes", 512),
             ],
-            refusals(&[1, 2, 3, 4]),
+            [each("widest", &[48, 49, 63, 64]), refusals(&[1, 2, 3, 4])].concat(),
         ],
         Call::Extends => [
             vec![("yes", 0), ("no", 0)],
@@ -61,7 +61,8 @@ fn wanted(call: Call) -> Vec<Row> {
         Call::Read => [
             each("reason", &[0, 1, 2, 3, 4, 5, 6, 7, 8]),
             refusals(&[1, 2, 3, 4, 5, 6, 11]),
-            vec![],
+            // Code 8 is for widths up to 16.
+            each("above 48 bits, reason", &[0, 1, 2, 3, 4, 5, 6, 7]),
         ],
         Call::Marshal => [
             vec![
@@ -71,12 +72,16 @@ fn wanted(call: Call) -> Vec<Row> {
                 ("all live", 0),
             ],
             refusals(&[1, 2, 3, 4, 5, 12]),
-            vec![],
+            vec![("64 bits to bit 2048", 0)],
         ],
         Call::Compose => [
             each("type", &[1, 2, 3]),
             refusals(&[1, 2, 3, 4, 9, 13, 14, 15, 16]),
-            vec![],
+            [
+                each("greatest value, width", &[48, 49, 63, 64]),
+                each("above 48 bits, refusal", &[15]),
+            ]
+            .concat(),
         ],
         Call::Show => [each("kind", &[0, 1, 2, 3, 4]), refusals(&[26]), vec![]],
         Call::Resolve => [
@@ -138,6 +143,45 @@ fn rows(case: &Case, answer: &Answer) -> Vec<Row> {
     }
 }
 
+/// What it shows of wide fields, by the list that it goes by.
+fn wide_rows(case: &Case, answer: &Answer) -> Vec<Row> {
+    let by_list = [Call::Judge, Call::Read, Call::Marshal, Call::Compose].contains(&case.call);
+    let list = by_list.then(|| List::of(&case.areas[0])).flatten();
+    let Some(list) = list else {
+        return vec![];
+    };
+    let width = |signal: u64| list.signals.get(signal as usize).map_or(0, |s| s.width);
+    match (case.call, answer.refusal) {
+        (Call::Judge, 0) => {
+            let widest = list.signals.iter().map(|s| s.width).max();
+            vec![("widest", widest.unwrap_or(0))]
+        }
+        (Call::Read, 0) if width(case.numbers[2]) > 48 => {
+            vec![("above 48 bits, reason", answer.gives[1])]
+        }
+        (Call::Marshal, 0) => {
+            let last = |route: &&Route| width(route.signal) == 64 && route.start == 2_048 - 64;
+            let found = list.routes.iter().find(last);
+            found
+                .map(|_| ("64 bits to bit 2048", 0))
+                .into_iter()
+                .collect()
+        }
+        (Call::Compose, 0) => {
+            let greatest =
+                |&(s, &value): &(&Signal, &u64)| s.carried_by(case.numbers[0]) && value == s.top();
+            let written = list.signals.iter().zip(&case.values).filter(greatest);
+            written
+                .map(|(s, _)| ("greatest value, width", s.width))
+                .collect()
+        }
+        (Call::Compose, 15) if width(answer.carried) > 48 => {
+            vec![("above 48 bits, refusal", 15)]
+        }
+        _ => vec![],
+    }
+}
+
 /// How many of a good list's routes were live.
 fn lives(list: &[u8], lives: u64) -> &'static str {
     let routes = reference::judge(list).map_or(0, |counts| counts.routes as u64);
@@ -159,7 +203,7 @@ impl Reached {
     }
 
     pub fn count(&mut self, case: &Case, answer: &Answer) {
-        for row in rows(case, answer) {
+        for row in [rows(case, answer), wide_rows(case, answer)].concat() {
             let row = (case.call, row);
             match self.wanted.get_mut(&row) {
                 Some(count) => *count += 1,
@@ -188,7 +232,7 @@ impl Reached {
 
 fn named((what, number): Row) -> String {
     match number {
-        0 if !matches!(what, "reason" | "kind" | "type") => what.to_string(),
+        0 if !matches!(what, "kind" | "type") && !what.ends_with("reason") => what.to_string(),
         _ => format!("{what} {number}"),
     }
 }

@@ -2,9 +2,9 @@
 
 use crate::case::{Call, Case};
 use crate::generate::REQUESTS;
-use crate::list::{List, Signal};
+use crate::list::{List, Route, Signal};
 use crate::store::plant;
-use reference::{STORE, TELEGRAM};
+use reference::{write_field, STORE, TELEGRAM};
 
 /// The list L of the bench examples.
 const L: [u8; 44] = [
@@ -32,6 +32,8 @@ pub fn each(mut try_one: impl FnMut(Case)) {
     lists(&mut try_one);
     signals(&mut try_one);
     readings(&mut try_one);
+    widths(&mut try_one);
+    ends(&mut try_one);
 }
 
 fn check_places(try_one: &mut impl FnMut(Case)) {
@@ -203,6 +205,93 @@ fn readings(try_one: &mut impl FnMut(Case)) {
     }
     for clock in [0, 1, 4_999, 5_000, 5_001, u64::from(u32::MAX)] {
         read(1, [(1, 0x11), (2, 1), (41, 0x10), (54, 0x40)], clock);
+    }
+}
+
+/// One signal, and a route of vehicle 1 that takes it to a bit.
+fn one_signal(kind: u64, start: u64, width: u64, to: u64) -> List {
+    let mut signal = Signal {
+        start,
+        width,
+        kind,
+        check: 0,
+        since: 1,
+        limit: 0,
+        replacement: 0,
+    };
+    signal.replacement = 0xA1B2_C3D4_E5F6 & signal.top_replacement();
+    List {
+        signals: vec![signal],
+        routes: vec![Route {
+            signal: 0,
+            vehicle: 1,
+            zero: 0,
+            start: to,
+        }],
+        ..List::default()
+    }
+}
+
+/// Every width and some that are none, from every bit of an octet, with the values at and past what the field holds.
+fn widths(try_one: &mut impl FnMut(Case)) {
+    for width in (0..=70).chain([128, 255]) {
+        for bit in 0..8 {
+            let list = one_signal(1, 424 + bit, width, (bit + 3) % 8);
+            let top = list.signals[0].top();
+            try_one(Case::new(Call::Judge, vec![list.octets()], vec![]));
+            for power in [top, top.wrapping_add(1), 1 << 47, 1 << 48, 1 << 49, 1 << 63] {
+                for value in [power, power.wrapping_sub(1)] {
+                    wide_field(try_one, &list, value);
+                }
+            }
+        }
+    }
+}
+
+/// The value composed; and heard, then read and marshalled, as it is and where it was never heard.
+fn wide_field(try_one: &mut impl FnMut(Case), list: &List, value: u64) {
+    let octets = list.octets();
+    try_one(Case {
+        values: vec![value],
+        ..Case::new(
+            Call::Compose,
+            vec![octets.clone(), vec![], vec![0xEE; TELEGRAM]],
+            vec![1],
+        )
+    });
+    let (start, width) = (list.signals[0].start, list.signals[0].width);
+    for (heard, around) in [(0, 0xFF), (1, 0), (1, 0xFF)] {
+        let mut telegram = [around; TELEGRAM];
+        telegram[..2].copy_from_slice(&[0x11, 1]);
+        write_field(&mut telegram, start as usize, width as usize, value);
+        let mut store = vec![0; STORE];
+        plant(&mut store, 1, heard, 0, &telegram);
+        let areas = vec![octets.clone(), store];
+        try_one(Case::new(Call::Read, areas.clone(), vec![0, 1, 0]));
+        let end = (list.routes[0].start + width).div_ceil(8) as usize;
+        for len in [end, end.saturating_sub(1), end + 9] {
+            let areas = [areas.clone(), vec![vec![!around; len]]].concat();
+            try_one(Case::new(Call::Marshal, areas, vec![0]));
+        }
+    }
+}
+
+/// Wide fields around each end of what a type may have, and routes around bit 2048.
+fn ends(try_one: &mut impl FnMut(Case)) {
+    for width in [1, 47, 48, 49, 63, 64, 65] {
+        for by in 0..=4 {
+            let around = |end: u64| end + by - 2;
+            let mut lists = vec![one_signal(1, 424, width, around(2_048 - width))];
+            for kind in 0..=2 {
+                for end in [16, 320, 320 - width, 1_024, 1_024 - width] {
+                    lists.push(one_signal(kind, around(end), width, 0));
+                }
+            }
+            for list in lists {
+                try_one(Case::new(Call::Judge, vec![list.octets()], vec![]));
+                wide_field(try_one, &list, list.signals[0].top());
+            }
+        }
     }
 }
 

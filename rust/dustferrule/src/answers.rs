@@ -35,7 +35,7 @@ pub enum Extends {
 pub struct Entry {
     /// Its first bit, as a bit address.
     pub start: u16,
-    /// Its bits.
+    /// Its bits, 1 to 64.
     pub width: u8,
     /// The type: 0 common, 1 R1, 2 R2.
     pub kind: u8,
@@ -45,7 +45,7 @@ pub struct Entry {
     pub since: u8,
     /// The time limit in ms; 0 for none.
     pub limit: u32,
-    /// The replacement.
+    /// The replacement, below 2^48 and 2^width.
     pub replacement: u64,
     /// The place of its check, as a bit address; 0 for none.
     pub place: u16,

@@ -9,7 +9,7 @@ use crate::refusal::Refusal;
 pub struct Entry {
     /// Its first bit, as a bit address.
     pub start: u16,
-    /// Its bits.
+    /// Its bits, 1 to 64.
     pub width: u8,
     /// The type: 0 common, 1 R1, 2 R2.
     pub kind: u8,
