@@ -61,7 +61,7 @@ fn wanted(call: Call) -> Vec<Row> {
         Call::Read => [
             each("reason", &[0, 1, 2, 3, 4, 5, 6, 7, 8]),
             refusals(&[1, 2, 3, 4, 5, 6, 11]),
-            // Code 8 is for widths up to 16.
+            // Reason 8 is for widths up to 16.
             each("above 48 bits, reason", &[0, 1, 2, 3, 4, 5, 6, 7]),
         ],
         Call::Marshal => [
