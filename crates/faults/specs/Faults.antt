@@ -4,7 +4,7 @@ use mathlib.Core.Bool.{Bool, not, _&&_, _||_}
 use mathlib.Core.List.{List, [], _∷_}
 use lib.Dec.{ltb, leb, eqb}
 use Rattle.paper.specs.Octets.{fits}
-use Rattle.paper.specs.SignalList.{Signal, Code, Route, fieldEnd, routeEnd, widthRule, typeRule, placeRule, namedRule}
+use Rattle.paper.specs.SignalList.{Signal, Code, Route, fieldEnd, routeEnd, longestLimit, widthRule, typeRule, placeRule, namedRule}
 use Rattle.paper.specs.Answer.{Sought, found, nothing}
 use Rattle.paper.specs.Broken.{Fault as PaperFault}
 use Rattle.faults.specs.declared.Fault.{Fault}
@@ -34,7 +34,7 @@ placeTests checks check s = widthRule s ∷ typeRule s ∷ placeRule s ∷ named
 
 -- since, limit and replacement of s; the order of k behind p
 abbrev pub valueTests : Signal → List Bool
-valueTests s = (leb 1 (s .since) && leb (s .since) 255) ∷ leb (s .limit) 600000 ∷ fits (s .replacement) (s .width) ∷ []
+valueTests s = (leb 1 (s .since) && leb (s .since) 255) ∷ leb (s .limit) longestLimit ∷ fits (s .replacement) (s .width) ∷ []
 
 abbrev pub orderTests : ℕ → Signal → Signal → List Bool
 orderTests k p s =

@@ -7,7 +7,7 @@ use mathlib.Core.List.{List}
 use lib.ListN.{length}
 use Rattle.paper.specs.Octets.{number}
 use Rattle.paper.specs.Answer.{Answer, gives, refused}
-use Rattle.paper.specs.SignalList.{Signal, Code, Route, fieldEnd, routeEnd, entry, checkSize, signalSize, codeSize, routeSize, mostChecks, mostSignals, mostCodes, mostRoutes, widest, checkAt, signalAt, codeAt, routeAt, checkRule, signalRule, codeRule, routeRule, greatestSince, Counts, SignalList, signalsPart, codesPart, routesPart}
+use Rattle.paper.specs.SignalList.{Signal, Code, Route, fieldEnd, routeEnd, entry, checkSize, signalSize, codeSize, routeSize, mostChecks, mostSignals, mostCodes, mostRoutes, widest, longestLimit, checkAt, signalAt, codeAt, routeAt, checkRule, signalRule, codeRule, routeRule, greatestSince, Counts, SignalList, signalsPart, codesPart, routesPart}
 
 -- ---- A section
 
@@ -53,7 +53,7 @@ pub record SignalKept (checks : ℕ) (check : ℕ → ℕ) (signal : ℕ → Sig
   pub named : CheckNamed checks check (signal k)
   pub since : 1 ≤ signal k .since
   pub octet : signal k .since ≤ 255
-  pub limited : signal k .limit ≤ 600000
+  pub limited : signal k .limit ≤ longestLimit
   pub fits : signal k .replacement < 2 ^ signal k .width
   pub follows : 0 < k → Follows (signal (k - 1)) (signal k)
   pub clear : (j : ℕ) → j < checks → (fieldEnd (signal k) ≤ check j) ⊎ (check j + 2 ≤ signal k .start)

@@ -6,7 +6,7 @@ use lib.Dec.{ltb, leb, eqb}
 use Rattle.paper.specs.Octets.{fits}
 use Rattle.paper.specs.Answer.{Answer, gives, refused, Sought, found, nothing}
 use Rattle.paper.specs.First.{stop, firstBad}
-use Rattle.paper.specs.SignalList.{Signal, Code, Route, fieldEnd, routeEnd, entry, rest, checkSize, signalSize, codeSize, routeSize, mostChecks, mostSignals, mostCodes, mostRoutes, checkAt, signalAt, codeAt, routeAt, checkRule, widthRule, typeRule, placeRule, namedRule, clearRule, signalRule, codeRule, routeRule, opening}
+use Rattle.paper.specs.SignalList.{Signal, Code, Route, fieldEnd, routeEnd, entry, rest, checkSize, signalSize, codeSize, routeSize, mostChecks, mostSignals, mostCodes, mostRoutes, checkAt, signalAt, codeAt, routeAt, checkRule, longestLimit, widthRule, typeRule, placeRule, namedRule, clearRule, signalRule, codeRule, routeRule, opening}
 
 -- ---- The rules of an entry, one by one
 
@@ -19,7 +19,7 @@ checkTests check k = eqb (check k % 2) 0 ∷ leb 16 (check k) ∷ leb (check k) 
 abbrev pub signalTests : ℕ → (ℕ → ℕ) → (ℕ → Signal) → ℕ → List Bool
 signalTests checks check signal k =
     widthRule (signal k) ∷ typeRule (signal k) ∷ placeRule (signal k) ∷ namedRule checks check (signal k)
-    ∷ (leb 1 (signal k .since) && leb (signal k .since) 255) ∷ leb (signal k .limit) 600000 ∷ fits (signal k .replacement) (signal k .width)
+    ∷ (leb 1 (signal k .since) && leb (signal k .since) 255) ∷ leb (signal k .limit) longestLimit ∷ fits (signal k .replacement) (signal k .width)
     ∷ (eqb k 0 || leb (signal (k - 1) .type) (signal k .type))
     ∷ (eqb k 0 || not (eqb (signal (k - 1) .type) (signal k .type)) || leb (fieldEnd (signal (k - 1))) (signal k .start))
     ∷ clearRule checks check (signal k) ∷ []

@@ -126,8 +126,11 @@ namedRule checks check s =
     && (ltb (check (s .check - 1)) 320 && eqb (s .type) 0 || not (ltb (check (s .check - 1)) 320) && not (eqb (s .type) 0))
 
 -- "Since 1-255. Limit 0-600,000; 0 means none. Replacement below 2^width."
+abbrev pub longestLimit : ℕ
+longestLimit = 600000
+
 abbrev pub valueRule : Signal → Bool
-valueRule s = leb 1 (s .since) && leb (s .since) 255 && leb (s .limit) 600000 && fits (s .replacement) (s .width)
+valueRule s = leb 1 (s .since) && leb (s .since) 255 && leb (s .limit) longestLimit && fits (s .replacement) (s .width)
 
 -- "Types never fall from one entry to the next; within a type each start is at or past the end of the field before."
 abbrev pub orderRule : Signal → Signal → Bool
