@@ -1,40 +1,34 @@
 -- The demands over the definitions: what is composed reads back (demand 2), and what a reader of an extending or an extended list is
 -- given (demand 3). Assumes nothing.
-use Prim.Native.Nat.{ℕ, zero, suc, _+_, _-_, _*_, _/_, _%_, _^_, _≤_, _<_}
+use Prim.Native.Nat.{ℕ, zero, suc, _+_, _-_, _*_, _≤_, _<_}
 use mathlib.Core.Path.{_≡_, refl, sym, ap, _∙_}
 use mathlib.Core.Logic.{_⊎_, inl, inr, ⊎-elim}
 use mathlib.Core.Bool.{Bool, true, false, not, cond, false≢true}
-use mathlib.Core.List.{List, [], _∷_, _++_}
+use mathlib.Core.List.{List, [], _∷_}
 use native.Mathlib.Omega.{arith}
 use native.Mathlib.Decide.{ℕ-discrete}
 use lib.ListN.{length, getD, List·getD-append}
 use lib.Dec.{ltb, leb, eqb}
-use borrow.Author.Tests.{leb-true, le-leb, le-ltb, lt-ltb, ne-eqb, eq-eqb}
-use Rattle.paper.specs.Octets.{octet, bit, field}
-use Rattle.paper.specs.Answer.{gives, refuseIf}
+use borrow.Author.Tests.{leb-true, le-ltb, lt-ltb, ne-eqb}
+use Rattle.paper.specs.Octets.{octet, field}
+use Rattle.paper.specs.Answer.{gives}
 use Rattle.paper.specs.First.{some, firstOf}
 use Rattle.paper.specs.Telegrams.{applicationType, telegramType, versionOf, typeLength, carries, error, ok, forced, undefined, markWidth}
 use Rattle.paper.specs.SignalList.{Signal, SignalList, Counts, judge, listOf, version, knows, placeOf}
 use Rattle.paper.specs.Extends.{same, Agree, Related}
-use Rattle.paper.specs.Store.{vehicles, storeOctets, Slot, slotOf, taken, taking, age, inTime}
-use Rattle.paper.specs.Reading.{Reading, heard, markOf, codeOf, hindrances, reasonOf, readingOf, readingAt, reading}
+use Rattle.paper.specs.Store.{vehicles, storeOctets, Slot, taken, taking, age, inTime}
+use Rattle.paper.specs.Reading.{Reading, heard, markOf, codeOf, hindrances, reasonOf, readingOf, reading}
 use Rattle.paper.specs.Composing.{composed, composing, Fitting, Composes}
 use Rattle.paper.specs.Demands.{Standing, givenMark, delivered, withheld, Shared, Named, live-ok, live-forced, not-carried, newer, mark-error, mark-undefined, code-unknown}
-use Rattle.paper.proofs.AnswerLaws.{goes-on, gives-one}
+use Rattle.paper.proofs.AnswerLaws.{gives-one}
 use Rattle.paper.proofs.FirstLaws.{some-none, some-at}
-use Rattle.paper.proofs.FieldLaws.{field-ext}
+use Rattle.paper.proofs.FieldLaws.{field-front}
 use Rattle.paper.specs.Accepted.{Kept}
 use Rattle.paper.proofs.ListLaws.{kept}
 use Rattle.paper.proofs.StoreLaws.{type-least, takes-it, padded, stood, standing-slot, standing-whole}
-use Rattle.paper.proofs.ReadingLaws.{mark-lt}
+use Rattle.paper.proofs.ReadingLaws.{mark-lt, reads-it}
 use Rattle.paper.proofs.ExtendsLaws.{agree-itself, agree, only-newer, same-of}
 use Rattle.paper.proofs.ComposingLaws.{version-least, version-at, composes, carried-within, named-written, length-composed, composed-application, composed-type, composed-version, composed-signal, composed-check}
-
--- what stands behind makes no difference to a field
-field-front : (l m : List ℕ) (s w : ℕ) → s + w ≤ 8 * length l → field (l ++ m) s w ≡ field l s w
-unfolding bit
-field-front l m s w h =
-    field-ext (l ++ m) l s s w (λ i lt. ap (λ (x : ℕ). x / 2 ^ (7 - (s + i) % 8) % 2) (List·getD-append l m 0 ((s + i) / 8) (omega arith)))
 
 -- the place of a signal's check: none is 0, and any other lies past the head
 unplaced : (l : SignalList) (s : Signal) → s .check ≡ 0 → placeOf l s ≡ 0
@@ -174,13 +168,6 @@ module _ (w : SignalList) (hw : Kept w) (type : ℕ) (values marks : List ℕ) (
 
 -- ---- a signal's reading, as a call gives it
 
--- a store that keeps a telegram is read with no refusal
-called : (xs store : List ℕ) (now v k : ℕ) (n : Counts) → judge xs ≡ gives n → length store ≡ storeOctets → 1 ≤ v → v ≤ vehicles → k < n .signals
-    → reading xs store now v k ≡ gives (readingOf (listOf xs n) (slotOf store v) now k)
-unfolding reading refuseIf readingAt
-called xs store now v k n e whole first last lt =
-    sym (goes-on n (judge xs) _ _ (sym e) (rw (eq-eqb _ _ whole, le-leb _ _ first, le-leb _ _ last, lt-ltb _ _ lt)))
-
 -- a composed telegram is always taken in: no store of the right length refuses it for a vehicle of the 63
 pub composed-taken : (xs : List ℕ) (type : ℕ) (values marks : List ℕ) (room : ℕ) (telegram : List ℕ) → composing xs type values marks room ≡ gives telegram
     → (store : List ℕ) (v now : ℕ) → length store ≡ storeOctets → 1 ≤ v → v ≤ vehicles → taking store v now telegram ≡ gives (taken store v now telegram)
@@ -221,7 +208,7 @@ module _ (xs : List ℕ) (type : ℕ) (values marks : List ℕ) (room : ℕ) (te
         → reading ys store now v j ≡ gives given
     arrived given e =
         let t = stood v stamp now _ telegram store stands in
-        called ys store now v j n reader (standing-whole v stamp now _ telegram store stands) (t .first) (t .last) hj
+        reads-it ys store now v j n reader (standing-whole v stamp now _ telegram store stands) (t .first) (t .last) hj
         ∙ ap gives (ap (λ (s : Slot). readingOf (listOf ys n) s now j) (standing-slot v stamp now _ telegram store stands) ∙ rw (← is-composed) e)
 
     -- DEMAND 3, a signal that both lists have and the type carries: the written value with its mark, or the reader's own replacement

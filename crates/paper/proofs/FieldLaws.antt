@@ -1,12 +1,12 @@
 -- The laws of bit fields. Assumes nothing.
 use mathlib.Core.Path.{_≡_, refl, sym, ap, ap₂, _∙_}
 use mathlib.Core.Logic.{_⊎_, ⊎-elim}
-use mathlib.Core.List.{List}
+use mathlib.Core.List.{List, _++_}
 use Prim.Native.Nat.{ℕ, zero, suc, _+_, _-_, _*_, _/_, _%_, _^_, _≤_, _<_}
 use native.Mathlib.Nat.{div-one, div-div-eq-div-mul, add-zero, add-suc, add-assoc, mod-lt, mod-one, mod-eq-of-lt, mul-add-div-right, mul-add-mod-self-right, pow-suc}
 use native.Mathlib.Omega.{arith}
 use native.Mathlib.Decide.{decLt, ℕ-discrete}
-use lib.ListN.{length, getD, set, length-set}
+use lib.ListN.{length, getD, set, length-set, List·getD-append}
 use lib.Seq.{ext-getD, set-out, set-set, set-getD, getD-set-same, getD-set-other}
 use lib.Arith.{digits-lt, mod-mul}
 use lib.Dec.{lit<}
@@ -125,6 +125,12 @@ pub field-ext : (l m : List ℕ) (s t w : ℕ) → ((i : ℕ) → i < w → bit 
 unfolding field
 field-ext l m s t zero h = refl
 field-ext l m s t (suc w) h = ap₂ (λ (x y : ℕ). x * 2 + y) (field-ext l m s t w (λ i lt. h i (omega arith))) (h w (omega arith))
+
+-- what stands behind makes no difference to a field
+pub field-front : (l m : List ℕ) (s w : ℕ) → s + w ≤ 8 * length l → field (l ++ m) s w ≡ field l s w
+unfolding bit
+field-front l m s w h =
+    field-ext (l ++ m) l s s w (λ i lt. ap (λ (x : ℕ). x / 2 ^ (7 - (s + i) % 8) % 2) (List·getD-append l m 0 ((s + i) / 8) (omega arith)))
 
 -- a field is its first part, then the rest
 pub field-split : (l : List ℕ) (s m n : ℕ) → field l s (m + n) ≡ field l s m * 2 ^ n + field l (s + m) n
