@@ -1,21 +1,23 @@
--- DEMANDS 2 and 3 of the calls themselves: what `compose` wrote, `take` took and `read` answers, by nothing but what the three calls ensure. Assumes nothing.
+-- DEMANDS 2 and 3 of the calls themselves: what `compose` wrote, `take` took, `sweep` did not expire and `read` answers, by nothing but what these
+-- calls ensure. Assumes nothing.
 use Prim.Native.Nat.{ℕ, _≤_, _<_}
-use mathlib.Core.Path.{_≡_, refl, sym, ap, subst, _∙_}
-use mathlib.Core.Logic.{_⊎_, inl, inr}
+use mathlib.Core.Path.{_≡_, refl, sym, ap, _∙_}
+use mathlib.Core.Logic.{_⊎_, inr}
 use mathlib.Core.Bool.{true, false, cond}
 use mathlib.Core.List.{List, [], _∷_}
 use lib.ListN.{length, getD}
 use lib.Dec.{eqb}
-use Rattle.paper.specs.Answer.{gives, after}
+use Rattle.paper.specs.Answer.{gives}
 use Rattle.paper.specs.Telegrams.{carries, ok, forced}
 use Rattle.paper.specs.SignalList.{Counts, judge, listOf}
 use Rattle.paper.specs.Extends.{same, Related}
-use Rattle.paper.specs.Store.{vehicles, storeOctets, taking, taken, turn, age, inTime}
+use Rattle.paper.specs.Store.{vehicles, storeOctets, slotOf, taking, taken, turn, age, inTime, stale}
 use Rattle.paper.specs.Reading.{Reading}
 use Rattle.paper.specs.Composing.{composing}
-use Rattle.paper.specs.Demands.{Step, offer, run, NoneLater, Standing, givenMark, delivered, withheld, Named}
-use Rattle.paper.proofs.StoreLaws.{takes}
+use Rattle.paper.specs.Demands.{Step, offer, sweep, run, Passes, NoneLater, NoneExpired, Standing, givenMark, delivered, withheld, Named}
+use Rattle.paper.proofs.StoreLaws as laws
 use Rattle.paper.proofs.Demands as paper
+use Rattle.refusals.specs.declared.Refusal.{Refusal}
 use Rattle.refusals.specs.declared.Outcome.{Outcome}
 use Rattle.refusals.specs.declared.Outcome.the-variants as O
 use Rattle.refusals.specs.Refusal.{numberOf, carriedOf}
@@ -25,40 +27,49 @@ use Rattle.reading.specs.declared.ReadOutcome.{ReadOutcome}
 use Rattle.reading.specs.Reading.{readAnswer}
 use Rattle.demands.specs.declared.Answers.{Answers}
 use Rattle.demands.specs.Told.{Told}
-use Rattle.demands.specs.Calls.{Later, none, another, rejected, Calls}
+use Rattle.demands.specs.Calls.{Made, none, takes, sweeps, Calls}
 
--- `told` is such a run of calls, with none of `take` between: what it ensures it has from the contracts of the three, so they fit this record
-pub told-calls : (xs : List ℕ) (type : ℕ) (values marks out store : List ℕ) (v stamp : ℕ) (ys : List ℕ) (now k : ℕ) (sent held : List ℕ) (r : Answers)
-    → Told xs type values marks out store v stamp ys now k sent held r → stamp < turn → r .composed ≡ O.Done → r .taken ≡ O.Done
-    → Calls xs type values marks v stamp ys now k (r .read)
-told-calls xs type values marks out store v stamp ys now k sent held r t clock composed took =
+-- ---- the calls are the paper's steps
+
+pub made-runs : {store last : List ℕ} {steps : List Step} → Made store steps last → run store steps ≡ last
+unfolding run
+made-runs none = refl
+made-runs (takes w now telegram r t rest) = rw (← t .octets) (made-runs rest)
+made-runs (sweeps now r t rest) = rw (← t .octets) (made-runs rest)
+
+-- a call of `take` that is done takes the telegram, and one that is refused takes none
+pub done-takes : (store : List ℕ) (v now : ℕ) (telegram next : List ℕ) → Written (taking store v now telegram) store O.Done next
+    → (taking store v now telegram ≡ gives (taken store v now telegram)) × (taken store v now telegram ≡ next)
+done-takes store v now telegram next w =
+    let e = written-gives _ store next w in
+    let t : taken store v now telegram ≡ next = laws.takes store v now telegram next e .1 in
+    (e ∙ ap gives (sym t), t)
+
+pub refused-passes : (store : List ℕ) (v w now : ℕ) (telegram : List ℕ) (f : Refusal) (next : List ℕ)
+    → Written (taking store w now telegram) store (O.Refused f) next → Passes v store (offer w now telegram)
+refused-passes store v w now telegram f next t = inr (numberOf f, (carriedOf f, written-not _ store f next t))
+
+-- `told` is such a run of calls, with one of `sweep` between: what it ensures it has from the contracts of the four, so they fit this record
+pub told-calls : (xs : List ℕ) (type : ℕ) (values marks out store : List ℕ) (v stamp at : ℕ) (ys : List ℕ) (now k : ℕ)
+    (sent held : List ℕ) (r : Answers) → (t : Told xs type values marks out store v stamp at ys now k sent held r) → stamp < turn → r .composed ≡ O.Done → r .taken ≡ O.Done
+    → stale (slotOf (t .heard) v) at ≡ false → Calls xs type values marks v stamp ys now k (r .read)
+unfolding NoneLater NoneExpired
+told-calls xs type values marks out store v stamp at ys now k sent held r t clock composed took young =
     record {
       out = out;
       telegram = sent;
       composed = rw composed at (t .composed);
       before = store;
-      after = held;
+      after = t .heard;
       clock = clock;
       took = rw took at (t .taken);
+      steps = sweep at ∷ [];
       store = held;
-      later = none;
+      made = sweeps at (r .swept) (t .swept) none;
+      later = (tt, tt);
+      unexpired = (young, tt);
       read = t .read;
     }
-
--- ---- the calls are the paper's steps
-
-abbrev Steps : ℕ → List ℕ → List ℕ → Type 0
-Steps v last store = (ss : List Step) × ((NoneLater v store ss) × (run store ss ≡ last))
-
-steps : {v : ℕ} {store last : List ℕ} → Later v store last → Steps v last store
-unfolding NoneLater run
-steps none = ([], (tt, refl))
-steps {v} (another {last = last} w now telegram r other t rest) =
-    let q = subst (Steps v last) (t .octets) (steps rest) in
-    (offer w now telegram ∷ q .0, ((inl other, q .1 .0), q .1 .1))
-steps {v} (rejected {store = store} {last = last} w now telegram f t rest) =
-    let q = subst (Steps v last) (t .octets) (steps rest) in
-    (offer w now telegram ∷ q .0, ((inr (numberOf f, (carriedOf f, written-not _ store f _ t)), q .1 .0), q .1 .1))
 
 module _ (xs : List ℕ) (type : ℕ) (values marks : List ℕ) (v stamp : ℕ) (ys : List ℕ) (now k : ℕ) (r : ReadOutcome)
     (c : Calls xs type values marks v stamp ys now k r) where
@@ -67,16 +78,15 @@ module _ (xs : List ℕ) (type : ℕ) (values marks : List ℕ) (v stamp : ℕ) 
 
   standing : (limit : ℕ) → inTime (age now stamp) limit ≡ true → Standing v stamp now limit (c .telegram) (c .store)
   standing limit within =
-      let e = written-gives _ (c .before) (c .after) (c .took) in
-      let t : taken (c .before) v stamp (c .telegram) ≡ c .after = takes (c .before) v stamp (c .telegram) (c .after) e .1 in
-      let q = subst (Steps v (c .store)) (sym t) (steps (c .later)) in
+      let t = done-takes (c .before) v stamp (c .telegram) (c .after) (c .took) in
       record {
         before = c .before;
-        steps = q .0;
+        steps = c .steps;
         clock = c .clock;
-        took = e ∙ ap gives (sym t);
-        later = q .1 .0;
-        reached = q .1 .1;
+        took = t .0;
+        later = rw (t .1) (c .later);
+        unexpired = rw (t .1) (c .unexpired);
+        reached = rw (t .1) (made-runs (c .made));
         within = within;
       }
 

@@ -8,6 +8,7 @@ pub mod NumberLaws
 pub mod PutsLaws
 pub mod ListLaws
 pub mod BrokenLaws
+pub mod SweepLaws
 pub mod StoreLaws
 pub mod ReadingLaws
 pub mod MarshallingLaws
@@ -17,4 +18,5 @@ pub mod WidthLaws
 pub mod PairLaws
 pub mod RefusalLaws
 pub mod Demands
+pub mod TrueClock
 pub mod WrongLaws

@@ -14,11 +14,12 @@ use borrow.Author.Tests.{eq-eqb, le-leb, le-ltb, leb-true, eqb-true, not-false}
 use Rattle.paper.specs.Octets.{number, octetsOf, over}
 use Rattle.paper.specs.Answer.{Answer, gives, refused, refuseIf, after}
 use Rattle.paper.specs.Telegrams.{telegramType, typeLength, carries}
-use Rattle.paper.specs.Store.{vehicles, telegramOctets, slotOctets, storeOctets, slotStart, slotFrom, slotTo, slotOf, taken, taking, turn, inTime, Takes}
-use Rattle.paper.specs.Demands.{Step, offer, step, run, Passes, NoneLater, Standing}
+use Rattle.paper.specs.Store.{vehicles, telegramOctets, slotOctets, storeOctets, slotStart, slotFrom, slotTo, slotOf, taken, taking, turn, inTime, Takes, sweeping}
+use Rattle.paper.specs.Demands.{Step, offer, sweep, step, run, Passes, NoneLater, Spares, NoneExpired, Standing}
 use Rattle.paper.proofs.AnswerLaws.{not-refused, never-both}
 use Rattle.bools.proofs.Tests.{both}
 use Rattle.paper.proofs.NumberLaws.{length-octetsOf, number-octetsOf-front, number-back, length-over, part-over, other-over}
+use Rattle.paper.proofs.SweepLaws.{length-swept, slot-swept, sweeps}
 
 -- ---- cases at which a sentence misread shows
 
@@ -124,6 +125,10 @@ module _ (store : List ℕ) (v now : ℕ) (telegram : List ℕ) (whole : length 
       ap slotFrom
       (ap (λ (n : ℕ). take n (drop (slotStart v) written)) (sym (length-slot now telegram short)) ∙ part-over store (slotStart v) (slotTo now telegram) fits)
 
+  -- C-12: "A new telegram sets the octet to 1", whatever it was
+  pub heard-taken : slotOf (taken store v now telegram) v .heard ≡ 1
+  heard-taken = rw slot-taken
+
   -- and every other vehicle's slot is as before
   pub slot-other : (w : ℕ) → 1 ≤ w → (v ≡ w → ⊥) → slotOf (taken store v now telegram) w ≡ slotOf store w
   unfolding taken slotOf
@@ -135,9 +140,15 @@ module _ (store : List ℕ) (v now : ℕ) (telegram : List ℕ) (whole : length 
 
 -- ---- steps
 
--- a step that takes nothing from v leaves v's slot as it was
-step-other : (v : ℕ) (store : List ℕ) (s : Step) → 1 ≤ v → Passes v store s → slotOf (step store s) v ≡ slotOf store v
-step-other v store (offer w now telegram) h p = by (taking store w now telegram) refl p
+-- a step that takes nothing from v and does not expire v's slot leaves it as it was
+pub step-other : (v : ℕ) (store : List ℕ) (s : Step) → 1 ≤ v → v ≤ vehicles → Passes v store s → Spares v store s
+    → slotOf (step store s) v ≡ slotOf store v
+step-other v store (sweep now) h l p spared = by (sweeping store now) refl
+  where
+    by : (a : Answer (List ℕ)) → sweeping store now ≡ a → slotOf (after store a) v ≡ slotOf store v
+    by (refused n at) e = refl
+    by (gives new) e = let t = sweeps store now new e in rw (← t .1) (slot-swept store now (t .0) v h l ∙ rw spared)
+step-other v store (offer w now telegram) h l p spared = by (taking store w now telegram) refl p
   where
     by : (a : Answer (List ℕ)) → taking store w now telegram ≡ a → (w ≡ v → ⊥) ⊎ ((n : ℕ) × ((at : ℕ) × (taking store w now telegram ≡ refused n at)))
         → slotOf (after store a) v ≡ slotOf store v
@@ -148,13 +159,19 @@ step-other v store (offer w now telegram) h p = by (taking store w now telegram)
         let g = t .0 in
         rw (← t .1) (slot-other store w now telegram (g .whole) (g .first) (g .last) (omega (arith, g .long, type-short (telegramType telegram))) v h ne)
 
-pub run-other : (v : ℕ) (store : List ℕ) (steps : List Step) → 1 ≤ v → NoneLater v store steps → slotOf (run store steps) v ≡ slotOf store v
-unfolding run NoneLater
-run-other v store [] h n = refl
-run-other v store (s ∷ ss) h n = run-other v (step store s) ss h (n .1) ∙ step-other v store s h (n .0)
+pub run-other : (v : ℕ) (store : List ℕ) (steps : List Step) → 1 ≤ v → v ≤ vehicles → NoneLater v store steps → NoneExpired v store steps
+    → slotOf (run store steps) v ≡ slotOf store v
+unfolding run NoneLater NoneExpired
+run-other v store [] h l n x = refl
+run-other v store (s ∷ ss) h l n x = run-other v (step store s) ss h l (n .1) (x .1) ∙ step-other v store s h l (n .0) (x .0)
 
 -- a step keeps the store's length
 pub length-step : (store : List ℕ) (s : Step) → length (step store s) ≡ length store
+length-step store (sweep now) = by (sweeping store now) refl
+  where
+    by : (a : Answer (List ℕ)) → sweeping store now ≡ a → length (after store a) ≡ length store
+    by (refused n at) e = refl
+    by (gives new) e = rw (← sweeps store now new e .1) (length-swept store now vehicles)
 length-step store (offer w now telegram) = by (taking store w now telegram) refl
   where
     by : (a : Answer (List ℕ)) → taking store w now telegram ≡ a → length (after store a) ≡ length store
@@ -179,7 +196,7 @@ module _ (v stamp now limit : ℕ) (telegram store : List ℕ) (h : Standing v s
       let g = stood in
       let short : length telegram ≤ telegramOctets = omega (arith, g .long, type-short (telegramType telegram)) in
       rw (← h .reached)
-      (run-other v (taken (h .before) v stamp telegram) (h .steps) (g .first) (h .later)
+      (run-other v (taken (h .before) v stamp telegram) (h .steps) (g .first) (g .last) (h .later) (h .unexpired)
       ∙ slot-taken (h .before) v stamp telegram (g .whole) (g .first) (g .last) short
       ∙ slot-says stamp telegram (h .clock))
 

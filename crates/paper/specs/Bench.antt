@@ -18,10 +18,10 @@ listL =
     ∷ 0x00 ∷ 0x01 ∷ 0x00 ∷ 0x00 ∷ 0x01 ∷ 0x00 ∷ 0x00 ∷ 0x00 ∷ []
 
 -- "list ok checks=1 signals=1 codes=2 routes=1 version=1"
-abbrev countsL : Counts
+abbrev pub countsL : Counts
 countsL = record { checks = 1; signals = 1; codes = 2; routes = 1; version = 1 }
 
 -- L; "L less its last octet: refusal 1 at 36; L with an octet more: 4 at 44; empty list: 1 at 0"
-judged : (judge listL ≡ gives countsL) × (judge (take 43 listL) ≡ refused 1 36) × (judge (listL ++ (0 ∷ [])) ≡ refused 4 44) × (judge [] ≡ refused 1 0)
+pub judged : (judge listL ≡ gives countsL) × (judge (take 43 listL) ≡ refused 1 36) × (judge (listL ++ (0 ∷ [])) ≡ refused 4 44) × (judge [] ≡ refused 1 0)
 unfolding listL number refuseIf firstFrom firstBad all some greatest SignalList.checkAt SignalList.signalAt SignalList.codeAt SignalList.routeAt SignalList.checkRule SignalList.signalRuleTo SignalList.codeRule SignalList.routeRule SignalList.opening SignalList.judgeEntries SignalList.judgeSection SignalList.greatestSince SignalList.ending SignalList.fromRoutes SignalList.fromCodes SignalList.fromSignalsTo judgeTo
 judged = (refl, refl, refl, refl)

@@ -11,7 +11,7 @@ use Rattle.paper.specs.SignalList.{Signal, Code, Route, Counts, OfTwo, o
 use Rattle.paper.specs.Broken.{Fault, faultOf}
 use Rattle.paper.specs.Extends.{extendsLists}
 use Rattle.paper.specs.Pairs.{Entry, Pair, entryOf, routeEntry, finding, pairing}
-use Rattle.paper.specs.Store.{taking}
+use Rattle.paper.specs.Store.{taking, sweeping}
 use Rattle.paper.specs.Reading.{Reading, Held, holding, reading}
 use Rattle.paper.specs.Marshalling.{marshalling}
 use Rattle.paper.specs.Composing.{composing}
@@ -73,6 +73,8 @@ pub data Question : Type 0 where
   places : ℕ → Question
   -- a store, a vehicle, the clock and a telegram; the elements of the store that are looked at afterwards
   takes : List ℕ → ℕ → ℕ → List ℕ → List ℕ → Question
+  -- a store and the clock; the elements of the store that are looked at afterwards
+  sweeps : List ℕ → ℕ → List ℕ → Question
   -- a store, the clock and a vehicle
   holds : List ℕ → ℕ → ℕ → Question
   -- a list, a store, the clock, a vehicle and a signal
@@ -132,7 +134,7 @@ abbrev pub ofPair : Pair → List ℕ
 ofPair p = p .key ∷ p .first ∷ p .second ∷ []
 
 abbrev pub ofHeld : Held → List ℕ
-ofHeld h = yes-no (h .heard) ∷ h .type ∷ h .version ∷ h .age ∷ []
+ofHeld h = yes-no (h .heard) ∷ yes-no (h .expired) ∷ h .type ∷ h .version ∷ h .age ∷ []
 
 abbrev pub ofReading : Reading → List ℕ
 ofReading r = r .value ∷ r .reason ∷ []
@@ -168,6 +170,7 @@ ask (finds xs type start) = said (λ k. k ∷ []) (finding xs type start)
 ask (pairs xs ys from) = saidOfTwo (ofSought ofPair) (pairing xs ys from)
 ask (places b) = said (λ p. p ∷ []) (checkPlace b)
 ask (takes store v now telegram at) = wrote store (taking store v now telegram) at
+ask (sweeps store now at) = wrote store (sweeping store now) at
 ask (holds store now v) = said ofHeld (holding store now v)
 ask (reads xs store now v k) = said ofReading (reading xs store now v k)
 ask (marshals xs store now bus) =

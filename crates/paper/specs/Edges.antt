@@ -10,7 +10,7 @@ use Rattle.paper.specs.First.{firstFrom, firstBad, all, some, count, gre
 use Rattle.paper.specs.Telegrams.{applicationType, telegramType, versionOf, rows, placeIn}
 use Rattle.paper.specs.SignalList
 use Rattle.paper.specs.SignalList.{Signal, judgeTo, version, hasCodes, inRange, knownIn, knows, placeOf}
-use Rattle.paper.specs.Store.{slotOf, taken, taking, age}
+use Rattle.paper.specs.Store.{slotOf, taken, taking, age, stale, sweptOne, sweptTo, sweeping}
 use Rattle.paper.specs.Reading.{heard, markOf, codeOf, hindrances, reasonOf, readingOf, readingAt, reading}
 use Rattle.paper.specs.Marshalling.{routed, marshalled, live, marshalling}
 use Rattle.paper.specs.Composing.{headed, composed, markFits, valueFits, composing}
@@ -19,7 +19,7 @@ use Rattle.paper.specs.Train.{noVehicle, consistRule, meets, member, set
 use Rattle.paper.specs.ETelegrams.{requests, isRequest, isReport, eReading, answerTo, answering}
 use Rattle.paper.specs.Bench.{listL}
 use Rattle.paper.specs.Marked.{telegram, silent, heardAt}
-use Rattle.paper.specs.Cases.{joined, made, signal, code, route, Question, judges, places, takes, reads, marshals, composes, shows, resolves, eReads, gave, refuses, ask}
+use Rattle.paper.specs.Cases.{joined, made, signal, code, route, Question, judges, places, takes, sweeps, reads, marshals, composes, shows, resolves, eReads, gave, refuses, ask}
 
 pub record Edge : Type 0 where
   pub at : Question
@@ -161,6 +161,9 @@ edges =
     ∷ between (λ head. offered 1 (long head 39)) 0x13 (gave []) 0x14 (refuses 9 0)
     ∷ between (λ n. offered 1 (long 0x11 n)) 127 (gave []) 126 (refuses 10 0)
     ∷ between (λ n. offered 1 (long 0x13 n)) 39 (gave []) 40 (refuses 10 0)
+    -- C-12: "a heard slot whose age is above 600,000 ms"; "Refusals: 5"
+    ∷ between (λ now. sweeps (heardAt 0x10 0x40 0) now (0 ∷ [])) 600000 (gave (1 ∷ [])) 600001 (gave (2 ∷ []))
+    ∷ edge (sweeps silent 0 []) (gave []) (sweeps (0 ∷ silent) 0 []) (refuses 5 0)
     -- reading and marshalling
     ∷ between (λ k. reads listL (heardAt 0x10 0x40 0) 0 1 k) 0 (gave (4 ∷ 0 ∷ [])) 1 (refuses 11 0)
     ∷ between (λ now. reads listL (heardAt 0x10 0x40 0) now 1 0) 5000 (gave (4 ∷ 0 ∷ [])) 5001 (gave (0 ∷ 3 ∷ []))
@@ -198,7 +201,7 @@ unfolding edges evens joined made ask listL telegram silent heardAt bit field wi
     some count greatest applicationType telegramType versionOf rows placeIn SignalList.checkAt SignalList.signalAt SignalList.codeAt SignalList.routeAt
     SignalList.checkRule SignalList.signalRuleTo SignalList.codeRule SignalList.routeRule SignalList.opening SignalList.judgeEntries SignalList.judgeSection
     SignalList.greatestSince SignalList.ending SignalList.fromRoutes SignalList.fromCodes SignalList.fromSignalsTo judgeTo hasCodes inRange knownIn knows
-    placeOf version slotOf taken taking age heard markOf codeOf hindrances reasonOf readingOf readingAt reading routed marshalled live marshalling headed
+    placeOf version slotOf taken taking age stale sweptOne sweptTo sweeping heard markOf codeOf hindrances reasonOf readingOf readingAt reading routed marshalled live marshalling headed
     composed markFits valueFits composing showing ofBits round toBits consistRule meets member setTo membersOf resolving requests isRequest isReport
     eReading answerTo answering
 at-each-edge = refl

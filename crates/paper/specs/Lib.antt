@@ -19,6 +19,7 @@ pub mod ETelegrams
 pub mod Demands
 pub mod Bench
 pub mod Marked
+pub mod Parked
 pub mod Cases
 pub mod Edges
 pub mod Breaks

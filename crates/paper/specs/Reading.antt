@@ -2,7 +2,7 @@
 use Prim.Native.Nat.{ℕ, _≤_, _<_}
 use mathlib.Core.Path.{_≡_}
 use mathlib.Core.Logic.{_⊎_}
-use mathlib.Core.Bool.{Bool, true, false, not, cond, _&&_}
+use mathlib.Core.Bool.{Bool, true, false, not, cond, _&&_, _||_}
 use mathlib.Core.List.{List, [], _∷_}
 use lib.ListN.{length}
 use lib.Dec.{ltb, leb, eqb}
@@ -11,20 +11,23 @@ use Rattle.paper.specs.Answer.{Answer, gives, refuseIf}
 use Rattle.paper.specs.First.{firstOf}
 use Rattle.paper.specs.Telegrams.{applicationType, telegramType, isType, versionOf, carries, error, ok, forced, undefined, markWidth}
 use Rattle.paper.specs.SignalList.{Signal, SignalList, Counts, judge, listOf, underList, knows, placeOf}
-use Rattle.paper.specs.Store.{vehicles, storeOctets, Slot, slotOf, isStore, isVehicle, age, inTime}
+use Rattle.paper.specs.Store.{vehicles, storeOctets, Slot, slotOf, isStore, isVehicle, age, expired, timely}
 
 -- "Reading gives a value and a reason."
 pub record Reading : Type 0 where
   pub value : ℕ
   pub reason : ℕ
 
--- "(1 = heard, all else not)"; "never heard (also a stored head with application type other than 1 or type not 1-3)"
+-- "(1 = heard, all else not)"; "never heard (also a stored head with application type other than 1 or type not 1-3)".
+-- C-12: an expired slot was heard
 unfoldable pub heard : Slot → Bool
-heard s = eqb (s .heard) 1 && eqb (applicationType (s .telegram)) 1 && isType (telegramType (s .telegram))
+heard s = (eqb (s .heard) 1 || expired s) && eqb (applicationType (s .telegram)) 1 && isType (telegramType (s .telegram))
 
--- what a vehicle's slot says of its telegram: type, version and age; nothing (0) where it was never heard
+-- what a vehicle's slot says of its telegram: type, version and age; nothing (0) where it was never heard. The age of one that is expired
+-- is none (0): the clock may have come round since
 pub record Held : Type 0 where
   pub heard : Bool
+  pub expired : Bool
   pub type : ℕ
   pub version : ℕ
   pub age : ℕ
@@ -32,8 +35,14 @@ pub record Held : Type 0 where
 unfoldable pub heldIn : Slot → ℕ → Held
 heldIn s now =
     cond (heard s)
-    (record { heard = true; type = telegramType (s .telegram); version = versionOf (s .telegram); age = age now (s .stamp) })
-    (record { heard = false; type = 0; version = 0; age = 0 })
+    (record {
+      heard = true;
+      expired = expired s;
+      type = telegramType (s .telegram);
+      version = versionOf (s .telegram);
+      age = cond (expired s) 0 (age now (s .stamp));
+    })
+    (record { heard = false; expired = false; type = 0; version = 0; age = 0 })
 
 -- 5, 6
 unfoldable pub holding : List ℕ → ℕ → ℕ → Answer Held
@@ -53,7 +62,7 @@ hindrances l slot now k =
     let s = l .signal k in
     let t = slot .telegram in
     not (heard slot)  -- 2 never heard
-    ∷ not (inTime (age now (slot .stamp)) (s .limit))  -- 3 too old
+    ∷ not (timely slot now (s .limit))  -- 3 too old
     ∷ not (carries (telegramType t) (s .type))  -- 4 type does not carry it
     ∷ ltb (versionOf t) (s .since)  -- 5 since-version above the telegram's
     ∷ eqb (markOf l s t) error  -- 6 mark error
@@ -94,7 +103,7 @@ reading xs store now v k = underList xs (readingBy store now v k)
 -- has a check, is ok or forced, and the code is known."
 pub record Live (l : SignalList) (slot : Slot) (now k : ℕ) : Type 0 where
   pub heard-from : heard slot ≡ true
-  pub in-time : inTime (age now (slot .stamp)) (l .signal k .limit) ≡ true
+  pub in-time : timely slot now (l .signal k .limit) ≡ true
   pub carried : carries (telegramType (slot .telegram)) (l .signal k .type) ≡ true
   pub new-enough : l .signal k .since ≤ versionOf (slot .telegram)
   pub mark : (markOf l (l .signal k) (slot .telegram) ≡ ok) ⊎ (markOf l (l .signal k) (slot .telegram) ≡ forced)

@@ -1,13 +1,14 @@
--- Document 01, "Store, age and reading": the store, its slots, taking a telegram, and age.
-use Prim.Native.Nat.{ℕ, _+_, _-_, _*_, _%_, _≤_}
+-- Document 01, "Store, age and reading": the store, its slots, taking a telegram, and age. Document 02, C-12: the sweep.
+use Prim.Native.Nat.{ℕ, zero, suc, _+_, _-_, _*_, _%_, _≤_}
 use mathlib.Core.Path.{_≡_}
-use mathlib.Core.Bool.{Bool, true, not, _&&_, _||_}
+use mathlib.Core.Bool.{Bool, true, not, cond, _&&_, _||_}
 use mathlib.Core.List.{List, _∷_, _++_}
-use lib.ListN.{length, getD, take, drop, replicate}
+use lib.ListN.{length, getD, set, take, drop, replicate}
 use lib.Dec.{ltb, leb, eqb}
 use Rattle.paper.specs.Octets.{number, octetsOf, over}
 use Rattle.paper.specs.Answer.{Answer, gives, refuseIf}
 use Rattle.paper.specs.Telegrams.{applicationType, telegramType, isType, typeLength}
+use Rattle.paper.specs.SignalList.{longestLimit}
 
 -- "The store is 8,379 octets: 63 slots of 133, vehicle 1 first."
 abbrev pub vehicles : ℕ
@@ -31,7 +32,7 @@ isStore store = eqb (length store) storeOctets
 abbrev pub isVehicle : ℕ → Bool
 isVehicle v = leb 1 v && leb v vehicles
 
--- "A slot is a heard octet (1 = heard, all else not), a 4-octet stamp and 128 telegram octets."
+-- "A slot is a heard octet (1 = heard, all else not), a 4-octet stamp and 128 telegram octets." C-12: "heard octet 2, meaning expired"
 pub record Slot : Type 0 where
   pub heard : ℕ
   pub stamp : ℕ
@@ -84,3 +85,31 @@ age now stamp = (now + turn - stamp) % turn
 -- "Within the limit means age ≤ limit, or limit 0."
 abbrev pub inTime : ℕ → ℕ → Bool
 inTime old limit = leb old limit || eqb limit 0
+
+-- ---- C-12: sweeping
+
+-- "a heard slot whose age is above 600,000 ms", the longest limit that a list may set: heard octet 1 and no other, whatever the telegram's head
+unfoldable pub stale : Slot → ℕ → Bool
+stale s now = eqb (s .heard) 1 && ltb longestLimit (age now (s .stamp))
+
+-- "gets heard octet 2, meaning expired": the slot of vehicle v, of the vehicles 1 to n, of all
+unfoldable pub sweptOne : List ℕ → ℕ → ℕ → List ℕ
+sweptOne store now v = cond (stale (slotOf store v) now) (set store (slotStart v) 2) store
+
+unfoldable pub sweptTo : List ℕ → ℕ → ℕ → List ℕ
+sweptTo store now zero = store
+sweptTo store now (suc n) = sweptOne (sweptTo store now n) now (suc n)
+
+abbrev pub swept : List ℕ → ℕ → List ℕ
+swept store now = sweptTo store now vehicles
+
+-- "Refusals: 5." Else the store afterwards
+unfoldable pub sweeping : List ℕ → ℕ → Answer (List ℕ)
+sweeping store now = refuseIf (not (isStore store)) 5 0 (gives (swept store now))
+
+abbrev pub expired : Slot → Bool
+expired s = eqb (s .heard) 2
+
+-- not too old: "For an expired slot, signals with a limit are too old (reason 3) and signals with none read as before."
+abbrev pub timely : Slot → ℕ → ℕ → Bool
+timely s now limit = (not (expired s) || eqb limit 0) && inTime (age now (s .stamp)) limit

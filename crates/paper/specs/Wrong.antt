@@ -19,7 +19,7 @@ use Rattle.paper.specs.Broken.{faultIn, faultFromRoutes, faultFromCodes,
 use Rattle.paper.specs.Extends.{codesKept, keeps, stands, newer, extendsLists}
 use Rattle.paper.specs.Extends as Extending
 use Rattle.paper.specs.Pairs.{entryOf, routeEntry, signalFound, finding, has, index, nextPair, pairing}
-use Rattle.paper.specs.Store.{slotHead, slotOctets, storeOctets, slotOf, taken, taking, age}
+use Rattle.paper.specs.Store.{slotHead, slotOctets, storeOctets, slotStart, slotOf, taken, taking, age, stale, sweptOne, sweptTo, sweeping}
 use Rattle.paper.specs.Reading.{heard, heldIn, holding, markOf, codeOf, hindrances, reasonOf, readingOf, readingAt, reading}
 use Rattle.paper.specs.Marshalling.{routed, marshalled, live, marshalling}
 use Rattle.paper.specs.Composing.{headed, composed, markFits, valueFits, composing}
@@ -28,7 +28,7 @@ use Rattle.paper.specs.Train.{Vehicle, consistRule, meets, member, setTo
 use Rattle.paper.specs.ETelegrams.{requests, isRequest, isReport, eReading, answerTo, answering}
 use Rattle.paper.specs.Bench.{listL}
 use Rattle.paper.specs.Marked.{telegram, silent, heardAt}
-use Rattle.paper.specs.Cases.{joined, made, signal, code, route, Question, judges, faults, extends, signalEntries, routeEntries, finds, pairs, places, takes, holds, reads, marshals, composes, shows, resolves, eReads, eAnswers, gave, refuses, ask}
+use Rattle.paper.specs.Cases.{joined, made, signal, code, route, Question, judges, faults, extends, signalEntries, routeEntries, finds, pairs, places, takes, sweeps, holds, reads, marshals, composes, shows, resolves, eReads, eAnswers, gave, refuses, ask}
 
 -- ---- A wrong gateway
 
@@ -74,6 +74,31 @@ read o41 o54 = reads listL (heardAt o41 o54 0) 5000 1 0
 -- the same of a telegram with another octet 1 or 2
 abbrev headed-by : ℕ → ℕ → List ℕ
 headed-by o1 o2 = set (set (heardAt 0x10 0x40 0) slotHead o1) (slotHead + 1) o2
+
+-- vehicle 1 heard at 0 with the code 4, and this heard octet put in its place: 2 is expired
+abbrev mark : ℕ → List ℕ
+mark x = set (heardAt 0x10 0x40 0) 0 x
+
+-- a sweep at 600,000, the clock having come round: vehicle 1 was heard at the stamp 01 02 03 04, vehicle 63 at 01 00 00 00, and vehicle 3 at 0;
+-- vehicle 2 has the heard octet 7 and the stamp 01 00 00 00. Looked at: the heard octet, the stamp and the telegram's octet 1 of vehicle 1, and the
+-- heard octets of the others
+abbrev with-slot : ℕ → ℕ → ℕ → List ℕ → List ℕ
+with-slot v mark high store = set (set store (slotStart v) mark) (slotStart v + 1) high
+
+abbrev parked : Question
+parked =
+    sweeps (with-slot 2 7 1 (with-slot 3 1 0 (with-slot 63 1 1 (heardAt 0x10 0x40 0x01020304)))) 600000
+    (0 ∷ 1 ∷ 2 ∷ 3 ∷ 4 ∷ slotHead ∷ slotStart 2 ∷ slotStart 3 ∷ slotStart 63 ∷ [])
+
+abbrev swept-to : ℕ → List ℕ → ℕ → ℕ → ℕ → List ℕ
+swept-to one stamp two three last = gave (one ∷ stamp ++ (0x11 ∷ two ∷ three ∷ last ∷ []))
+
+abbrev stamp : List ℕ
+stamp = 1 ∷ 2 ∷ 3 ∷ 4 ∷ []
+
+-- L without a time limit
+abbrev no-limit : List ℕ
+no-limit = set (set listL 14 0) 15 0
 
 -- the elements of a store at the end of an R3 in the first slot, behind it, at the slot's end and behind that
 abbrev behind-r3 : List ℕ
@@ -249,14 +274,22 @@ table =
     (takes silent 1 0 (0x14 ∷ replicate 127 0) (0 ∷ slotHead ∷ [])) (refuses 9 0 ++ (0 ∷ 0 ∷ []))
     (refuses 9 0 ++ (1 ∷ 0x14 ∷ []))
     ∷ saying "length-before-type" (takes silent 1 0 (0x14 ∷ 0 ∷ []) []) (refuses 9 0) (refuses 10 0)
-    -- what a slot holds: heard, type, version, age
+    ∷ saying "new-telegram-left-expired" (takes (mark 2) 1 5 (telegram 0 0) (0 ∷ [])) (gave (1 ∷ [])) (gave (2 ∷ []))
+    -- sweeping
+    ∷ saying "expired-at-600000" parked (swept-to 2 stamp 7 1 2) (swept-to 2 stamp 7 2 2)
+    ∷ saying "first-vehicle-swept" parked (swept-to 2 stamp 7 1 2) (swept-to 2 stamp 7 1 1)
+    ∷ saying "stamp-cleared" parked (swept-to 2 stamp 7 1 2) (swept-to 2 (replicate 4 0) 7 1 2)
+    ∷ saying "octet-7-swept" parked (swept-to 2 stamp 7 1 2) (swept-to 2 stamp 2 1 2)
+    ∷ saying "swept-though-refused" (sweeps (heardAt 0x10 0x40 0 ++ (0 ∷ [])) 600001 (0 ∷ [])) (refuses 5 0 ++ (1 ∷ [])) (refuses 5 0 ++ (2 ∷ []))
+    -- what a slot holds: heard, expired, type, version, age
     ∷ asked-as "unheard-held"
-    (holds (set (heardAt 0x10 0x40 0) 0 2) 5 1) (gave (0 ∷ 0 ∷ 0 ∷ 0 ∷ []))
-    (holds (heardAt 0x10 0x40 0) 5 1) (gave (1 ∷ 1 ∷ 1 ∷ 5 ∷ []))
-    ∷ saying "version-0-held" (holds (headed-by 0x11 0) 5 1) (gave (1 ∷ 1 ∷ 1 ∷ 5 ∷ [])) (gave (1 ∷ 1 ∷ 0 ∷ 5 ∷ []))
+    (holds (mark 3) 5 1) (gave (0 ∷ 0 ∷ 0 ∷ 0 ∷ 0 ∷ []))
+    (holds (mark 1) 5 1) (gave (1 ∷ 0 ∷ 1 ∷ 1 ∷ 5 ∷ []))
+    ∷ saying "version-0-held" (holds (headed-by 0x11 0) 5 1) (gave (1 ∷ 0 ∷ 1 ∷ 1 ∷ 5 ∷ [])) (gave (1 ∷ 0 ∷ 1 ∷ 0 ∷ 5 ∷ []))
     ∷ asked-as "held-of-the-next-vehicle"
-    (holds (heardAt 0x10 0x40 0) 5 1) (gave (1 ∷ 1 ∷ 1 ∷ 5 ∷ []))
-    (holds (heardAt 0x10 0x40 0) 5 2) (gave (0 ∷ 0 ∷ 0 ∷ 0 ∷ []))
+    (holds (heardAt 0x10 0x40 0) 5 1) (gave (1 ∷ 0 ∷ 1 ∷ 1 ∷ 5 ∷ []))
+    (holds (heardAt 0x10 0x40 0) 5 2) (gave (0 ∷ 0 ∷ 0 ∷ 0 ∷ 0 ∷ []))
+    ∷ saying "expired-held-with-an-age" (holds (mark 2) 5 1) (gave (1 ∷ 1 ∷ 1 ∷ 1 ∷ 0 ∷ [])) (gave (1 ∷ 1 ∷ 1 ∷ 1 ∷ 5 ∷ []))
     -- reading
     ∷ saying "refuses-every-reading" (read 0x10 0x40) (value 4 0) (refuses 11 0)
     ∷ asked-as "replaces-every-value" (read 0x10 0x40) (value 4 0) (reads listL silent 5000 1 0) (value 0 2)
@@ -271,14 +304,20 @@ table =
     ∷ asked-as "high-left-out" (read 0x10 0x60) (value 6 0) (read 0x10 0x70) (value 0 8)
     ∷ asked-as "r1-signal-from-r2" (reads listL (headed-by 0x12 1) 5000 1 0) (value 0 4) (read 0x10 0x40) (value 4 0)
     ∷ asked-as "reasons-3-and-4-swapped" (reads listL (headed-by 0x12 1) 5001 1 0) (value 0 3) (reads listL (headed-by 0x12 1) 5000 1 0) (value 0 4)
-    ∷ asked-as "heard-not-zero" (reads listL (set (heardAt 0x10 0x40 0) 0 2) 5000 1 0) (value 0 2) (read 0x10 0x40) (value 4 0)
+    ∷ asked-as "heard-not-zero" (reads listL (mark 3) 5000 1 0) (value 0 2) (read 0x10 0x40) (value 4 0)
     ∷ asked-as "head-not-looked-at" (reads listL (headed-by 0x21 1) 5000 1 0) (value 0 2) (read 0x10 0x40) (value 4 0)
     ∷ asked-as "version-0-is-0" (reads listL (headed-by 0x11 0) 5000 1 0) (value 4 0) (reads since-2 (headed-by 0x11 0) 5000 1 0) (value 0 5)
     ∷ asked-as "version-0-is-2" (reads since-2 (headed-by 0x11 0) 5000 1 0) (value 0 5) (reads since-2 (headed-by 0x11 2) 5000 1 0) (value 4 0)
     ∷ asked-as "limit-reached-too-old" (read 0x10 0x40) (value 4 0) (reads listL (heardAt 0x10 0x40 0) 5001 1 0) (value 0 3)
     ∷ asked-as "limit-0-is-over"
-    (reads (set (set listL 14 0) 15 0) (heardAt 0x10 0x40 0) 5000 1 0) (value 4 0)
-    (reads (set (set listL 14 0) 15 1) (heardAt 0x10 0x40 0) 5000 1 0) (value 0 3)
+    (reads no-limit (heardAt 0x10 0x40 0) 5000 1 0) (value 4 0)
+    (reads (set no-limit 15 1) (heardAt 0x10 0x40 0) 5000 1 0) (value 0 3)
+    ∷ asked-as "expired-read-live" (reads listL (mark 2) 0 1 0) (value 0 3) (reads listL (mark 1) 0 1 0) (value 4 0)
+    ∷ asked-as "limit-0-expired" (reads no-limit (mark 2) 600001 1 0) (value 4 0) (reads listL (mark 2) 600001 1 0) (value 0 3)
+    ∷ asked-as "expired-never-heard" (reads listL (mark 2) 5000 1 0) (value 0 3) (reads listL (mark 3) 5000 1 0) (value 0 2)
+    ∷ asked-as "expired-head-not-looked-at"
+    (reads listL (set (mark 2) slotHead 0x21) 5000 1 0) (value 0 2)
+    (reads listL (mark 2) 5000 1 0) (value 0 3)
     ∷ asked-as "wrap-lost" (reads listL (heardAt 0x10 0x40 4294967000) 4000 1 0) (value 4 0) (reads listL (heardAt 0x10 0x40 0) 5001 1 0) (value 0 3)
     ∷ asked-as "clock-gone-back-young"
     (reads listL (heardAt 0x10 0x40 1000) 999 1 0) (value 0 3)
@@ -376,7 +415,7 @@ unfolding table answered sameNumbers joined made ask listL telegram silent heard
     SignalList.codeAt SignalList.routeAt SignalList.checkRule SignalList.signalRuleTo SignalList.codeRule SignalList.routeRule SignalList.opening
     SignalList.judgeEntries SignalList.judgeSection SignalList.greatestSince SignalList.ending SignalList.fromRoutes SignalList.fromCodes
     SignalList.fromSignalsTo judgeTo faultIn faultFromRoutes faultFromCodes faultFromSignals faultOf hasCodes inRange knownIn knows placeOf version codesKept keeps stands newer Extending.extends extendsLists entryOf
-    routeEntry signalFound finding has index nextPair pairing slotOf taken taking age heard heldIn holding markOf codeOf hindrances reasonOf readingOf
+    routeEntry signalFound finding has index nextPair pairing slotOf taken taking age stale sweptOne sweptTo sweeping heard heldIn holding markOf codeOf hindrances reasonOf readingOf
     readingAt reading routed marshalled live marshalling headed composed markFits valueFits composing showing ofBits round toBits consistRule meets member
     setTo membersOf resolving requests isRequest isReport eReading answerTo answering
 wrong = refl

@@ -7,7 +7,7 @@ use Rattle.paper.specs.Answer.{Answer, gives, refuseIf}
 use Rattle.paper.specs.First.{firstOf}
 use Rattle.paper.specs.Telegrams.{telegramType, versionOf, carries, error, forced, undefined}
 use Rattle.paper.specs.SignalList.{Signal, SignalList, knows}
-use Rattle.paper.specs.Store.{Slot, isStore, isVehicle, age, inTime}
+use Rattle.paper.specs.Store.{Slot, isStore, isVehicle, timely}
 use Rattle.paper.specs.Reading as paper
 use Rattle.refusals.specs.Refusal.{refusalOf}
 use Rattle.reading.specs.declared.Reading.{Reading}
@@ -25,7 +25,7 @@ readAnswer (Refused f) = refusalOf f
 abbrev pub slotTests : Slot → ℕ → Signal → List Bool
 slotTests slot now s =
     not (paper.heard slot)
-    ∷ not (inTime (age now (slot .stamp)) (s .limit))
+    ∷ not (timely slot now (s .limit))
     ∷ not (carries (telegramType (slot .telegram)) (s .type))
     ∷ ltb (versionOf (slot .telegram)) (s .since)
     ∷ []

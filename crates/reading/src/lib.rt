@@ -36,7 +36,7 @@ fn slot_reason(slot: &[u8], clock: u32, s: Signal) -> u8
     if !store::is_heard(slot) {
         return 2;
     }
-    if !store::in_time(store::age(clock, store::stamp(slot)), s.limit) {
+    if !store::is_timely(slot, clock, s.limit) {
         return 3;
     }
     let t = store::telegram(slot);

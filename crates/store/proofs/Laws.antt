@@ -76,7 +76,7 @@ module _ (store : List ℕ) (v now : ℕ) (telegram : List ℕ) where
 
 -- the outcome can be told from the paper's answer, so any two that the contract admits are equal
 told : Answer paper.Held → HeldOutcome
-told (gives h) = H.Held (record { heard = h .heard; kind = h .type; version = h .version; age = h .age })
+told (gives h) = H.Held (record { heard = h .heard; expired = h .expired; kind = h .type; version = h .version; age = h .age })
 told (refused n at) = H.Refused (numbered n at)
 
 told-of : (r : HeldOutcome) → told (heldAnswer r) ≡ r

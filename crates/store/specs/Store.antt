@@ -14,7 +14,7 @@ use Rattle.store.specs.declared.HeldOutcome.{HeldOutcome}
 use Rattle.store.specs.declared.HeldOutcome.the-variants as H
 
 abbrev pub asHeld : Held → paper.Held
-asHeld h = record { heard = h .heard; type = h .kind; version = h .version; age = h .age }
+asHeld h = record { heard = h .heard; expired = h .expired; type = h .kind; version = h .version; age = h .age }
 
 abbrev pub heldAnswer : HeldOutcome → Answer paper.Held
 heldAnswer (H.Held h) = gives (asHeld h)

@@ -1,8 +1,10 @@
-// The store: one slot a vehicle, taking a telegram into it, and the age of what it holds. The layout of a slot stands in this crate alone.
+// The store: one slot a vehicle, taking a telegram into it, the age of what it holds, and the sweep that marks what is too old for any limit. The
+// layout of a slot stands in this crate alone.
 ghost use mathlib.Core.Path.{_≡_};
 ghost use Prim.Native.Nat.{_<_, _≤_};
 ghost use lib.ListN.{length, take, drop};
-ghost use Rattle.paper.specs.Store.{vehicles, telegramOctets, slotOctets, storeOctets, isStore, isVehicle, slotStart, slotFrom, taken, taking, age, inTime};
+ghost use mathlib.Core.Bool.{cond};
+ghost use Rattle.paper.specs.Store.{vehicles, telegramOctets, slotOctets, storeOctets, isStore, isVehicle, slotStart, slotFrom, taken, taking, age, inTime, stale, sweptOne, swept, sweeping, expired, timely};
 ghost use Rattle.paper.specs.Reading.{heard, heldIn, holding as heldOf};
 ghost use Rattle.refusals.specs.Outcome.{outcomeOf, Written};
 ghost use Rattle.store.specs.Store.{asHeld, heldAnswer, telegramTests, takingTests};
@@ -19,11 +21,21 @@ const HEAD: usize = 5;
 
 const SLOT: usize = HEAD + TELEGRAM;
 
+// The heard octet of a slot that was heard, and of one that a sweep found too old for any time limit. Any other was never heard.
+const HEARD: u8 = 1;
+
+const EXPIRED: u8 = 2;
+
+// The longest time limit that a list may set.
+const LONGEST_LIMIT: u32 = 600000;
+
 pub const STORE: usize = VEHICLES * SLOT;
 
-// Type, version and age of what was last heard of a vehicle; 0 where nothing was.
+// Type, version and age of what was last heard of a vehicle; 0 where nothing was. What is expired was heard, and its age is 0: the clock may
+// have come round since.
 pub struct Held {
     pub heard: bool,
+    pub expired: bool,
     // The paper's type.
     pub kind: usize,
     pub version: usize,
@@ -58,7 +70,7 @@ pub fn slot(store: &[u8], vehicle: usize) -> &[u8]
 }
 
 // Inner: the stamp of a slot.
-pub fn stamp(slot: &[u8]) -> u32
+fn stamp(slot: &[u8]) -> u32
     requires { ⌜ length (now slot) ≡ slotOctets ⌝ }
     ensures { λ r. ⌜ r ≡ slotFrom (now (slot .entry)) .stamp ⌝ }
 {
@@ -73,15 +85,35 @@ pub fn telegram(slot: &[u8]) -> &[u8]
     &slot[HEAD..]
 }
 
-// Inner: a slot that was heard, and whose head is an R-telegram's.
+// Inner: a slot that was heard, expired since or not, and whose head is an R-telegram's.
 pub fn is_heard(slot: &[u8]) -> bool
     requires { ⌜ length (now slot) ≡ slotOctets ⌝ }
     ensures { λ r. ⌜ r ≡ heard (slotFrom (now (slot .entry))) ⌝ }
 {
+    let mark = slot[0];
     let t = telegram(slot);
-    (slot[0] == 1)
+    ((mark == HEARD) | (mark == EXPIRED))
         & (telegrams::application_type(t) == 1)
         & telegrams::is_type(telegrams::telegram_type(t))
+}
+
+// Inner: a slot that a sweep has marked.
+fn is_expired(slot: &[u8]) -> bool
+    requires { ⌜ length (now slot) ≡ slotOctets ⌝ }
+    ensures { λ r. ⌜ r ≡ expired (slotFrom (now (slot .entry))) ⌝ }
+{
+    slot[0] == EXPIRED
+}
+
+// Inner: the age that is told of a slot that was heard.
+fn held_age(slot: &[u8], clock: u32) -> u32
+    requires { ⌜ length (now slot) ≡ slotOctets ⌝ }
+    ensures { λ r. ⌜ r ≡ cond (expired (slotFrom (now (slot .entry)))) 0 (age clock (slotFrom (now (slot .entry)) .stamp)) ⌝ }
+{
+    if is_expired(slot) {
+        return 0;
+    }
+    age(clock, stamp(slot))
 }
 
 // What a slot says of its telegram.
@@ -92,6 +124,7 @@ fn held_in(slot: &[u8], clock: u32) -> Held
     if !is_heard(slot) {
         return Held {
             heard: false,
+            expired: false,
             kind: 0,
             version: 0,
             age: 0,
@@ -100,9 +133,10 @@ fn held_in(slot: &[u8], clock: u32) -> Held
     let t = telegram(slot);
     Held {
         heard: true,
+        expired: is_expired(slot),
         kind: telegrams::telegram_type(t),
         version: telegrams::data_version(t),
-        age: age(clock, stamp(slot)),
+        age: held_age(slot, clock),
     }
 }
 
@@ -120,16 +154,24 @@ pub fn holding(store: &[u8], clock: u32, vehicle: usize) -> HeldOutcome
 }
 
 // A clock that went back gives a large age.
-pub fn age(clock: u32, stamp: u32) -> u32
+fn age(clock: u32, stamp: u32) -> u32
     ensures { λ r. ⌜ r ≡ age clock stamp ⌝ }
 {
     std::num::wrapping_sub_u32(clock, stamp)
 }
 
-pub fn in_time(old: u32, limit: u64) -> bool
+fn in_time(old: u32, limit: u64) -> bool
     ensures { λ r. ⌜ r ≡ inTime old limit ⌝ }
 {
     (old as u64 <= limit) | (limit == 0)
+}
+
+// Inner: a slot that is not too old for a time limit. An expired one is, whatever its age, unless the limit is none (0).
+pub fn is_timely(slot: &[u8], clock: u32, limit: u64) -> bool
+    requires { ⌜ length (now slot) ≡ slotOctets ⌝ }
+    ensures { λ r. ⌜ r ≡ timely (slotFrom (now (slot .entry))) clock limit ⌝ }
+{
+    (!is_expired(slot) | (limit == 0)) & in_time(age(clock, stamp(slot)), limit)
 }
 
 // The first of the refusals 7 to 10 that applies to a telegram.
@@ -172,7 +214,7 @@ fn write_slot(store: &mut [u8], vehicle: usize, clock: u32, telegram: &[u8])
 {
     let at = SLOT * (vehicle - 1);
     let n = telegram.len();
-    store[at] = 1;
+    store[at] = HEARD;
     octets::write32(store, at + 1, clock);
     octets::copy_over(store, at + HEAD, telegram);
     octets::fill_zero(store, at + HEAD + n, TELEGRAM - n);
@@ -190,4 +232,46 @@ pub fn take(store: &mut [u8], vehicle: usize, clock: u32, telegram: &[u8]) -> Ou
             Outcome::Done
         }
     }
+}
+
+// Inner: a slot that was heard, and not within the longest time limit any more.
+fn is_stale(slot: &[u8], clock: u32) -> bool
+    requires { ⌜ length (now slot) ≡ slotOctets ⌝ }
+    ensures { λ r. ⌜ r ≡ stale (slotFrom (now (slot .entry))) clock ⌝ }
+{
+    (slot[0] == HEARD) & (LONGEST_LIMIT < age(clock, stamp(slot)))
+}
+
+// Inner: one vehicle's slot.
+fn sweep_slot(store: &mut [u8], vehicle: usize, clock: u32)
+    requires { ⌜ (length (now store) ≡ storeOctets) × (1 ≤ vehicle) × (vehicle ≤ vehicles) ⌝ }
+    ensures { λ _. ⌜ now (store .exit) ≡ sweptOne (now (store .entry)) clock vehicle ⌝ }
+{
+    let at = SLOT * (vehicle - 1);
+    if is_stale(slot(store, vehicle), clock) {
+        store[at] = EXPIRED;
+    }
+}
+
+// Inner: every vehicle's slot.
+fn sweep_slots(store: &mut [u8], clock: u32)
+    requires { ⌜ length (now store) ≡ storeOctets ⌝ }
+    ensures { λ _. ⌜ now (store .exit) ≡ swept (now (store .entry)) clock ⌝ }
+{
+    let mut n = 0usize;
+    while n < VEHICLES {
+        sweep_slot(store, n + 1, clock);
+        n += 1;
+    }
+}
+
+// Marks every slot as expired that was heard and is older, at `clock`, than any time limit allows. Refused: 5, and the store stays as it was.
+pub fn sweep(store: &mut [u8], clock: u32) -> Outcome
+    ensures { λ r. ⌜ Written (sweeping (now (store .entry)) clock) (now (store .entry)) r (now (store .exit)) ⌝ }
+{
+    if store.len() != STORE {
+        return Outcome::Refused(Refusal::STORE_LENGTH);
+    }
+    sweep_slots(store, clock);
+    Outcome::Done
 }

@@ -22,6 +22,7 @@ fn held_of(store: &[u8], clock: u32, vehicle: usize) -> Held {
         HeldOutcome::Held(h) => h,
         HeldOutcome::Refused(_) => Held {
             heard: false,
+            expired: false,
             kind: 0,
             version: 0,
             age: 0,

@@ -10,23 +10,23 @@ use borrow.Author.Needs.{needs}
 use borrow.Author.Tests.{lt-ltb, le-ltb}
 use Rattle.paper.specs.First.{firstOf}
 use Rattle.paper.specs.Telegrams.{telegramType, versionOf, carries}
-use Rattle.paper.specs.Store.{slotFrom, age, inTime}
+use Rattle.paper.specs.Store.{slotFrom, timely}
 use Rattle.paper.specs.Reading.{heard}
 use Rattle.entries.specs.Entries.{signalOf}
 use Rattle.reading.specs.Reading.{slotTests}
 use Rattle.reading.proofs.slot_reason.Statement.{statement}
 use Rattle.reading.proofs.slot_reason.Tie as tie
 
-abbrev start : tie.After-in-time → tie.Start
-start c = c .before .before .before .before .before .before
+abbrev start : tie.After-is-timely → tie.Start
+start c = c .before .before .before .before
 
 heard-is : (c : tie.After-is-heard) → not (heard (slotFrom (now (c .before .before .args .slot)))) ≡ not (c .is-heard .result)
 heard-is c = ap not (sym (c .is-heard .ensures))
 
-timed-is : (c : tie.After-in-time) →
+timed-is : (c : tie.After-is-timely) →
     let a = start c .args in
-    not (inTime (age (a .clock) (slotFrom (now (a .slot)) .stamp)) (a .s .limit)) ≡ not (c .in-time .result)
-timed-is c = simp (c .in-time .ensures, c .before .age .ensures, c .before .before .stamp .ensures)
+    not (timely (slotFrom (now (a .slot))) (a .clock) (a .s .limit)) ≡ not (c .is-timely .result)
+timed-is c = ap not (sym (c .is-timely .ensures))
 
 carried-is : (c : tie.After-is-carried) →
     let a = start (c .before .before .before .before) .args in
@@ -41,7 +41,7 @@ passed : (c : tie.Else3) →
     firstOf 2 (slotTests slot (a .clock) (signalOf (a .s))) 0 ≡ firstOf 5 (ltb (versionOf (slot .telegram)) (a .s .since) ∷ []) 0
 passed c =
     let t = c .before .before .before .before in
-    let h = t .before .before .before .before in
+    let h = t .before .before in
     simp (heard-is (h .before) ∙ h .if1 .left, timed-is (t .before) ∙ t .if2 .left, carried-is (c .before) ∙ c .if3 .left)
 
 version-is : (c : tie.After-data-version) →
@@ -54,7 +54,7 @@ returns c = simp (heard-is (c .before) ∙ c .if1 .taken)
 
 returns-2 : tie.Need-returns-2
 returns-2 c =
-    let h = c .before .before .before .before in
+    let h = c .before .before in
     simp (heard-is (h .before) ∙ h .if1 .left, timed-is (c .before) ∙ c .if2 .taken)
 
 telegram-type-requires : tie.Need-telegram-type-requires
@@ -63,7 +63,7 @@ telegram-type-requires c κs = rw (c .telegram .ensures) (simp length-drop (omeg
 returns-3 : tie.Need-returns-3
 returns-3 c =
     let t = c .before .before .before .before in
-    let h = t .before .before .before .before in
+    let h = t .before .before in
     simp (heard-is (h .before) ∙ h .if1 .left, timed-is (t .before) ∙ t .if2 .left, carried-is (c .before) ∙ c .if3 .taken)
 
 data-version-requires : tie.Need-data-version-requires
@@ -85,8 +85,6 @@ slot-reason-spec =
     (tie.spec
     (λ c κs. search needs)
     returns
-    (λ c κs. search needs)
-    (λ c κs. search needs)
     (λ c κs. search needs)
     returns-2
     (λ c κs. search needs)

@@ -13,10 +13,10 @@ unfolding heldIn
 returns c = simp (sym (c .before .is-heard .ensures) ∙ not-true _ (c .if1 .taken))
 
 telegram-type-requires : tie.Need-telegram-type-requires
-telegram-type-requires c κs = rw (c .telegram .ensures) (simp length-drop (omega arith))
+telegram-type-requires c κs = rw (c .before .telegram .ensures) (simp length-drop (omega arith))
 
 data-version-requires : tie.Need-data-version-requires
-data-version-requires c κs = rw (c .before .telegram .ensures) (simp length-drop (omega arith))
+data-version-requires c κs = rw (c .before .before .telegram .ensures) (simp length-drop (omega arith))
 
 returns-2 : tie.Need-returns-2
 unfolding heldIn
@@ -31,8 +31,8 @@ held-in-spec =
     (λ c κs. search needs)
     returns
     (λ c κs. search needs)
+    (λ c κs. search needs)
     telegram-type-requires
     data-version-requires
-    (λ c κs. search needs)
     (λ c κs. search needs)
     returns-2)
