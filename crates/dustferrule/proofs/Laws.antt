@@ -10,7 +10,7 @@ use Rattle.paper.specs.Telegrams.{checkPlace}
 use Rattle.paper.specs.SignalList.{Counts, judge, OfTwo, ofBoth, firstRefused, secondRefused, GivenTwo, NumberedTwo}
 use Rattle.paper.specs.Extends.{extendsLists}
 use Rattle.paper.specs.Pairs.{Entry, entryOf, finding}
-use Rattle.paper.specs.Store.{taking}
+use Rattle.paper.specs.Store.{taking, sweeping}
 use Rattle.paper.specs.Reading.{Reading, reading}
 use Rattle.paper.specs.Marshalling.{Marshalled, marshalling}
 use Rattle.paper.specs.Composing.{composing}
@@ -116,6 +116,13 @@ module _ (store : List ℕ) (v now : ℕ) (telegram : List ℕ) (r : DfOutcome) 
 
   pub take-kept : (r .refusal ≡ 0 → ⊥) → new ≡ store
   take-kept = written-kept _ store r new w
+
+module _ (store : List ℕ) (now : ℕ) (r : DfOutcome) (new : List ℕ) (w : WrittenC (sweeping store now) store r new) where
+  pub sweep-given : (r .refusal ≡ 0) ↔ Given (sweeping store now)
+  sweep-given = written-given _ store r new w (laws.numbered-sweeping store now)
+
+  pub sweep-kept : (r .refusal ≡ 0 → ⊥) → new ≡ store
+  sweep-kept = written-kept _ store r new w
 
 module _ (xs : List ℕ) (type : ℕ) (values marks : List ℕ) (room : ℕ) (out : List ℕ) (r : DfOutcome) (new : List ℕ)
     (w : WrittenC (composing xs type values marks room) out r new) where

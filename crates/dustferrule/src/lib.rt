@@ -8,7 +8,7 @@ ghost use Rattle.paper.specs.Telegrams.{checkPlace};
 ghost use Rattle.paper.specs.SignalList.{judge as judging};
 ghost use Rattle.paper.specs.Extends.{extendsLists};
 ghost use Rattle.paper.specs.Pairs.{entryOf, finding};
-ghost use Rattle.paper.specs.Store.{taking};
+ghost use Rattle.paper.specs.Store.{taking, sweeping};
 ghost use Rattle.paper.specs.Reading.{reading};
 ghost use Rattle.paper.specs.Marshalling.{marshalling};
 ghost use Rattle.paper.specs.Composing.{composing};
@@ -426,6 +426,13 @@ pub extern "C" fn df_take(store: &mut [u8], vehicle: u64, clock: u32, telegram: 
     ensures { λ r. ⌜ WrittenC (taking (now (store .entry)) vehicle clock (now (telegram .entry))) (now (store .entry)) r (now (store .exit)) ⌝ }
 {
     outcome_c(gateway::take(store, vehicle as usize, clock, telegram))
+}
+
+#[no_mangle]
+pub extern "C" fn df_sweep(store: &mut [u8], clock: u32) -> DfOutcome
+    ensures { λ r. ⌜ WrittenC (sweeping (now (store .entry)) clock) (now (store .entry)) r (now (store .exit)) ⌝ }
+{
+    outcome_c(gateway::sweep(store, clock))
 }
 
 #[no_mangle]

@@ -50,6 +50,7 @@ pub use store::STORE;
 pub use store::TELEGRAM;
 pub use store::VEHICLES;
 pub use store::holding;
+pub use store::sweep;
 pub use store::take;
 pub use train::Members;
 pub use train::Resolved;
