@@ -1,5 +1,5 @@
 //! The gateway library of document 01, written a second time and independently: taking R-telegrams into
-//! a store, reading and marshalling signals, composing R-telegrams, judging signal lists, resolving
+//! a store, sweeping it, reading and marshalling signals, composing R-telegrams, judging signal lists, resolving
 //! addresses, and reading and answering E-telegrams.
 //!
 //! Every function is total: it answers or refuses for every input and never panics. Every public call
@@ -35,5 +35,5 @@ pub use reading::{read, Reading};
 pub use refusal::Refusal;
 pub use shown::{show, Kind, Shown};
 pub use sizes::{HEAD, HEARD, SIGNAL_SIZE, SLOT, STAMP, STORE, TELEGRAM, VEHICLES};
-pub use store::take;
+pub use store::{sweep, take};
 pub use train::{resolve, Members};

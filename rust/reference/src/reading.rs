@@ -5,7 +5,7 @@ use crate::list::{knows, CodeEntry, List, Signal};
 use crate::octets::{read_field, read_mark};
 use crate::refusal::Refusal;
 use crate::sizes::{HEAD, HEARD};
-use crate::store::{slot_of, slots, stamp_of, Slot};
+use crate::store::{age_of, slot_of, slots, Slot};
 
 /// A value and its reason.
 #[derive(Debug, Clone, Copy, PartialEq, Eq)]
@@ -73,12 +73,17 @@ fn live(
     let (head, telegram_type) = (telegram[0], telegram[0] & 15);
 
     // "2 never heard (also a stored head with application type other than 1 or type not 1-3)"
-    if slot[HEARD] != 1 || !matches!(head, 0x11..=0x13) {
+    let expired = match slot[HEARD] {
+        1 => false,
+        2 => true,
+        _ => return Err(2),
+    };
+    if !matches!(head, 0x11..=0x13) {
         return Err(2);
     }
-    // "The age is now less stamp, modulo 4,294,967,296. Within the limit means age ≤ limit, or limit 0."
-    let age = now.wrapping_sub(stamp_of(slot));
-    if signal.limit() != 0 && age > signal.limit() {
+    // "Within the limit means age ≤ limit, or limit 0." "For an expired slot, signals with a limit are too
+    // old (reason 3) and signals with none read as before."
+    if signal.limit() != 0 && (expired || age_of(slot, now) > signal.limit()) {
         return Err(3);
     }
     if !signal.carried_by(telegram_type) {

@@ -1,5 +1,5 @@
 //! "The store is 8,379 octets: 63 slots of 133, vehicle 1 first. A slot is a heard octet (1 = heard, all
-//! else not), a 4-octet stamp and 128 telegram octets."
+//! else not), a 4-octet stamp and 128 telegram octets." And of C-12: "heard octet 2, meaning expired".
 
 use crate::refusal::Refusal;
 use crate::sizes::{HEAD, HEARD, SLOT, STAMP, TELEGRAM, VEHICLES};
@@ -37,12 +37,12 @@ pub(crate) fn slot_of(vehicle: u64) -> Result<usize, Refusal> {
     }
 }
 
-/// The clock value at which a slot's telegram was taken.
+/// "The age is now less stamp, modulo 4,294,967,296."
 #[inline]
-pub(crate) fn stamp_of(slot: &Slot) -> u32 {
+pub(crate) fn age_of(slot: &Slot, now: u32) -> u32 {
     let mut stamp = [0; 4];
     stamp.copy_from_slice(&slot[STAMP]);
-    u32::from_be_bytes(stamp)
+    now.wrapping_sub(u32::from_be_bytes(stamp))
 }
 
 /// "R1 and R2 have 128 octets, R3 has 40." Refusal 9, "telegram type not 1-3".
@@ -74,5 +74,15 @@ pub fn take(store: &mut [u8], vehicle: u64, now: u32, telegram: &[u8]) -> Result
     let (taken, behind) = slot[HEAD..].split_at_mut(telegram.len());
     taken.copy_from_slice(telegram);
     behind.fill(0);
+    Ok(())
+}
+
+/// "a heard slot whose age is above 600,000 ms gets heard octet 2, meaning expired." Refusal 5.
+pub fn sweep(store: &mut [u8], now: u32) -> Result<(), Refusal> {
+    for slot in slots_mut(store)? {
+        if slot[HEARD] == 1 && age_of(slot, now) > 600_000 {
+            slot[HEARD] = 2;
+        }
+    }
     Ok(())
 }

@@ -35,6 +35,7 @@ fn heard_and_head() {
             let reason = match (heard, head) {
                 (1, 0x11) => 0,
                 (1, 0x12 | 0x13) => 4,
+                (2, 0x11..=0x13) => 3,
                 _ => 2,
             };
             assert_eq!(read(&L, &store, 0, 1, 0).unwrap().reason, reason);
@@ -65,6 +66,23 @@ fn limit_0_means_none() {
     let mut store = vec![0; STORE];
     plant(&mut store, 1, 1, 0, &r1(0x10, 0));
     assert_eq!(read(&list, &store, u32::MAX, 1, 0).unwrap().reason, 0);
+}
+
+/// "signals with none read as before": whatever else is wrong with the telegram, expired or not.
+#[test]
+fn expired_with_limit_0_is_read_as_before() {
+    let mut list = L;
+    list[12..16].fill(0);
+    let mut store = vec![0; STORE];
+    for octet_41 in [0, 0x10, 0x20, 0x30] {
+        for octet_54 in (0..16).map(|code| code << 4) {
+            let [heard, expired] = [1, 2].map(|heard| {
+                plant(&mut store, 1, heard, 0, &r1(octet_41, octet_54));
+                read(&list, &store, u32::MAX, 1, 0)
+            });
+            assert_eq!(heard, expired);
+        }
+    }
 }
 
 /// Every signal of made lists, for some vehicles of made stores.

@@ -1,7 +1,7 @@
 mod support;
 
-use reference::take;
-use support::{plant, refusal, Random, SLOT, STORE};
+use reference::{read, sweep, take};
+use support::{plant, r1, refusal, Random, HEAD, HEARD, L, SLOT, STAMP, STORE};
 
 fn telegram(head: u8, length: usize) -> Vec<u8> {
     let mut telegram = vec![7; length];
@@ -64,4 +64,63 @@ fn refusals_and_their_order() {
             );
         }
     }
+}
+
+/// Every heard octet at the ages around 600,000 ms, in every slot, whatever the clock and the telegram's head.
+#[test]
+fn a_sweep_marks_what_is_heard_and_too_old() {
+    let mut r = Random::new(7);
+    let ages = [0, 1, 599_999, 600_000, 600_001, 1 << 31, u32::MAX];
+    for now in [0, 1, 600_000, 600_001, 1 << 31, u32::MAX, r.word() as u32] {
+        for heard in 0..=255 {
+            let mut store = r.octets(STORE);
+            let mut expected = store.clone();
+            for vehicle in 0..63 {
+                let age = ages[(vehicle + usize::from(heard)) % ages.len()];
+                for octets in [&mut store, &mut expected] {
+                    let slot = &mut octets[SLOT * vehicle..SLOT * (vehicle + 1)];
+                    slot[HEARD] = heard;
+                    slot[STAMP].copy_from_slice(&now.wrapping_sub(age).to_be_bytes());
+                }
+                if heard == 1 && age > 600_000 {
+                    expected[SLOT * vehicle + HEARD] = 2;
+                }
+            }
+            assert_eq!(sweep(&mut store, now), Ok(()));
+            assert_eq!(store, expected);
+        }
+    }
+}
+
+#[test]
+fn a_sweep_is_refused_by_the_length_alone() {
+    for size in [0, SLOT, STORE - SLOT, STORE - 1, STORE + 1, STORE + SLOT] {
+        let mut store = vec![1; size];
+        assert_eq!(sweep(&mut store, u32::MAX), Err(refusal(5, 0)));
+        assert_eq!(store, vec![1; size]);
+    }
+}
+
+/// A coach that sends once and is parked for three turns of the counter, swept every half turn.
+#[test]
+fn old_signals_stay_too_old_as_the_counter_comes_round() {
+    let mut unlimited = L;
+    unlimited[12..16].fill(0);
+    let mut store = vec![0; STORE];
+    take(&mut store, 1, 0, &r1(0x10, 0x40)).unwrap();
+    let unswept = store.clone();
+    for half in 1..=6u64 {
+        let (swept, later) = (half << 31, (half << 31) + 1_000);
+        sweep(&mut store, swept as u32).unwrap();
+        let reason =
+            |list: &[u8], store: &[u8]| read(list, store, later as u32, 1, 0).unwrap().reason;
+        assert_eq!(reason(&L, &store), 3);
+        assert_eq!(reason(&unlimited, &store), 0);
+        // What the coach showed: live again after each whole turn.
+        assert_eq!(reason(&L, &unswept), if half % 2 == 0 { 0 } else { 3 });
+    }
+    take(&mut store, 1, 7, &r1(0x10, 0x40)).unwrap();
+    assert_eq!((store[HEARD], store[HEAD]), (1, 0x11));
+    assert_eq!(read(&L, &store, 5_007, 1, 0).unwrap().reason, 0);
+    assert_eq!(read(&L, &store, 5_008, 1, 0).unwrap().reason, 3);
 }

@@ -323,9 +323,10 @@ pub fn read(list: &List, store: &[u8], now: u32, vehicle: u64, signal: u64) -> R
     };
     let mark = list.place(s).map(|place| get(telegram, place as usize, 2));
     let value = get(telegram, s.start as usize, s.width as usize);
-    let reason = if slot[HEARD] != 1 || get(telegram, 0, 4) != 1 || !(1..=3).contains(&kind) {
+    let heard = slot[HEARD] == 1 || slot[HEARD] == 2;
+    let reason = if !heard || get(telegram, 0, 4) != 1 || !(1..=3).contains(&kind) {
         2
-    } else if s.limit != 0 && age > s.limit {
+    } else if s.limit != 0 && (slot[HEARD] == 2 || age > s.limit) {
         3
     } else if !(s.kind == 0 || s.kind == kind) {
         4
