@@ -139,6 +139,11 @@ df_place df_check_place(uint64_t bit);
 /* Takes an R-telegram of a vehicle (1-63) at a clock value into the store. Refusals 5-10. */
 df_outcome df_take(uint8_t *store, size_t store_len, uint64_t vehicle, uint32_t clock, const uint8_t *telegram, size_t telegram_len);
 
+/* Marks every slot as expired that was heard and is more than 600,000 ms old, the longest time limit of a list. From then on, until a new
+ * telegram is taken, its signals with a limit are too old; those with none are read as before. Swept at least every 2,147,483,648 ms
+ * (24.8 days), no telegram comes to look new as the counter comes round. Refusal 5. */
+df_outcome df_sweep(uint8_t *store, size_t store_len, uint32_t clock);
+
 /* Reads one signal (number from 0) of one vehicle. Refusals 1-4, then 5, 6, 11. */
 df_reading df_read(const uint8_t *list, size_t list_len, const uint8_t *store, size_t store_len, uint32_t clock, uint64_t vehicle, uint64_t signal);
 

@@ -68,6 +68,32 @@ static void telegrams(void)
     expect("df_marshal", !m.refusal && !m.carried && m.lives == 1 && data[0] == 0x4B);
 }
 
+/* L's telegram, parked: expired from 600,001 ms on, and still too old when the counter has come round; a new one is live again */
+static void parked(void)
+{
+    static uint8_t store[DF_STORE_OCTETS], before[DF_STORE_OCTETS];
+    static const uint64_t value = 4;
+    static const uint8_t ok = 1;
+    uint8_t out[128];
+    df_compose(L, sizeof L, 1, &value, 1, &ok, 1, out, sizeof out);
+    df_take(store, sizeof store, 1, 1000, out, sizeof out);
+    memcpy(before, store, sizeof store);
+    df_outcome o = df_sweep(store, sizeof store - 1, 601001);
+    expect("df_sweep", o.refusal == DF_REFUSAL_STORE_LENGTH && !o.carried && memcmp(store, before, sizeof store) == 0);
+    o = df_sweep(store, sizeof store, 601000);
+    expect("df_sweep", !o.refusal && !o.carried && memcmp(store, before, sizeof store) == 0);
+    df_reading r = df_read(L, sizeof L, store, sizeof store, 2000, 1, 0);
+    expect("df_read, unswept", !r.refusal && r.reason == 0 && r.value == 4);
+    o = df_sweep(store, sizeof store, 601001);
+    before[0] = 2;
+    expect("df_sweep", !o.refusal && !o.carried && memcmp(store, before, sizeof store) == 0);
+    r = df_read(L, sizeof L, store, sizeof store, 2000, 1, 0);
+    expect("df_read after df_sweep", !r.refusal && r.reason == DF_REASON_TOO_OLD && !r.carried && r.value == 0);
+    o = df_take(store, sizeof store, 1, 2000, out, sizeof out);
+    r = df_read(L, sizeof L, store, sizeof store, 2000, 1, 0);
+    expect("df_take after df_sweep", !o.refusal && !r.refusal && r.reason == 0 && r.value == 4);
+}
+
 /* 64 bits from R1 octet 54 bit 1 on, replacement 010203040506, routed from vehicle 1 to data bits 4-67: nine octets on either side */
 static const uint8_t W[30] = {0, 0, 0, 1, 0x01, 0xA9, 64, 1, 0, 1, 0, 0, 0x13, 0x88, 1, 2, 3, 4, 5, 6, 0, 0, 0, 1, 0, 0, 1, 0, 0, 4};
 
@@ -133,6 +159,7 @@ int main(void)
 {
     lists();
     telegrams();
+    parked();
     wide_fields();
     shown();
     train();

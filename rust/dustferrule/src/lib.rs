@@ -106,6 +106,14 @@ pub fn take(store: &mut [u8], vehicle: u64, now: u32, telegram: &[u8]) -> Result
     unless_refused(r.refusal, r.carried, ())
 }
 
+/// Marks every slot as expired that was heard and is more than 600,000 ms old, the longest time limit of a list. From then on, until a new
+/// telegram is taken, its signals with a limit are too old; those with none are read as before. Swept at least every 2,147,483,648 ms
+/// (24.8 days), no telegram comes to look new as the counter comes round. Refusal 5.
+pub fn sweep(store: &mut [u8], now: u32) -> Result<(), Error> {
+    let r = unsafe { raw::df_sweep(store.as_mut_ptr(), store.len(), now) };
+    unless_refused(r.refusal, r.carried, ())
+}
+
 /// Reads one signal (number from 0) of one vehicle. Refusals 1 to 4, then 5, 6, 11.
 pub fn read(
     list: &[u8],

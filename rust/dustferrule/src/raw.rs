@@ -129,6 +129,8 @@ extern "C" {
         telegram_len: usize,
     ) -> df_outcome;
 
+    pub fn df_sweep(store: *mut u8, store_len: usize, clock: u32) -> df_outcome;
+
     pub fn df_read(
         list: *const u8,
         list_len: usize,

@@ -51,6 +51,7 @@ calls! {
     find_signal(list: &[u8], kind: u64, start: u64) -> u64;
     check_place(bit: u64) -> u64;
     take(store: &mut [u8], vehicle: u64, now: u32, telegram: &[u8]) -> ();
+    sweep(store: &mut [u8], now: u32) -> ();
     marshal(list: &[u8], store: &[u8], now: u32, bus: &mut [u8]) -> u64;
     compose(list: &[u8], kind: u64, values: &[u64], marks: &[u8], out: &mut [u8]) -> ();
     show(kind: Kind, width: u64, raw: u64) -> Shown;
