@@ -10,6 +10,7 @@ pub enum Call {
     FindSignal,
     CheckPlace,
     Take,
+    Sweep,
     Read,
     Marshal,
     Compose,
@@ -42,13 +43,14 @@ const fn form(
 }
 
 impl Call {
-    pub const ALL: [Call; 13] = [
+    pub const ALL: [Call; 14] = [
         Call::Judge,
         Call::Extends,
         Call::SignalEntry,
         Call::FindSignal,
         Call::CheckPlace,
         Call::Take,
+        Call::Sweep,
         Call::Read,
         Call::Marshal,
         Call::Compose,
@@ -67,6 +69,7 @@ impl Call {
             Call::FindSignal => form("find_signal", &["list"], None, &["type", "start"]),
             Call::CheckPlace => form("check_place", &[], None, &["bit"]),
             Call::Take => form("take", &["store", "telegram"], Some(0), &["vehicle", "clock"]),
+            Call::Sweep => form("sweep", &["store"], Some(0), &["clock"]),
             Call::Read => form("read", &["list", "store"], None, &["clock", "vehicle", "signal"]),
             Call::Marshal => form("marshal", &["list", "store", "data"], Some(2), &["clock"]),
             Call::Compose => form("compose", &["list", "marks", "out"], Some(2), &["type"]),

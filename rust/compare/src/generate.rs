@@ -24,8 +24,9 @@ pub fn case(r: &Random) -> Case {
             Case::new(Call::Extends, vec![a, b], vec![])
         }
         35..=37 => check_place(r),
-        38..=45 => take(r),
-        46..=61 => read(r),
+        38..=43 => take(r),
+        44..=46 => sweep(r),
+        47..=61 => read(r),
         62..=70 => marshal(r),
         71..=82 => compose(r),
         83..=85 => show(r),
@@ -127,6 +128,12 @@ fn take(r: &Random) -> Case {
     let store = any_store(r, store);
     let numbers = vec![vehicle(r), store::clock(r).into()];
     Case::new(Call::Take, vec![store, telegram], numbers)
+}
+
+fn sweep(r: &Random) -> Case {
+    let now = store::clock(r);
+    let store = store::parked(r, now);
+    Case::new(Call::Sweep, vec![any_store(r, store)], vec![now.into()])
 }
 
 fn read(r: &Random) -> Case {

@@ -10,6 +10,7 @@
 mod case;
 mod damage;
 mod exact;
+mod exhaustive;
 mod fault;
 mod generate;
 mod guard;
@@ -23,7 +24,7 @@ mod run;
 mod shrink;
 mod sides;
 mod store;
-mod sweep;
+mod true_clock;
 
 use std::env;
 use std::process::ExitCode;
@@ -69,14 +70,14 @@ fn arguments() -> Option<Arguments> {
 fn compare(cases: u64, seed: u64, memory: Memory) -> bool {
     let mut run = Run::new(memory);
     let mut all_well = true;
-    sweep::each(|case| {
-        let name = format!("case {} of the sweeps", run.tried);
+    exhaustive::each(|case| {
+        let name = format!("exhaustive case {}", run.tried);
         all_well = all_well && run.compare(&name, &case, None);
     });
     if !all_well {
         return false;
     }
-    let swept = run.tried;
+    let exhaustive = run.tried;
     let mut reached = Reached::new();
     for number in 0..cases {
         let case = generate::case(&Random::of_case(seed, number));
@@ -92,16 +93,24 @@ fn compare(cases: u64, seed: u64, memory: Memory) -> bool {
             return false;
         }
     };
-    print!("{reached}");
-    let faults = reached.faults();
+    let clocked = match true_clock::all(cases / 20, seed) {
+        Ok(clocked) => clocked,
+        Err(why) => {
+            println!("NOT BY THE TRUE CLOCK: {why}");
+            return false;
+        }
+    };
+    print!("{reached}{clocked}");
+    let faults = [reached.faults(), clocked.faults()].concat();
     if !faults.is_empty() {
         println!("{}", faults.join("\n"));
         return false;
     }
     println!(
-        "{cases} cases of seed {seed} and {swept} of the sweeps: no difference; \
-         {} kinds of answer, all reached; {exact} shown values exact; {} s",
+        "{cases} cases of seed {seed} and {exhaustive} exhaustive ones: no difference; \
+         {} kinds of answer, all reached; {} readings by the true clock; {exact} shown values exact; {} s",
         reached.rows(),
+        clocked.readings(),
         run.started.elapsed().as_secs()
     );
     true

@@ -5,6 +5,7 @@ use std::fmt;
 
 use crate::case::{Answer, Call, Case};
 use crate::list::{List, Route, Signal, LONGEST, MOST};
+use reference::{HEARD, SLOT, STAMP, VEHICLES};
 
 /// What an answer shows, with a number where there are several.
 type Row = (&'static str, u64);
@@ -58,8 +59,18 @@ fn wanted(call: Call) -> Vec<Row> {
             refusals(&[5, 6, 7, 8, 9, 10]),
             vec![],
         ],
+        Call::Sweep => [
+            vec![("none", 0), ("one", 0), ("several", 0), ("all", 0)],
+            vec![("at 600000 ms kept", 0), ("at 600001 ms", 0)],
+            refusals(&[5]),
+        ],
         Call::Read => [
-            each("reason", &[0, 1, 2, 3, 4, 5, 6, 7, 8]),
+            [
+                each("reason", &[0, 1, 2, 3, 4, 5, 6, 7, 8]),
+                each("expired, reason", &[0, 1, 2, 3, 4, 5, 6, 7, 8]),
+                vec![("expired, its age within the limit", 0)],
+            ]
+            .concat(),
             refusals(&[1, 2, 3, 4, 5, 6, 11]),
             // Reason 8 is for widths up to 16.
             each("above 48 bits, reason", &[0, 1, 2, 3, 4, 5, 6, 7]),
@@ -133,7 +144,8 @@ fn rows(case: &Case, answer: &Answer) -> Vec<Row> {
         Call::FindSignal => vec![("type", case.numbers[0])],
         Call::CheckPlace => vec![("place", first)],
         Call::Take => vec![("type", (case.areas[1][0] & 15).into())],
-        Call::Read => vec![("reason", second)],
+        Call::Sweep => sweep_rows(&case.areas[0], case.numbers[0] as u32),
+        Call::Read => read_rows(case, second),
         Call::Marshal => vec![(lives(&case.areas[0], first), 0)],
         Call::Compose => vec![("type", case.numbers[0])],
         Call::Show => vec![("kind", case.numbers[0])],
@@ -141,6 +153,44 @@ fn rows(case: &Case, answer: &Answer) -> Vec<Row> {
         Call::ERead => vec![(["request", "report"][second as usize], 0)],
         Call::EAnswer => vec![("ok", 0)],
     }
+}
+
+/// How many slots a sweep expires, and what is said of those at its edge: the areas of a case are those before the call.
+fn sweep_rows(store: &[u8], now: u32) -> Vec<Row> {
+    let heard = store.chunks(SLOT).filter(|slot| slot[HEARD] == 1);
+    let ages: Vec<u32> = heard.map(|slot| age(slot, now)).collect();
+    let expired = match ages.iter().filter(|&&age| age > 600_000).count() {
+        0 => "none",
+        1 => "one",
+        VEHICLES => "all",
+        _ => "several",
+    };
+    let edges = [(600_000, "at 600000 ms kept"), (600_001, "at 600001 ms")];
+    let met = edges.into_iter().filter(|(age, _)| ages.contains(age));
+    [(expired, 0)]
+        .into_iter()
+        .chain(met.map(|(_, what)| (what, 0)))
+        .collect()
+}
+
+fn age(slot: &[u8], now: u32) -> u32 {
+    let stamp = slot[STAMP].try_into().map_or(0, u32::from_be_bytes);
+    now.wrapping_sub(stamp)
+}
+
+fn read_rows(case: &Case, reason: u64) -> Vec<Row> {
+    let (now, vehicle, signal) = (case.numbers[0], case.numbers[1], case.numbers[2]);
+    let slot = &case.areas[1][SLOT * (vehicle as usize - 1)..];
+    let mut rows = vec![("reason", reason)];
+    if slot[HEARD] == 2 {
+        rows.push(("expired, reason", reason));
+        let list = List::of(&case.areas[0]);
+        let limit = list.map_or(0, |list| list.signals[signal as usize].limit);
+        if reason == 3 && u64::from(age(slot, now as u32)) <= limit {
+            rows.push(("expired, its age within the limit", 0));
+        }
+    }
+    rows
 }
 
 /// What it shows of wide fields, by the list that it goes by.

@@ -71,6 +71,7 @@ macro_rules! side {
                 (Call::Take, [store, telegram], &[vehicle, clock]) => {
                     $library::take(store, vehicle, clock as u32, telegram).map(done)
                 }
+                (Call::Sweep, [store], &[clock]) => $library::sweep(store, clock as u32).map(done),
                 (Call::Read, [list, store], &[clock, vehicle, signal]) => {
                     $library::read(list, store, clock as u32, vehicle, signal)
                         .map(|r| Answer::gives([r.value, r.reason as u64]))
@@ -159,6 +160,9 @@ pub fn by_header(call: Call, mut lent: Lent) -> Answer {
             outcome(unsafe {
                 raw::df_take(to, store.len(), vehicle, clock as u32, from, telegram.len())
             })
+        }
+        (Call::Sweep, [store], &[clock]) => {
+            outcome(unsafe { raw::df_sweep(store.as_mut_ptr(), store.len(), clock as u32) })
         }
         (Call::Read, [list, store], &[clock, vehicle, signal]) => {
             let (list, len, from) = (list.as_ptr(), list.len(), store.as_ptr());

@@ -2,7 +2,7 @@
 
 use crate::list::{List, Signal};
 use crate::random::Random;
-use reference::{write_field, HEAD, HEARD, SLOT, STAMP, STORE};
+use reference::{write_field, HEAD, HEARD, SLOT, STAMP, STORE, VEHICLES};
 
 // The wrappers spell the store's length themselves, since they depend on nothing: they must not differ.
 const _: () = assert!(dustferrule::STORE_OCTETS == STORE);
@@ -109,7 +109,8 @@ pub fn store(r: &Random, list: &List, now: u32) -> Vec<u8> {
         let kind = kind(r, list);
         let telegram = telegram(r, list, kind);
         let stamp = now.wrapping_sub(age(r, list));
-        let slot = plant(&mut store, vehicle, 1, stamp, &telegram);
+        let heard = if r.one_in(5) { 2 } else { 1 };
+        let slot = plant(&mut store, vehicle, heard, stamp, &telegram);
         if r.one_in(8) {
             unsettle(r, slot);
         }
@@ -117,10 +118,30 @@ pub fn store(r: &Random, list: &List, now: u32) -> Vec<u8> {
     store
 }
 
-/// What no taking leaves.
+/// A store with all heard octets, at ages around the longest limit: some slots heard, one alone, all, or none.
+pub fn parked(r: &Random, now: u32) -> Vec<u8> {
+    let mut store = r.octets(STORE);
+    let (often, alone) = (r.of(&[0, 1, 4, 4, 8]), r.index(VEHICLES));
+    let ages = match r.one_in(4) {
+        true => [600_001, 600_002, 1 << 31, u32::MAX],
+        false => [0, 599_999, 600_000, 600_001],
+    };
+    for (i, slot) in store.chunks_mut(SLOT).enumerate() {
+        slot[HEARD] = match r.below(8) < often || i == alone {
+            true => 1,
+            false => r.of(&[0, 2, 3, 7, 129, 255, r.octet()]),
+        };
+        let age = r.of(&ages);
+        slot[STAMP].copy_from_slice(&now.wrapping_sub(age).to_be_bytes());
+        slot[HEAD] = r.of(&[0x11, 0x12, 0x13, slot[HEAD]]);
+    }
+    store
+}
+
+/// What no taking and no sweep leaves.
 fn unsettle(r: &Random, slot: &mut [u8]) {
     match r.below(4) {
-        0 => slot[HEARD] = r.of(&[0, 2, 3, 128, 255]),
+        0 => slot[HEARD] = r.of(&[0, 3, 7, 128, 255]),
         1 => slot[HEAD] = r.octet(),
         2 => slot[HEAD] = r.of(&[0x10, 0x14, 0x1F, 0x01, 0x21, 0x31, 0x02, 0xF3]),
         _ => slot[HEAD + 40..].fill(0x5A),
@@ -130,7 +151,7 @@ fn unsettle(r: &Random, slot: &mut [u8]) {
 fn strange(r: &Random, list: &List, now: u32) -> Vec<u8> {
     let mut store = r.octets(STORE);
     for slot in store.chunks_mut(SLOT) {
-        slot[HEARD] = r.of(&[0, 1, 1, 1, 1, 2, 255]);
+        slot[HEARD] = r.of(&[0, 1, 1, 1, 1, 2, 2, 255]);
         let stamp = now.wrapping_sub(age(r, list));
         slot[STAMP].copy_from_slice(&stamp.to_be_bytes());
         slot[HEAD] = r.of(&[

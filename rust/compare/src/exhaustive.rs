@@ -4,7 +4,7 @@ use crate::case::{Call, Case};
 use crate::generate::REQUESTS;
 use crate::list::{List, Route, Signal};
 use crate::store::plant;
-use reference::{write_field, STORE, TELEGRAM};
+use reference::{write_field, SLOT, STORE, TELEGRAM, VEHICLES};
 
 /// The list L of the bench examples.
 const L: [u8; 44] = [
@@ -32,6 +32,7 @@ pub fn each(mut try_one: impl FnMut(Case)) {
     lists(&mut try_one);
     signals(&mut try_one);
     readings(&mut try_one);
+    sweeps(&mut try_one);
     widths(&mut try_one);
     ends(&mut try_one);
 }
@@ -204,7 +205,45 @@ fn readings(try_one: &mut impl FnMut(Case)) {
         read(1, [(1, 0x11), (2, 1), (41, 0x20), (54, any)], 5_000);
     }
     for clock in [0, 1, 4_999, 5_000, 5_001, u64::from(u32::MAX)] {
-        read(1, [(1, 0x11), (2, 1), (41, 0x10), (54, 0x40)], clock);
+        for heard in [1, 2] {
+            read(heard, [(1, 0x11), (2, 1), (41, 0x10), (54, 0x40)], clock);
+            read(heard, [(1, 0x21), (2, 1), (41, 0x10), (54, 0x40)], clock);
+        }
+    }
+}
+
+/// Every heard octet in every slot, one slot at a time and then all, at the ages around 600,000 ms and at clocks on either side of 0.
+fn sweeps(try_one: &mut impl FnMut(Case)) {
+    let ages = [0, 600_000, 600_001, 1 << 31, u32::MAX];
+    let mut sweep = |vehicles: &[usize], heard: u8, age: u32, now: u32| {
+        let mut store = vec![0xA5; STORE];
+        for &vehicle in vehicles {
+            let head = 0x11 + (vehicle % 5) as u8;
+            plant(
+                &mut store,
+                vehicle,
+                heard,
+                now.wrapping_sub(age),
+                &[head, 1],
+            );
+        }
+        try_one(Case::new(Call::Sweep, vec![store], vec![now.into()]));
+    };
+    let all: Vec<usize> = (1..=VEHICLES).collect();
+    for (age, now) in ages
+        .iter()
+        .flat_map(|&age| [0, 600_000, 600_001, u32::MAX].map(|now| (age, now)))
+    {
+        (0..=255).for_each(|heard| sweep(&all, heard, age, now));
+        all.iter()
+            .for_each(|&vehicle| sweep(&[vehicle], 1, age, now));
+    }
+    for len in [0, 1, SLOT, STORE - SLOT, STORE - 1, STORE + 1, STORE + SLOT] {
+        try_one(Case::new(
+            Call::Sweep,
+            vec![vec![1; len]],
+            vec![u32::MAX.into()],
+        ));
     }
 }
 
