@@ -3,9 +3,9 @@ VEHICLES = 63
 TELEGRAM = 128
 
 
-def slot(clock, telegram):
-    """The slot of a vehicle that was heard: the heard octet, the stamp, the telegram and zeros behind it."""
-    return b"\1" + clock.to_bytes(4, "big") + telegram + bytes(TELEGRAM - len(telegram))
+def slot(clock, telegram, heard=1):
+    """The slot of a vehicle that was heard, or is expired (2): the heard octet, the stamp, the telegram and zeros behind it."""
+    return bytes([heard]) + clock.to_bytes(4, "big") + telegram + bytes(TELEGRAM - len(telegram))
 
 
 SLOT = len(slot(0, b""))
@@ -21,3 +21,11 @@ def taken(before, vehicle, clock, telegram):
     """The store after a telegram was taken: the vehicle's slot is another, and no other octet."""
     at = SLOT * (vehicle - 1)
     return before[:at] + slot(clock, telegram) + before[at + SLOT:]
+
+
+def expired(before, *vehicles):
+    """The store after a sweep that marked these vehicles: their heard octets are others, and no other octet."""
+    after = bytearray(before)
+    for vehicle in vehicles:
+        after[SLOT * (vehicle - 1)] = 2
+    return bytes(after)

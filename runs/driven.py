@@ -16,7 +16,7 @@ import time
 import printed
 
 ROOT = printed.ROOT
-PROGRAMS = ("judge", "extends", "take", "believe", "differ", "marshal", "compose")
+PROGRAMS = ("judge", "extends", "take", "sweep", "believe", "differ", "marshal", "compose")
 TOOLS = ("sh", "awk", "readlink", "uname")  # what an installed program needs beside itself
 BUILT = ("bin", "stamp")  # of target/: what a run goes by that finds all proved
 OTHER = os.uname().machine != "x86_64"
@@ -157,7 +157,7 @@ def standard_input():
             shutil.copy(os.path.join(ROOT, "data", name), folder)
         shutil.copy(os.path.join(ROOT, COACH), os.path.join(folder, "bus"))
         before = set(os.listdir(folder))
-        for words in (["take", "-", "1", "1", "1-R1.telegram"], ["take", "new", "-"], ["marshal", "coach.list", "train.store", "9000", "-"],
+        for words in (["take", "-", "1", "1", "1-R1.telegram"], ["take", "new", "-"], ["sweep", "-", "9000"], ["marshal", "coach.list", "train.store", "9000", "-"],
                       ["compose", "coach.list", "R3", "1-R1.values", "-"]):
             ends(" ".join(words), given(COACH, *words, folder=folder), 2, err="error: '-' ")
         check("nothing is written to a file '-'", set(os.listdir(folder)) == before)

@@ -43,6 +43,12 @@ R1, R2, R3 = data("scene/1-R1.telegram"), data("scene/2-R2.telegram"), data("sce
 NEW = slots.store()
 TRAIN = slots.store(slots.slot(6000, R1), slots.slot(7500, R2), slots.slot(1000, R3))
 FULL = slots.store(*[slots.slot(5000, R1)] * slots.VEHICLES)
+# vehicles 1 and 2 are expired, though the counter has come round to where 1 looks new; 3 is heard
+PARKED = slots.store(slots.slot(6000, R1, 2), slots.slot(7500, R2, 2), slots.slot(1000, R3))
+# any heard octet and any head, at ages of 600,000 ms, one more, and one less: at the clock 600,000 only 4, 6 and 9 are swept
+OCTETS = slots.store(*(slots.slot(stamp, telegram, heard) for heard, stamp, telegram in (
+    (1, 0, R1), (0, 4294967295, R1), (2, 4294967295, R1), (1, 4294967295, R1), (1, 1, R2), (1, 600001, b"\x24"), (3, 4294967295, R3), (7, 4294967295, R3), (1, 2147483648, R3),
+    (255, 4294967295, R3))))
 
 # a field across octets, one of a whole octet and one of two; and the same places with another width, another limit and one signal less
 ACROSS = lists.pack([], [lists.signal(372, 12), lists.signal(384, 8), lists.signal(400, 16)], [], [lists.route(0, 1, 4), lists.route(1, 1, 16)])
@@ -82,11 +88,11 @@ assert (len(LIST_128), len(LIST_40)) == (128, 40)
 FILES = {
     "coach.list": data("coach.list"), "next.list": data("coach-next.list"), "L.list": lists.L, "across.list": ACROSS, "across-2.list": ACROSS_2,
     "ends.list": lists.L[:-1], "above.list": b"\xff\xff", "broken.list": lists.pack([lists.check(17)]), "more.list": lists.L + b"\0",
-    "wide.list": WIDE, "wide-2.list": WIDE_2, "long.list": LONG_PLACE, "wide-heard": WIDE_HEARD, "r1-wide": R1_WIDE, "bus-256": b"\xff" * 256,
+    "unlimited.list": lists.pack([], [lists.signal(384, 8, limit=0), lists.signal(400, 16)]), "wide.list": WIDE, "wide-2.list": WIDE_2, "long.list": LONG_PLACE, "wide-heard": WIDE_HEARD, "r1-wide": R1_WIDE, "bus-256": b"\xff" * 256,
     "huge.list": lists.LONGEST + bytes(1000), "longest.list": lists.LONGEST,
     "r1": R1, "r2": R2, "r3": R3, "values": data("scene/1-R1.values"),
     "empty": b"", "one": b"\x11", "app": b"\x21" + R1[1:], "kind": b"\x14" + R1[1:], "r1-127": R1[:127], "r1-129": R1 + b"\0", "r3-128": R3 + bytes(88), "r2-2": R2[:2], "r3-5000": R3 + bytes(4960),
-    "train": TRAIN, "full": FULL, "store-1": NEW[1:], "store+1": NEW + b"\0", "store": NEW, "locked": NEW, "locked.new": b"left\n",
+    "train": TRAIN, "full": FULL, "parked": PARKED, "octets": OCTETS, "store-1": NEW[1:], "store+1": NEW + b"\0", "store": NEW, "locked": NEW, "locked.new": b"left\n",
     # what a writer left that is gone: no process has a number as high
     "gone": NEW, "gone.new": b"cut", "gone.lock": f"2147483647 {socket.gethostname()} {os.readlink('/proc/self/ns/pid')}\n".encode(),
     "at-0": slots.store(slots.slot(0, R1)), "at-4294967000": slots.store(slots.slot(4294967000, R1)),
@@ -153,7 +159,8 @@ def usage(program, words, text):
     for n in (0, 1, 2, 3, 4, 5, 6, 7, 8):
         if n not in words:
             yield [program] + ["1"] * n, error("usage: " + text)
-    yield [program, "help", "1"], error("usage: " + text)
+    if 2 not in words:
+        yield [program, "help", "1"], error("usage: " + text)
 
 
 def take_table():
@@ -205,6 +212,33 @@ def take_table():
     yield ["take", "new", "a" * 5000], error("STORE '" + "a" * 100 + "..': " + TOO_LONG)
 
 
+def sweep_table():
+    words = ["sweep", "train", "700000"]
+    yield ["sweep", "help"], as_in("sweep-help")
+    yield from usage("sweep", (2,), "sweep STORE CLOCK")
+    yield words, says("swept at 700000, expired 3: 1-3", train=slots.expired(TRAIN, 1, 2, 3))
+    yield ["sweep", "train", CLOCK], says("swept at 9000, expired 0")
+    yield ["sweep", "train", "601000"], says("swept at 601000, expired 0")
+    yield ["sweep", "train", "601001"], says("swept at 601001, expired 1: 3", train=slots.expired(TRAIN, 3))
+    yield ["sweep", "train", "607500"], says("swept at 607500, expired 2: 1 3", train=slots.expired(TRAIN, 1, 3))
+    yield ["sweep", "train", "0"], says("swept at 0, expired 3: 1-3", train=slots.expired(TRAIN, 1, 2, 3))
+    yield ["sweep", "train", "4294967295"], says("swept at 4294967295, expired 3: 1-3", train=slots.expired(TRAIN, 1, 2, 3))
+    yield ["sweep", "store", "4294967295"], says("swept at 4294967295, expired 0")
+    yield ["sweep", "parked", "700000"], says("swept at 700000, expired 1: 3", parked=slots.expired(PARKED, 3))
+    yield ["sweep", "full", "605001"], says("swept at 605001, expired 63: 1-63", full=slots.expired(FULL, *range(1, 64)))
+    yield ["sweep", "octets", "600000"], says("swept at 600000, expired 3: 4 6 9", octets=slots.expired(OCTETS, 4, 6, 9))
+    yield ["sweep", "store-1", "1"], refused(NO_STORE)
+    yield ["sweep", "store+1", "1"], refused(NO_STORE)
+    yield ["sweep", "next.list", "1"], refused(NO_STORE)
+    yield ["sweep", "empty", "1"], refused(NO_STORE)
+    yield from no_number("CLOCK", words, 2)
+    yield from no_file("STORE", words, 1)
+    yield ["sweep", "locked", "1"], error("STORE 'locked.new': " + LEFT)
+    yield ["sweep", "gone", "1"], says("swept at 1, expired 0", gone_dot_new=None, gone_dot_lock=None)
+    # a telegram that comes after the sweep is heard
+    yield ["take", "parked", "1", "9000", "r1"], says("taken R1 version 3 vehicle 1 at 9000", parked=slots.taken(PARKED, 1, 9000, R1))
+
+
 def believe_table():
     words = ["believe", "coach.list", "train", CLOCK, "1", "94"]
     yield ["believe", "help"], as_in("believe-help")
@@ -247,6 +281,14 @@ def believe_table():
     for stamp, clock, age in ((0, 2**31, "2147483648 ms (stamp after the clock)"), (0, 2**31 - 1, "2147483647 ms"), (4294967000, 4000, "4296 ms")):
         yield ["believe", "L.list", f"at-{stamp}", str(clock), "1", "0"], says(
             f"vehicle 1: R1 version 3 age {age}\n 1    0  R1 octet 54 bits 0-3                  " + ("3  0 live ok" if age == "4296 ms" else "0  3 too old"))
+    # expired: with a limit too old, with none as before; and no age is said
+    yield ["believe", "across.list", "parked", CLOCK], as_in("believe-expired")
+    yield ["believe", "across.list", "parked", CLOCK, "1", "table"], as_in("believe-expired-table")
+    yield ["believe", "unlimited.list", "parked", CLOCK, "1"], says(
+        "vehicle 1: R1 version 3 expired\n 1    0  R1 octet 49                          32  0 live ok\n 1    1  R1 octets 51-52                       0  3 too old\n"
+        "total      1  0 live ok\ntotal      1  3 too old")
+    yield ["believe", "L.list", "parked", CLOCK, "1"], says(
+        "vehicle 1: R1 version 3 expired\n 1    0  R1 octet 54 bits 0-3                  0  3 too old\ntotal      1  3 too old")
     yield from no_list(["believe", "L.list", "store-1", CLOCK, "64"], 1)
     yield from no_file("STORE", words, 2)
     yield from no_number("CLOCK", words, 3)
@@ -283,6 +325,8 @@ def differ_table():
     yield ["differ", "L.list", "wide.list", "wide-heard", CLOCK, "1"], as_in("differ-wide-right")
     yield ["differ", "wide.list", "L.list", "wide-heard", CLOCK, "1"], as_in("differ-wide-left")
     yield ["differ", "L.list", "L.list", "store", CLOCK, "63"], as_in("differ-never")
+    yield ["differ", "across.list", "across-2.list", "parked", CLOCK, "1"], as_in("differ-expired")
+    yield ["differ", "across.list", "across-2.list", "parked", CLOCK, "1", "table"], as_in("differ-expired-table")
     yield ["differ", "coach.list", "next.list", "train", CLOCK, "64"], refused("6: vehicle not 1-63")
     yield ["differ", "coach.list", "next.list", "store+1", CLOCK, "64"], refused(NO_STORE)
     yield ["differ", "broken.list", "ends.list", "store+1", CLOCK], refused("3 at 2 (first list): entry breaks its rule")
@@ -309,6 +353,7 @@ def marshal_table():
     yield words[:4] + ["bus-18"], says("marshalled 14 routes, 11 live", bus_18=routed)
     yield ["marshal", "next.list", "train", CLOCK, "bus"], says("marshalled 14 routes, 10 live", bus=routed[:1] + b"\xf4" + routed[2:] + b"\xff\xff")
     yield ["marshal", "coach.list", "store", CLOCK, "bus"], says("marshalled 14 routes, 0 live", bus=b"\x03\x00" + bytes(4) + b"\x0f\xff" + bytes(10) + b"\xff\xff")
+    yield ["marshal", "coach.list", "parked", CLOCK, "bus"], says("marshalled 14 routes, 0 live", bus=b"\x03\x00" + bytes(4) + b"\x0f\xff" + bytes(10) + b"\xff\xff")
     yield ["marshal", "across.list", "train", CLOCK, "bus", "routes"], as_in("marshal-across", bus=b"\xf8\xa2\x20" + b"\xff" * 17)
     # 64 bits in eight octets, in nine, and up to bit 2048; a replacement has leading zeros, and no neighbour's bit is changed
     live = ((0, 64, MOST_64), (133, 49, 2**49 - 1), (1984, 64, MOST_64))
@@ -530,7 +575,7 @@ def badly_paged(folder):
                 yield words, "other octets, page by page"
         if len(found) > 1 + sum(map(len, found)) // 3856 or any(not page.endswith(b"\n") for page in found):
             yield words, f"{len(found)} writes"
-    for words in (["take", "store", "64", "1", "r1"], ["judge", "broken.list"], ["differ", "L.list", "broken.list", "train", CLOCK], ["believe", "none", "train", CLOCK]):
+    for words in (["take", "store", "64", "1", "r1"], ["sweep", "store-1", "1"], ["judge", "broken.list"], ["differ", "L.list", "broken.list", "train", CLOCK], ["believe", "none", "train", CLOCK]):
         if len(pages(folder, words)) != 1:
             yield words, "a line in more than one write"
 
@@ -591,10 +636,11 @@ def main():
     folder = tempfile.mkdtemp()
     try:
         fill(folder)
-        tables = [row for table in (take_table, believe_table, differ_table, marshal_table, compose_table) for row in table()]
+        tables = [row for table in (take_table, sweep_table, believe_table, differ_table, marshal_table, compose_table) for row in table()]
         failing = [
             (["take", "store", "1", "5000", "r1"], error("STORE 'store.new': cannot be written")),
             (["take", "new", "made"], error("STORE 'made.new': cannot be written")),
+            (["sweep", "train", "700000"], error("STORE 'train.new': cannot be written")),
             (["marshal", "L.list", "train", CLOCK, "bus-4096"], error("DATA 'bus-4096.new': cannot be written")),
             (["compose", "L.list", "R1", "v-L", "out"], error("OUT 'out.new': cannot be written")),
             (["compose", "L.list", "R1", "v-L", "r3"], error("OUT 'r3.new': cannot be written")),
@@ -604,7 +650,7 @@ def main():
             for what in wrong(folder, words, expect, write, before):
                 print(f"{' '.join(words)!r}: {what[:2000]}")
                 bad += 1
-        count += len(PAGED) + 4
+        count += len(PAGED) + 5
         for words, what in badly_paged(folder):
             print(f"{' '.join(words)!r}: {what}")
             bad += 1

@@ -22,12 +22,14 @@ NOBODY = 65534
 NEVER = 2147483647      # no process has a number as high
 TAKEN = "taken R1 version 3 vehicle 1 at 5000"
 TAKE = ["take", "store", "1", "5000", "r1"]
+SWEEP = ["sweep", "full", "700000"]
 MARSHAL = ["marshal", "coach.list", "train", "9000", "bus"]
 COMPOSE = ["compose", "next.list", "R1", "values", "out"]
 STORE_1 = slots.taken(NEW, 1, 5000, R1)
+SWEPT = slots.expired(programs.FULL, *range(1, slots.VEHICLES + 1))
 BUS = bytes.fromhex("F334 2000 2800 3F FF 1B58 2800 000000000000 FFFF")
 # the words of each program that writes, the place of what it writes, its name there, and the octets before and after
-WRITERS = [(TAKE, 1, "STORE", NEW, STORE_1), (MARSHAL, 4, "DATA", b"\xff" * 20, BUS), (COMPOSE, 4, "OUT", R3, R1)]
+WRITERS = [(TAKE, 1, "STORE", NEW, STORE_1), (SWEEP, 1, "STORE", programs.FULL, SWEPT), (MARSHAL, 4, "DATA", b"\xff" * 20, BUS), (COMPOSE, 4, "OUT", R3, R1)]
 
 
 def place(pid):
@@ -41,7 +43,7 @@ class Folder:
     def __init__(self):
         self.path = tempfile.mkdtemp()
         os.chmod(self.path, 0o777)
-        for name in ("r1", "store", "bus", "train", "coach.list", "next.list", "L.list", "values"):
+        for name in ("r1", "store", "full", "bus", "train", "coach.list", "next.list", "L.list", "values"):
             self.write(name, programs.FILES[name])
         self.write("out", R3)
         self.said = []
@@ -140,7 +142,7 @@ def links(f):
         f.expect("links", (words[i] + ".2", f.at(target)), tuple(os.readlink(f.at(n)) for n in (words[i], words[i] + ".2")))
         f.holds(target, new)
     f.has_left()
-    f.expect("folder", ["bus", "out", "store"], sorted(os.listdir(f.at("folder"))))
+    f.expect("folder", ["bus", "full", "out", "store"], sorted(os.listdir(f.at("folder"))))
 
 
 def link_to_nothing(f):
@@ -213,6 +215,16 @@ def killed(f):
     f.has_left()
 
 
+def killed_sweep(f):
+    """A sweep marks all that is too old or nothing."""
+    f.run(SWEEP, dies)
+    f.holds("full", programs.FULL)
+    f.has_left("full.lock", "full.new")
+    f.says(SWEEP, "swept at 700000, expired 63: 1-63")
+    f.holds("full", SWEPT)
+    f.has_left()
+
+
 def killed_new(f):
     """A store is made whole or not at all."""
     f.run(["take", "new", "made"], dies)
@@ -274,6 +286,19 @@ def at_once(f):
     f.has_left()
 
 
+def swept_at_once(f):
+    """Takes and sweeps of one store at once: whatever the order, no telegram is lost, and each is heard, since each is taken at the sweep's clock."""
+    takes = [f.start(["take", "full", str(v), "700000", "r1"]) for v in range(1, 9)] + [f.start(SWEEP) for _ in range(4)]
+    said = [t.communicate()[0].decode() for t in takes]
+    f.expect("takes", [f"taken R1 version 3 vehicle {v} at 700000\n" for v in range(1, 9)], said[:8])
+    f.expect("sweeps", [True] * 4, [line.startswith("swept at 700000, expired ") for line in said[8:]])
+    now = SWEPT
+    for v in range(1, 9):
+        now = slots.taken(now, v, 700000, R1)
+    f.holds("full", now)
+    f.has_left()
+
+
 def at_once_behind_a_killed_one(f):
     f.write("store.lock", place(NEVER))
     f.write("store.new", b"cut")
@@ -281,8 +306,8 @@ def at_once_behind_a_killed_one(f):
 
 
 ROOTS = [owner_not_kept]
-ALONE = [at_once, at_once_behind_a_killed_one]
-CASES = [mode_and_owner, read_only, links, link_to_nothing, two_names, no_plain_file, given_twice, killed, killed_new, others_new, lock_without_process,
+ALONE = [at_once, swept_at_once, at_once_behind_a_killed_one]
+CASES = [mode_and_owner, read_only, links, link_to_nothing, two_names, no_plain_file, given_twice, killed, killed_sweep, killed_new, others_new, lock_without_process,
          lock_of_another_machine, lock_half_freed, held]
 
 

@@ -38,10 +38,10 @@ LIST      a signal list; `judge LIST` says what is wrong with one
 STORE     a store; `take` makes one and fills it
 CLOCK     the millisecond counter now, 0 to 4294967295
 
-Prints for each vehicle a line with type, version and age of its telegram, then
-a line for each signal,  VEHICLE SIGNAL PLACE VALUE REASON.  At the end stand,
-without VEHICLE, the vehicles never heard, and, without SIGNAL, how often each
-reason was given:
+Prints for each vehicle a line with type, version and age of its telegram, for
+the age `expired` where `sweep` has marked it, then a line for each signal,
+VEHICLE SIGNAL PLACE VALUE REASON.  At the end stand, without VEHICLE, the
+vehicles never heard, and, without SIGNAL, how often each reason was given:
   0 live ok        3 too old                   6 mark error
   1 live forced    4 type does not carry it    7 mark undefined
   2 never heard    5 newer than the telegram   8 code not known
@@ -49,7 +49,8 @@ With 2 to 8 the value is the list's replacement. A common signal is called R3.
 An age above half of the counter's range is called a stamp after the clock.
 With the word `table` it prints a line of names, then a line for each signal,
 each of ten columns with a tab between: vehicle, its telegram, version and age
-(a dash where it was never heard), signal, type, start, width, value, reason.
+(or `expired`; a dash each where it was never heard), signal, type, start,
+width, value, reason.
 Bad input gets one line that begins with `refused` and the number of document
 01, or with `error`.
 ",

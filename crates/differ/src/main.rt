@@ -62,17 +62,18 @@ LIST      a signal list; `judge LIST` says what is wrong with one
 STORE     a store; `take` makes one and fills it
 CLOCK     the millisecond counter now, 0 to 4294967295
 
-Prints for each vehicle a line with type, version and age of its telegram, then
-a line for each signal,  VEHICLE PLACE VALUE REASON | VALUE REASON,  the first
-list on the left. Signals of the two are matched by type and start. A line on
-which value, reason or width differ, or that only one list has, begins with *.
-A line behind each vehicle counts those of it, the last line all of them:
-`differ: 7 of 498 lines`. With the word `only` the other lines are left out.
+Prints for each vehicle a line with type, version and age of its telegram, for
+the age `expired` where `sweep` has marked it, then a line for each signal,
+VEHICLE PLACE VALUE REASON | VALUE REASON,  the first list on the left. Signals
+of the two are matched by type and start. A line on which value, reason or width
+differ, or that only one list has, begins with *. A line behind each vehicle
+counts those of it, the last line all of them: `differ: 7 of 498 lines`. With
+the word `only` the other lines are left out.
 With the word `table` it prints a line of names, then a line for each signal,
 each of 13 columns with a tab between: vehicle, its telegram, version and age
-(a dash where it was never heard), type, start, differs (1 or 0), then width,
-value and reason of the first list and of the second (a dash where a list has
-no such signal). The words may be combined, in any order.
+(or `expired`; a dash each where it was never heard), type, start, differs (1 or
+0), then width, value and reason of the first list and of the second (a dash
+where a list has no such signal). The words may be combined, in any order.
 `believe help` lists the reasons. Bad input gets one line that begins with
 `refused` and the number of document 01, or with `error`.
 The exit status is as of `diff`: 0 no difference, 1 differences, 2 bad input.

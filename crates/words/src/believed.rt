@@ -1,7 +1,10 @@
 // What stands in a store, and what is read out of it, in words.
-ghost use Prim.Native.Nat.{_≤_, _<_};
 use crate::said::say_reason;
 use crate::said::say_telegram;
+use crate::vehicles::Vehicles;
+use crate::vehicles::no_vehicles;
+use crate::vehicles::say_vehicles;
+use crate::vehicles::with_vehicle;
 use gateway::Held;
 use gateway::HeldOutcome;
 use gateway::VEHICLES;
@@ -48,10 +51,15 @@ pub fn print_head(page: &mut Page, store: &[u8], clock: u32, vehicle: usize) {
         return;
     }
     let l = say_number(say(say_telegram(l, h.kind), b" version "), h.version as u64);
+    if h.expired {
+        add(page, say(l, b" expired"));
+        return;
+    }
     add(page, say_age(l, h.age as u64));
 }
 
-// The same as columns of a table, behind the vehicle's: telegram, version and age; a dash each where it was never heard.
+// The same as columns of a table, behind the vehicle's: telegram, version and age, or `expired` for the age; a dash each where it was never
+// heard.
 pub fn say_head(line: Line, store: &[u8], clock: u32, vehicle: usize) -> Line {
     let h = held_of(store, clock, vehicle);
     let l = put(say_number(line, vehicle as u64), b'\t');
@@ -59,6 +67,9 @@ pub fn say_head(line: Line, store: &[u8], clock: u32, vehicle: usize) -> Line {
         return say(l, b"-\t-\t-");
     }
     let l = say_tab(say_telegram(l, h.kind), h.version as u64);
+    if h.expired {
+        return say(l, b"\texpired");
+    }
     say_tab(l, h.age as u64)
 }
 
@@ -67,41 +78,27 @@ pub fn is_heard(store: &[u8], vehicle: usize) -> bool {
     h.heard
 }
 
-// One vehicle of a line of ranges: where a range begins, its number, where a longer one ends, the dash and its number.
-fn say_never(line: Line, store: &[u8], vehicle: usize) -> Line
-    requires { ⌜ (1 ≤ vehicle) × (vehicle < 64) ⌝ }
-{
-    if is_heard(store, vehicle) {
-        return line;
-    }
-    if (vehicle == 1) | is_heard(store, vehicle - 1) {
-        return say_number(put(line, b' '), vehicle as u64);
-    }
-    if (vehicle == VEHICLES) | is_heard(store, vehicle + 1) {
-        return say_number(put(line, b'-'), vehicle as u64);
-    }
-    line
-}
-
-fn say_ranges(line: Line, store: &[u8]) -> Line {
-    let mut l = line;
+fn never_heard(store: &[u8]) -> Vehicles {
+    let mut s = no_vehicles();
     let mut v = 1;
     while v <= VEHICLES {
-        l = say_never(l, store, v);
+        if !is_heard(store, v) {
+            s = with_vehicle(s, v);
+        }
         v += 1;
     }
-    l
+    s
 }
 
 // The vehicles that were never heard, in one line.
 pub fn print_never(page: &mut Page, store: &[u8]) {
     let head = say(empty(), b"never heard:");
-    let l = say_ranges(head, store);
-    if l.at == head.at {
-        add(page, say(l, b" none"));
+    let never = never_heard(store);
+    if never.count == 0 {
+        add(page, say(head, b" none"));
         return;
     }
-    add(page, l);
+    add(page, say_vehicles(head, never));
 }
 
 // How often each reason was given.

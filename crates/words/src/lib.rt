@@ -5,6 +5,7 @@ mod broken;
 mod columns;
 mod replaced;
 mod said;
+mod vehicles;
 
 pub use believed::Totals;
 pub use believed::count_reason;
@@ -25,3 +26,7 @@ pub use said::say_place;
 pub use said::say_reason;
 pub use said::say_refused;
 pub use said::say_telegram;
+pub use vehicles::Vehicles;
+pub use vehicles::no_vehicles;
+pub use vehicles::say_vehicles;
+pub use vehicles::with_vehicle;

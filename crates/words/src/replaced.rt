@@ -1,5 +1,5 @@
 // What a program may not write over, by the octets that stand there: the part of the guard that needs the library (`files` has the rest).
-// Over a store `take` alone writes, and refuses what has not its length, which no list and no telegram has.
+// Over a store `take` and `sweep` alone write, and refuse what has not its length, which no list and no telegram has.
 use gateway::Judged;
 use gateway::Outcome;
 use gateway::STORE;
