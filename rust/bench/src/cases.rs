@@ -211,6 +211,40 @@ fn take(name: &str, telegram: Vec<u8>) -> Case {
     )
 }
 
+/// What a sweep marks stays marked: all heard again, for the next.
+#[inline(always)]
+fn hear(store: &mut [u8]) {
+    for slot in store.chunks_mut(reference::SLOT) {
+        slot[reference::HEARD] = 1;
+    }
+}
+
+/// A sweep of a full store in which nothing is too old, and of one in which all is, and is heard again before each call.
+fn sweeps() -> [Case; 2] {
+    let store = || lists::store(&lists::telegram());
+    let late = STAMP + 600_001;
+    [
+        said(
+            "sweep, 63 vehicles in time",
+            store(),
+            |store| proved::sweep(store, black_box(NOW)),
+            |store| rust::sweep(store, black_box(NOW)),
+        ),
+        said(
+            "sweep, 63 vehicles expire",
+            store(),
+            move |store| {
+                hear(store);
+                proved::sweep(store, black_box(late))
+            },
+            move |store| {
+                hear(store);
+                rust::sweep(store, black_box(late))
+            },
+        ),
+    ]
+}
+
 fn e_read(name: &str, code: u16) -> Case {
     let mut telegram = vec![0; 9];
     telegram[6..8].copy_from_slice(&code.to_be_bytes());
@@ -352,6 +386,7 @@ pub fn all() -> Vec<Case> {
         take("take R3", r3),
         extends,
     ]);
+    cases.extend(sweeps());
     cases.extend([
         e_read("E read, a request", 0x9001),
         e_read("E read, a report", 0x9A01),

@@ -113,6 +113,7 @@ extern "C" {
         telegram: *const u8,
         telegram_len: usize,
     ) -> Outcome;
+    fn df_sweep(store: *mut u8, store_len: usize, clock: u32) -> Outcome;
     fn df_check_place(bit: u64) -> Placed;
     fn df_resolve(marks: *const u8, marks_len: usize, address: u64) -> Resolved;
     fn df_e_read(telegram: *const u8, telegram_len: usize) -> ERead;
@@ -196,6 +197,11 @@ pub fn compose(list: &[u8], kind: u64, values: &[u64], marks: &[u8], out: &mut [
 pub fn take(store: &mut [u8], vehicle: u64, now: u32, telegram: &[u8]) -> Outcome {
     let (slots, octets) = (store.as_mut_ptr(), telegram.as_ptr());
     unsafe { df_take(slots, store.len(), vehicle, now, octets, telegram.len()) }
+}
+
+#[inline(always)]
+pub fn sweep(store: &mut [u8], now: u32) -> Outcome {
+    unsafe { df_sweep(store.as_mut_ptr(), store.len(), now) }
 }
 
 #[inline(always)]

@@ -45,6 +45,11 @@ pub fn take(store: &mut [u8], vehicle: u64, now: u32, telegram: &[u8]) -> Result
 }
 
 #[inline(never)]
+pub fn sweep(store: &mut [u8], now: u32) -> Result<(), Refusal> {
+    reference::sweep(store, now)
+}
+
+#[inline(never)]
 pub fn check_place(bit: u64) -> Result<u64, Refusal> {
     reference::check_place(bit)
 }
