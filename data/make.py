@@ -1,7 +1,7 @@
 #!/usr/bin/env python3
 """Writes the signal lists of this folder from signals.csv. data/README.md says what is the sources' and what is a choice.
 
-    data/make.py            writes coach.list, coach-next.list, coach-wrong.list, counters.list and L.list
+    data/make.py            writes coach.list, coach-2.list, coach-next.list, coach-wrong.list, counters.list and L.list
     data/make.py --check    only says whether they are as they would be written
 """
 import csv
@@ -9,6 +9,7 @@ import os
 import sys
 
 from files import HERE, settle
+from serials import pack as pack_serial
 
 TYPES = {"R3": 0, "R1": 1, "R2": 2}
 # every check place printed in Appendix B: octets 3-8, and octets 41-46
@@ -36,7 +37,7 @@ def read_signals():
             yield {
                 "telegram": r["telegram"], "type": TYPES[r["telegram"]], "start": int(r["start"]), "width": int(r["width"]),
                 "check": int(r["check"]), "since": 2 if r["listed_in_002.01"] == "yes" else 1, "limit": LIMIT,
-                "replacement": known[0][0] if known else 0, "known": known,
+                "replacement": known[0][0] if known else 0, "known": known, "serial": pack_serial(r["serial_of_A"]),
             }
 
 
@@ -44,14 +45,14 @@ def n(value, octets):
     return value.to_bytes(octets, "big")
 
 
-def pack(signals, routes):
+def pack(signals, routes, form=1):
     signals = sorted(signals, key=lambda s: (s["type"], s["start"]))
     place = {(s["telegram"], s["start"]): k for k, s in enumerate(signals)}
     out = n(len(CHECKS), 2) + b"".join(n(c, 2) for c in CHECKS)
     out += n(len(signals), 2)
     for s in signals:
         out += n(s["start"], 2) + bytes([s["width"], s["type"], CHECKS.index(s["check"]) + 1, s["since"]])
-        out += n(s["limit"], 4) + n(s["replacement"], 6)
+        out += n(s["limit"], 4) + n(s["replacement"], 6) + (n(s["serial"], 2) if form == 2 else b"")
     codes = [(k, lo, hi) for k, s in enumerate(signals) for lo, hi in s["known"]]
     out += n(len(codes), 2) + b"".join(n(k, 2) + n(lo, 2) + n(hi, 2) for k, lo, hi in codes)
     out += n(len(routes), 2)
@@ -85,6 +86,7 @@ def main():
         "L.list": L,
         "counters.list": COUNTERS,
         "coach.list": pack(list(read_signals()), ROUTES),
+        "coach-2.list": pack(list(read_signals()), ROUTES, form=2),
         "coach-next.list": pack(successor(list(read_signals()), 3), ROUTES),
         "coach-wrong.list": pack(successor(list(read_signals()), 2), ROUTES),
     }

@@ -1,6 +1,6 @@
 /* Dustferrule: the proved gateway library for UIC 556 train buses, as C links it.
  *
- * Every call is total: for valid memory and any numbers it returns, and its answer is the one that document 01 gives.
+ * Every call is total: for valid memory and any numbers it returns, and its answer is the one that documents 01 and 02 give.
  * The library is proved; this header is not checked against it. It declares what `crates/dustferrule/src/lib.rt` exports.
  *
  * What the caller owes:
@@ -11,6 +11,10 @@
  *
  * Results: `refusal` is 0, or a number of DF_REFUSALS below; every field that an answer does not use is 0. A refused call changes no
  * octet it was lent. Of the numbers that a call can meet, 1-4 come first, as judging the list meets them, then the lowest.
+ *
+ * `form`, behind each list, says how its signal entries are laid out: DF_FORM_1, 16 octets, or DF_FORM_2, 18 octets, of which the last two
+ * are a serial number, 0 for none. Any number of 8 bits but 2 is form 1. A list in form 2 answers as the same list without its serial numbers
+ * does in form 1; offsets follow the longer entries.
  *
  * `carried` is the offset in the list of the section's count (1, 2), of the entry (3) or of the first octet too many (4), and the number
  * of the signal, from 0, that is at fault (15). The rules of a list's entries stand in docs/PROMISES.md, under "The signal list".
@@ -29,7 +33,10 @@ extern "C" {
 /* The store: a slot for each of 63 vehicles, vehicle 1 first. A store of zeros has heard nobody. */
 #define DF_STORE_OCTETS 8379
 
-/* The refusals, in document 01's words: X(name, number, text). A new one is a line. */
+/* The forms of a list: signal entries of 16 octets, and of 18, with a serial number behind each. */
+enum df_form { DF_FORM_1 = 1, DF_FORM_2 = 2 };
+
+/* The refusals, in the words of document 01 and, from 32 on, of document 02: X(name, number, text). A new one is a line. */
 #define DF_REFUSALS(X) \
     X(LIST_ENDS, 1, "list ends inside a count or a section") \
     X(COUNT_ABOVE, 2, "count above its limit") \
@@ -57,7 +64,9 @@ extern "C" {
     X(HEAD_LENGTH, 24, "head not 6 octets") \
     X(OUTPUT_SHORT, 25, "output under 9 octets") \
     X(SCALED_KIND, 26, "scaled kind, with width not 16 or raw above 65,535") \
-    X(NO_CHECK_PLACE, 27, "no check place in the table")
+    X(NO_CHECK_PLACE, 27, "no check place in the table") \
+    X(SERIAL_SET, 32, "serial number set") \
+    X(FORM_OUTPUT, 33, "output not of the needed length")
 
 /* The reasons of a reading, likewise. */
 #define DF_REASONS(X) \
@@ -106,6 +115,9 @@ typedef struct {
 
 typedef struct { uint32_t refusal; uint64_t carried; uint64_t signal; } df_found;
 
+/* serial: 16 bits as the list has them, 0 for none */
+typedef struct { uint32_t refusal; uint64_t carried; uint64_t serial; } df_serial_number;
+
 typedef struct { uint32_t refusal; uint64_t place; } df_place;
 
 /* reason: a number of DF_REASONS; with 2 to 8 the value is the replacement; a value is below 2^width, so with width 64 any number */
@@ -122,16 +134,25 @@ typedef struct { uint32_t refusal; uint32_t size; uint64_t set; } df_members;
 typedef struct { uint32_t refusal; uint32_t code; uint32_t report; uint32_t status; } df_e_reading;
 
 /* Judges a signal list. Refusals 1-4. */
-df_judged df_judge(const uint8_t *list, size_t list_len);
+df_judged df_judge(const uint8_t *list, size_t list_len, uint8_t form);
 
-/* Does the second list extend the first? Refusals 1-4 of the first list that is refused. */
-df_extending df_extends(const uint8_t *a, size_t a_len, const uint8_t *b, size_t b_len);
+/* Does the second list, of form `other`, extend the first? Refusals 1-4 of the first list that is refused. */
+df_extending df_extends(const uint8_t *a, size_t a_len, uint8_t form, const uint8_t *b, size_t b_len, uint8_t other);
 
 /* The entry of a signal by its number, from 0. Refusals 1-4, then 11. */
-df_entry df_signal_entry(const uint8_t *list, size_t list_len, uint64_t signal);
+df_entry df_signal_entry(const uint8_t *list, size_t list_len, uint8_t form, uint64_t signal);
 
 /* The number, from 0, of the signal of a type (0, 1 or 2) that starts at a bit address. Refusals 1-4, then 11. */
-df_found df_find_signal(const uint8_t *list, size_t list_len, uint64_t type, uint64_t start);
+df_found df_find_signal(const uint8_t *list, size_t list_len, uint8_t form, uint64_t type, uint64_t start);
+
+/* The serial number of a signal by its number, from 0; in form 1 it is 0. Refusals 1-4, then 11. */
+df_serial_number df_serial(const uint8_t *list, size_t list_len, uint8_t form, uint64_t signal);
+
+/* Writes a list of form 1 in form 2: two octets more for each signal, every serial number 0. Refusals 1-4, then 33. */
+df_outcome df_to_form_2(const uint8_t *list, size_t list_len, uint8_t *out, size_t out_len);
+
+/* Writes a list of form 2, in which every serial number is 0, in form 1: two octets less for each signal. Refusals 1-4, then 32, 33. */
+df_outcome df_to_form_1(const uint8_t *list, size_t list_len, uint8_t *out, size_t out_len);
 
 /* The check place, as a bit address, of a bit of R1 octets 47-73. Refusal 27. */
 df_place df_check_place(uint64_t bit);
@@ -145,13 +166,15 @@ df_outcome df_take(uint8_t *store, size_t store_len, uint64_t vehicle, uint32_t 
 df_outcome df_sweep(uint8_t *store, size_t store_len, uint32_t clock);
 
 /* Reads one signal (number from 0) of one vehicle. Refusals 1-4, then 5, 6, 11. */
-df_reading df_read(const uint8_t *list, size_t list_len, const uint8_t *store, size_t store_len, uint32_t clock, uint64_t vehicle, uint64_t signal);
+df_reading df_read(const uint8_t *list, size_t list_len, uint8_t form, const uint8_t *store, size_t store_len, uint32_t clock, uint64_t vehicle,
+                   uint64_t signal);
 
 /* Writes every route's value into its field of the vehicle bus data, and counts the live ones. Refusals 1-5, 12. */
-df_marshalled df_marshal(const uint8_t *list, size_t list_len, const uint8_t *store, size_t store_len, uint32_t clock, uint8_t *bus, size_t bus_len);
+df_marshalled df_marshal(const uint8_t *list, size_t list_len, uint8_t form, const uint8_t *store, size_t store_len, uint32_t clock, uint8_t *bus,
+                         size_t bus_len);
 
 /* Composes an R-telegram of type 1, 2 or 3: one value for each signal, one mark (0-3) for each check. Refusals 1-4, then 9, 13-16. */
-df_outcome df_compose(const uint8_t *list, size_t list_len, uint64_t type, const uint64_t *values, size_t values_len,
+df_outcome df_compose(const uint8_t *list, size_t list_len, uint8_t form, uint64_t type, const uint64_t *values, size_t values_len,
                       const uint8_t *marks, size_t marks_len, uint8_t *out, size_t out_len);
 
 /* A raw value of a field of this width, shown. A code is shown as itself; the scaled kinds may be refused 26. */

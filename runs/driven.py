@@ -16,11 +16,12 @@ import time
 import printed
 
 ROOT = printed.ROOT
-PROGRAMS = ("judge", "extends", "take", "sweep", "believe", "differ", "marshal", "compose")
+PROGRAMS = ("judge", "extends", "convert", "take", "sweep", "believe", "differ", "marshal", "compose")
 TOOLS = ("sh", "awk", "readlink", "uname")  # what an installed program needs beside itself
 BUILT = ("bin", "stamp")  # of target/: what a run goes by that finds all proved
 OTHER = os.uname().machine != "x86_64"
 COACH, NEXT, WRONG, STORE = "data/coach.list", "data/coach-next.list", "data/coach-wrong.list", "data/scene/train.store"
+COACH_2 = "data/coach-2.list"
 OK = "list ok checks=48 signals=165 codes=41 routes=14 version=2\n"
 
 count, amiss = 0, []
@@ -76,16 +77,21 @@ def statuses(how, start, env=None):
     end(1, ["judge", "data/signals.csv"], err="refused 2 at 0: ")
     end(2, ["judge", "data/none"], err="error: LIST 'data/none': ")
     end(1, ["believe", COACH, STORE, "9000", "64"], err="refused 6: ")
+    end(0, ["judge", COACH_2, "form2"], OK)
+    end(1, ["judge", COACH_2], err="refused 3 at 116: ")
+    end(1, ["convert", COACH_2, "form1", "data/none"], err="refused 32: ")
+    end(2, ["convert", COACH, "form2", "data"], err="error: OUT 'data': exists already")
     end(0, ["extends", COACH, NEXT], "extends: yes\n")
     end(1, ["extends", COACH, WRONG], "extends: no\n")
+    end(0, ["extends", COACH, COACH_2, "second-form2"], "extends: yes\n")
     end(2, ["extends", COACH, STORE], err="refused ")
     end(2, ["extends", COACH, "data/none"], err="error: ")
     for status, second, last in ((0, COACH, r"differ: 0 of \d+ lines"), (1, NEXT, r"differ: 7 of \d+ lines")):
         done = run(start("differ") + [COACH, second, STORE, "9000"], env=env)
         found = re.fullmatch(last, done.stdout.splitlines()[-1] if done.stdout else "")
         check(f"{how}, differ with {second}", done.returncode == status and found and not done.stderr, done)
-    for status, second in ((0, COACH), (1, NEXT)):
-        done = run(start("differ") + [COACH, second, STORE, "9000", "table"], env=env)
+    for status, second, *behind in ((0, COACH), (1, NEXT), (0, COACH_2, "second-form2")):
+        done = run(start("differ") + [COACH, second, STORE, "9000", "table", *behind], env=env)
         check(f"{how}, differ with {second} as a table", done.returncode == status and done.stdout.startswith("vehicle\t") and not done.stderr, done)
     end(2, ["differ", COACH, STORE, STORE, "9000"], err="refused ")
     end(2, ["differ", COACH, "data/none", STORE, "9000"], err="error: ")
@@ -158,9 +164,11 @@ def standard_input():
         shutil.copy(os.path.join(ROOT, COACH), os.path.join(folder, "bus"))
         before = set(os.listdir(folder))
         for words in (["take", "-", "1", "1", "1-R1.telegram"], ["take", "new", "-"], ["sweep", "-", "9000"], ["marshal", "coach.list", "train.store", "9000", "-"],
-                      ["compose", "coach.list", "R3", "1-R1.values", "-"]):
+                      ["compose", "coach.list", "R3", "1-R1.values", "-"], ["convert", "coach.list", "form2", "-"]):
             ends(" ".join(words), given(COACH, *words, folder=folder), 2, err="error: '-' ")
         check("nothing is written to a file '-'", set(os.listdir(folder)) == before)
+        ends("convert of -", given(COACH, "convert", "-", "form2", "moved", folder=folder), 0, "moved to form 2: 165 signals, 3404 octets\n")
+        ends("judge of what it made", given(os.path.join(folder, "moved"), "judge", "-", "form2"), 0, OK)
         taken = given("data/scene/2-R2.telegram", "take", "train.store", "5", "8000", "-", folder=folder)
         ends("take of -", taken, 0, "taken R2 version 2 vehicle 5 at 8000\n")
 

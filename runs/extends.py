@@ -1,11 +1,13 @@
 #!/usr/bin/env python3
-"""The table of `extends`' runs: two lists, and the line that the program prints for them. Run from the root, after the programs are built."""
+"""The table of `extends`' runs: two lists, and the line that the program prints for them, in both forms. Run from the root, after the programs
+are built."""
 import os
+import re
 import subprocess
 import sys
 import tempfile
 
-from judge import L, WORDS, code, pack, signal
+from judge import L, WORDS, code, in_form_2, numbered, offset_in_form_2, pack, signal
 
 
 def refused(number, offset, which):
@@ -48,11 +50,30 @@ TABLE = [
     ("both refused", b"", L + b"\0", refused(1, 0, "first")),
 ]
 
+WORDS_2 = ("first-form2", "second-form2")
+LINE = "extends FIRST SECOND [first-form2] [second-form2]"
+USAGE = f"error: usage: {LINE}\n"
+BOTH = ["data/coach.list", "data/coach-2.list"]
+
 OTHERWISE = [
-    ([], "error: usage: extends FIRST SECOND\n"),
-    (["help"], "extends FIRST SECOND\n\n"),
-    (["data/coach.list"], "error: usage: extends FIRST SECOND\n"),
-    (["data/coach.list"] * 3, "error: usage: extends FIRST SECOND\n"),
+    ([], USAGE),
+    (["help"], LINE + "\n\n"),
+    (["data/coach.list"], USAGE),
+    (["data/coach.list"] * 3, USAGE),
+    (BOTH + ["second-form2"], "extends: yes\n"),
+    (BOTH[::-1] + ["first-form2"], "extends: yes\n"),
+    (BOTH[1:] * 2 + ["second-form2", "first-form2"], "extends: yes\n"),
+    # a list in form 1 said to be in form 2, and the other way round
+    (BOTH, refused(3, 116, "second") + "\n"),
+    (BOTH + ["first-form2", "second-form2"], refused(3, 118, "first") + "\n"),
+    # words that are misplaced, given twice, unknown
+    (BOTH + ["second-form2"] * 2, USAGE),
+    (["second-form2"] + BOTH, USAGE),
+    (BOTH[:1] + ["second-form2"] + BOTH[1:], USAGE),
+    (BOTH + ["form2"], USAGE),
+    (BOTH + ["second-form2", "third-form2"], USAGE),
+    (BOTH + ["second-form2", "first-form2", "second-form2"], USAGE),
+    (BOTH[:1] + ["second-form2"], "error: SECOND 'second-form2': no such file or folder\n"),
     (["data/none.list", "data/coach.list"], "error: FIRST 'data/none.list': no such file or folder\n"),
     (["data/coach.list", "data"], "error: SECOND 'data': "),
 ]
@@ -62,8 +83,21 @@ def run(*words):
     return subprocess.run([os.path.abspath("run"), "extends", *words], stdout=subprocess.PIPE, stderr=subprocess.STDOUT, timeout=60).stdout.decode()
 
 
+def forms():
+    """Each row in form 1, and with either list in form 2 and both: the answer is the same, and an offset follows the longer entries."""
+    for i, (name, first, second, expected) in enumerate(TABLE):
+        for words in ((), WORDS_2[:1], WORDS_2[1:], WORDS_2):
+            lists, line = [first, second], expected
+            for k, which in enumerate(("first", "second")):
+                if WORDS_2[k] in words:
+                    lists[k] = in_form_2(lists[k], numbered(i + 5 * k))
+                    line = re.sub(rf"(?<=at )\d+(?= \({which})", lambda m: str(offset_in_form_2((first, second)[k], int(m[0]))), line)
+            yield ", ".join((name,) + words), *lists, list(words), line
+
+
 def main():
     bad = 0
+    rows = list(forms())
     for words, first in OTHERWISE:
         got = run(*words)
         if not got.startswith(first):
@@ -71,15 +105,15 @@ def main():
             bad += 1
     with tempfile.TemporaryDirectory() as folder:
         a, b = os.path.join(folder, "a"), os.path.join(folder, "b")
-        for name, first, second, expected in TABLE:
+        for name, first, second, words, expected in rows:
             for path, octets in ((a, first), (b, second)):
                 with open(path, "wb") as f:
                     f.write(octets)
-            got = run(a, b)
+            got = run(a, b, *words)
             if got != expected + "\n":
                 print(f"extends, {name}: expected {expected!r}, got {got!r}")
                 bad += 1
-    print(f"extends: {len(TABLE) + len(OTHERWISE)} runs, {bad} wrong")
+    print(f"extends: {len(rows) + len(OTHERWISE)} runs, {bad} wrong")
     return 1 if bad else 0
 
 

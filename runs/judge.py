@@ -1,9 +1,14 @@
 #!/usr/bin/env python3
-"""The table of `judge`'s runs: a list, and the line that the program prints for it. Run from the root, after the programs are built."""
+"""The table of `judge`'s runs: a list, and the line that the program prints for it, in both forms. Run from the root, after the programs are
+built."""
 import os
+import re
 import subprocess
 import sys
 import tempfile
+
+sys.path.append(os.path.join(os.path.dirname(os.path.dirname(os.path.abspath(__file__))), "data"))
+import serials  # from data/
 
 WORDS = {
     1: "list ends inside a count or a section", 2: "count above its limit", 3: "entry breaks its rule", 4: "octets after the routes",
@@ -52,6 +57,56 @@ def broken(offset, words):
 def behind(*entries):
     """The offset behind so many checks, signals, code ranges and routes: that of the next entry, in the last section that is given."""
     return sum(2 + size * count for size, count in zip(SIZES, entries))
+
+
+# ---- form 2
+
+# a number of each kind, one that is packed as none (no number in its group, letters that are free), and none
+SERIALS = [0x40C0, 0x4B82, 0xA048, 0x40A1, 0x4099, 0x4091, 0, 0x52C0, 0x1001, 0x107F, 0xFFFF, 0x2068, 0x2071]
+
+
+def printed(serial):
+    """As the programs print it."""
+    number, letters, variant = serial >> 6 & 63, serial >> 3 & 7, serial & 7
+    if serial == 0:
+        return "no serial number"
+    if number == 0 or letters == 7:
+        return f"0x{serial:04X}"
+    letter, mark = serials.LETTERS[letters]
+    return f"{serial >> 12}.{number}{letter}" + (f"/{variant}" if variant else "") + mark
+
+
+def numbered(first):
+    """Signal 0 has that one of SERIALS, signal 1 the next."""
+    return lambda k: SERIALS[(first + k) % len(SERIALS)]
+
+
+def numbers(octets):
+    """How many checks and signals a list has; no signals where they are not all there."""
+    checks = int.from_bytes(octets[:2], "big")
+    at = 2 + 2 * checks
+    signals = int.from_bytes(octets[at:at + 2], "big")
+    return checks, signals if signals <= 256 and at + 2 + 16 * signals <= len(octets) else 0
+
+
+def in_form_2(octets, serial=lambda k: 0):
+    """The list with a serial number behind each signal, accepted or not."""
+    checks, signals = numbers(octets)
+    at = 4 + 2 * checks
+    ends = [at + 16 * k for k in range(signals + 1)]
+    return octets[:at] + b"".join(octets[a:e] + n(serial(k), 2) for k, (a, e) in enumerate(zip(ends, ends[1:]))) + octets[ends[-1]:]
+
+
+def offset_in_form_2(octets, offset):
+    """Where the entry or section stands that starts at the offset in form 1."""
+    checks, signals = numbers(octets)
+    return offset + 2 * min(max((offset - 4 - 2 * checks) // 16, 0), signals)
+
+
+def line_in_form_2(octets, line, serial):
+    """The line that `judge` prints in form 2 where it prints this one in form 1."""
+    line = re.sub(r"(?<=^refused . at )\d+", lambda m: str(offset_in_form_2(octets, int(m[0]))), line)
+    return re.sub(r"(signal (\d+), (?:R|type ).*)(?=, rule)", lambda m: f"{m[1]} ({printed(serial(int(m[2])))})", line)
 
 
 L = bytes.fromhex("0001 0142 0001 01A8 04 01 01 01 00001388 000000000000 0002 0000 0000 0006 0000 000F 000F 0001 0000 01 00 0000")
@@ -251,26 +306,76 @@ TABLE = [
 ]
 
 
+L2 = in_form_2(L, lambda k: 0x40C0)
+
+# lists in form 2
+TABLE_2 = [
+    ("a list in form 1, said to be in form 2", L, refused(4, 28)),
+    ("a list that ends inside a serial number", L2[:23], refused(1, 4)),
+    ("a list that ends behind its serial number", L2[:24], refused(1, 24)),
+    ("16 octets for a signal", pack((), [S])[:20], refused(1, 2)),
+    ("a signal and nothing else", in_form_2(pack((), [S])), ok(0, 1, 0, 0, 1)),
+    ("a signal at fault that has no serial number", in_form_2(one_signal(signal(424, 0))),
+     broken(4, "signal 0, R1 octet 54 bit 0 (no serial number), rule 1: width not 1-64")),
+    ("the second signal at fault", in_form_2(second_signal(S, S), lambda k: (0x40C0, 0x40A1)[k]),
+     broken(22, "signal 1, R1 octet 54 bits 0-3 (4.2R/1e), rule 9: it starts before the end of the signal before")),
+    ("a code of the second signal at fault", in_form_2(codes_of(code(1, 3, 2)), lambda k: (0x40C0, 0x4B82)[k]),
+     broken(42, "code entry 0 of signal 1, R1 octet 54 bits 4-7 (4.46/2), rule 3: low above high")),
+    ("a route of the second signal at fault, behind two checks", in_form_2(pack([check(16), check(18)], [S, signal(428, 8)], (), [route(1, 0, 0)]), lambda k: 0xFFFF),
+     broken(48, "route 0 of signal 1, R1 octet 54 bit 4 to 55 bit 3 (0xFFFF), rule 2: vehicle not 1-63")),
+    ("a code of no signal", in_form_2(one_code(code(1, 0, 1)), lambda k: 0x40C0), broken(24, "code entry 0 of signal 1, rule 1: no such signal")),
+    ("a check at fault", in_form_2(pack([check(17)], [S]), lambda k: 0x40C0), broken(2, "check 1, octet 3 bits 1-2, rule 1: its address is odd")),
+]
+
+# lists in form 2, said to be in form 1
+TABLE_1 = [
+    ("a serial number read as a count", L2, refused(2, 22)),
+    ("no serial number, read as a count", in_form_2(L),
+     broken(26, "route 0 of signal 0, R1 octet 54 bits 0-3, rule 2: vehicle not 1-63")),
+]
+
+
 WORDS_WRONG = [
     ("a missing file", ["FOLDER/none"]),
     ("a folder", ["FOLDER"]),
     ("two lists", ["FOLDER/list", "FOLDER/list"]),
+    ("a missing file in form 2", ["FOLDER/none", "form2"]),
+    ("the word form2 twice", ["FOLDER/list", "form2", "form2"]),
+    ("the word form2 before the list", ["form2", "FOLDER/list"]),
+    ("another word", ["FOLDER/list", "form1"]),
+    ("another program's word", ["FOLDER/list", "table"]),
+    ("the word form2 and another", ["FOLDER/list", "form2", "table"]),
+    ("the word form2 alone", ["form2"]),
 ]
+USAGE = "error: usage: judge LIST [form2]\n"
 
 
 def run(program, *args):
     return subprocess.run([program, "judge", *args], stdout=subprocess.PIPE, stderr=subprocess.STDOUT, timeout=60).stdout.decode()
 
 
+def both_forms():
+    """Every row: the list, the words behind it, and the line."""
+    for i, (name, octets, line) in enumerate(TABLE):
+        serial = numbered(i)
+        yield name, octets, [], line
+        yield name + ", in form 2", in_form_2(octets, serial), ["form2"], line_in_form_2(octets, line, serial)
+    for name, octets, line in TABLE_2:
+        yield name, octets, ["form2"], line
+    for name, octets, line in TABLE_1:
+        yield name, octets, [], line
+
+
 def main():
     program = os.path.abspath("run")
     bad = 0
+    rows = list(both_forms())
     with tempfile.TemporaryDirectory() as folder:
         path = os.path.join(folder, "list")
-        for name, octets, expected in TABLE:
+        for name, octets, words, expected in rows:
             with open(path, "wb") as f:
                 f.write(octets)
-            got = run(program, path)
+            got = run(program, path, *words)
             if got != expected + "\n":
                 print(f"judge, {name}: expected {expected!r}, got {got!r}")
                 bad += 1
@@ -279,18 +384,22 @@ def main():
             if not got.startswith("error: ") or got.count("\n") != 1:
                 print(f"judge, {name}: expected one line that begins with error, got {got!r}")
                 bad += 1
-    for args, first in (([], "error: usage: judge LIST\n"), (["help"], "judge LIST\n\n"), (["--help"], "judge LIST\n\n")):
+    first = "judge LIST [form2]\n\n"
+    others = (([], USAGE), (["help"], first), (["--help"], first), (["data/coach.list", "form2", "form2"], USAGE), (["data/coach.list", "Form2"], USAGE))
+    for args, first in others:
         got = run(program, *args)
         if not got.startswith(first):
             print(f"judge {' '.join(args)}: expected {first!r}, got {got!r}")
             bad += 1
-    for name, expected in (("coach", ok(48, 165, 41, 14, 2)), ("coach-next", ok(48, 166, 42, 14, 3)), ("coach-wrong", ok(48, 166, 42, 14, 2))):
-        got = run(program, f"data/{name}.list")
+    lists = (("coach", [], ok(48, 165, 41, 14, 2)), ("coach-next", [], ok(48, 166, 42, 14, 3)), ("coach-wrong", [], ok(48, 166, 42, 14, 2)),
+             ("coach-2", ["form2"], ok(48, 165, 41, 14, 2)))
+    for name, words, expected in lists:
+        got = run(program, f"data/{name}.list", *words)
         if got != expected + "\n":
             print(f"judge, data/{name}.list: expected {expected!r}, got {got!r}")
             bad += 1
     assert len(LONGEST) == behind(64, 256, 512, 512)
-    print(f"judge: {len(TABLE) + len(WORDS_WRONG) + 6} runs, {bad} wrong")
+    print(f"judge: {len(rows) + len(WORDS_WRONG) + len(others) + len(lists)} runs, {bad} wrong")
     return 1 if bad else 0
 
 

@@ -4,6 +4,8 @@
     runs/programs.py            runs the table
     runs/programs.py --write    writes expected/*.txt anew from what the programs print, to be read before it is kept
 """
+import csv
+import itertools
 import os
 import re
 import resource
@@ -99,6 +101,39 @@ FILES = {
     "bus": b"\xff" * 20, "bus-17": b"\xff" * 17, "bus-18": b"\xff" * 18, "bus-4096": b"\xff" * 4096, "bus-4097": bytes(4097),
     "bus-40": b"\xff" * 40, "bus-128": b"\xff" * 128, "zeros-8": bytes(8), "zeros-128": bytes(128), "list-128": LIST_128, "list-40": LIST_40,
 }
+
+
+# each list in form 2 as NAME.form2, with numbers of each kind, and as NAME.moved, without any
+FORM_1 = [name for name in FILES if name.endswith(".list") and name != "huge.list"]
+FILES.update({name.replace(".list", ".form2"): lists.in_form_2(FILES[name], lists.numbered(i)) for i, name in enumerate(FORM_1)})
+FILES.update({name.replace(".list", ".moved"): lists.in_form_2(FILES[name]) for name in FORM_1})
+
+
+def signals_of(octets, size):
+    """The octets of each signal's entry."""
+    at = 2 + 2 * int.from_bytes(octets[:2], "big")
+    count = int.from_bytes(octets[at:at + 2], "big")
+    return [octets[at + 2 + size * k:at + 2 + size * (k + 1)] for k in range(count)]
+
+
+def with_serials(octets, serials):
+    """The list in form 2, with the serial numbers by what the signals are: type and start."""
+    places = [(entry[3], int.from_bytes(entry[:2], "big")) for entry in signals_of(octets, 16)]
+    return lists.in_form_2(octets, lambda k: serials[places[k]])
+
+
+# the real numbers; and of the successor others: one where there was none, another, none where there was one, and that of the signal added
+REAL = {(entry[3], int.from_bytes(entry[:2], "big")): int.from_bytes(entry[16:], "big") for entry in signals_of(data("coach-2.list"), 18)}
+FILES["coach-2.list"] = data("coach-2.list")
+FILES["next-2.list"] = with_serials(FILES["next.list"], {**REAL, (0, 64): 0x1440, (1, 424): 0x4140, (1, 428): 0, (1, 524): 0xFFFF})
+# the real list in form 2 is the one in form 1 moved, but for the serial numbers
+assert with_serials(FILES["coach.list"], REAL) == FILES["coach-2.list"]
+
+# 16 bits of every kind: all letters and variants with the least and greatest numbers, and numbers of one digit and two
+NUMBERS = [group << 12 | number << 6 | rest for group, number, rest in itertools.product((0, 9, 10, 15), (0, 1, 9, 10, 63), range(64))]
+MANY = lists.pack((), [lists.signal(320 + 2 * k, 2) for k in range(256)])
+PARTS = [NUMBERS[k:k + 256] for k in range(0, len(NUMBERS), 256)]
+FILES.update({f"numbers-{k}.form2": lists.in_form_2(MANY, part.__getitem__) for k, part in enumerate(PARTS)})
 
 
 class Expect:
@@ -242,10 +277,10 @@ def sweep_table():
 def believe_table():
     words = ["believe", "coach.list", "train", CLOCK, "1", "94"]
     yield ["believe", "help"], as_in("believe-help")
-    text = "believe LIST STORE CLOCK [VEHICLE [SIGNAL]] [table]"
+    text = "believe LIST STORE CLOCK [VEHICLE [SIGNAL]] [table] [form2]"
     yield from usage("believe", (3, 4, 5), text)
     yield ["believe", "L.list", "train", CLOCK, "1", "0", "1", "table"], error("usage: " + text)
-    yield ["believe", "L.list", "train", CLOCK, "table", "table"], error("usage: " + text)
+    yield ["believe", "L.list", "train", CLOCK, "table", "table"], error(f"VEHICLE 'table': {MOST}")
     yield ["believe", "L.list", "train", CLOCK, "table", "1"], error(f"VEHICLE 'table': {MOST}")
     yield ["believe", "L.list", "train", "table"], error(f"CLOCK 'table': {MOST}")
     yield ["believe", "L.list", "train", CLOCK, "tables"], error(f"VEHICLE 'tables': {MOST}")
@@ -289,6 +324,30 @@ def believe_table():
         "total      1  0 live ok\ntotal      1  3 too old")
     yield ["believe", "L.list", "parked", CLOCK, "1"], says(
         "vehicle 1: R1 version 3 expired\n 1    0  R1 octet 54 bits 0-3                  0  3 too old\ntotal      1  3 too old")
+    # in form 2, with the serial number beside the place, and as the last column of the table
+    words_2 = ["believe", "coach-2.list", "train", CLOCK, "1", "94"]
+    yield words_2[:4] + ["form2"], as_in("believe-form2")
+    for both in (["table", "form2"], ["form2", "table"]):
+        yield words_2[:4] + both, as_in("believe-form2-table")
+    yield words_2 + ["form2"], says("vehicle 1: R1 version 3 age 3000 ms\n 1   94  R1 octet 54 bits 0-3 (4.3)                       3  0 live ok")
+    yield ["believe", "coach.moved", *words_2[2:], "form2"], says("vehicle 1: R1 version 3 age 3000 ms\n 1   94  R1 octet 54 bits 0-3 (no serial number)          3  0 live ok")
+    yield words_2 + ["table", "form2"], table("vehicle telegram version age signal type start width value reason serial", "1 R1 3 3000 94 R1 424 4 3 0 4.3")
+    yield ["believe", "L.moved", "train", CLOCK, "9", "form2", "table"], table(
+        "vehicle telegram version age signal type start width value reason serial", "9 - - - 0 R1 424 4 0 2 -")
+    yield ["believe", "wide.form2", "wide-heard", CLOCK, "form2"], as_in("believe-form2-wide")
+    yield words_2 + ["form2", "form2"], error("usage: " + text)
+    yield words_2 + ["form2", "table", "form2"], error("usage: " + text)
+    yield words_2[:4] + ["form2", "form2"], error(f"VEHICLE 'form2': {MOST}")
+    yield words_2[:4] + ["form2", "1"], error(f"VEHICLE 'form2': {MOST}")
+    yield words_2[:4] + ["1", "form2", "94"], error(f"SIGNAL 'form2': {MOST}")
+    yield words_2[:5] + ["form1"], error(f"SIGNAL 'form1': {MOST}")
+    yield words_2[:4] + ["first-form2"], error(f"VEHICLE 'first-form2': {MOST}")
+    yield words_2[:3] + ["form2"], error(f"CLOCK 'form2': {MOST}")
+    yield words_2, refused("3 at 116: entry breaks its rule")
+    yield words + ["form2"], refused("3 at 118: entry breaks its rule")
+    yield ["believe", "ends.form2", "store-1", CLOCK, "64", "form2"], refused("1 at 38: list ends inside a count or a section")
+    yield ["believe", "more.form2", "store-1", CLOCK, "64", "form2"], refused("4 at 46: octets after the routes")
+    yield words_2[:5] + ["165", "form2"], refused("11: no such signal")
     yield from no_list(["believe", "L.list", "store-1", CLOCK, "64"], 1)
     yield from no_file("STORE", words, 2)
     yield from no_number("CLOCK", words, 3)
@@ -299,11 +358,11 @@ def believe_table():
 def differ_table():
     words = ["differ", "coach.list", "next.list", "train", CLOCK, "1"]
     yield ["differ", "help"], as_in("differ-help")
-    text = "differ LIST LIST STORE CLOCK [VEHICLE] [only] [table]"
+    text = "differ LIST LIST STORE CLOCK [VEHICLE] [only] [table] [first-form2] [second-form2]"
     names = "vehicle telegram version age type start differs width_1 value_1 reason_1 width_2 value_2 reason_2"
     yield from usage("differ", (4, 5), text)
     yield words + ["1", "only"], error("usage: " + text)
-    yield words[:5] + ["only", "1"], error("usage: " + text)
+    yield words[:5] + ["only", "1"], error(f"VEHICLE 'only': {MOST}")
     yield words[:5] + ["only", "table", "only"], error(f"VEHICLE 'only': {MOST}")
     yield words[:5] + ["table", "table"], error(f"VEHICLE 'table': {MOST}")
     yield words[:4] + ["only"], error(f"CLOCK 'only': {MOST}")
@@ -330,6 +389,41 @@ def differ_table():
     yield ["differ", "coach.list", "next.list", "train", CLOCK, "64"], refused("6: vehicle not 1-63")
     yield ["differ", "coach.list", "next.list", "store+1", CLOCK, "64"], refused(NO_STORE)
     yield ["differ", "broken.list", "ends.list", "store+1", CLOCK], refused("3 at 2 (first list): entry breaks its rule")
+    # either list in form 2 or both: a line has the serial numbers of those that are, both where they differ, and no * for that
+    first, second = "first-form2", "second-form2"
+    for behind in ([first, second, "only"], ["only", second, first]):
+        yield ["differ", "coach-2.list", "next-2.list", "train", CLOCK, "1", *behind], as_in("differ-form2-only")
+    yield ["differ", "coach-2.list", "next-2.list", "train", CLOCK, "1", first, second], as_in("differ-form2")
+    yield ["differ", "coach-2.list", "next-2.list", "train", CLOCK, "1", second, "table", first], as_in("differ-form2-table")
+    yield ["differ", "next-2.list", "coach.list", "train", CLOCK, "1", first, "only"], as_in("differ-form2-first")
+    yield ["differ", "coach.list", "next-2.list", "train", CLOCK, "1", "only", second], as_in("differ-form2-second")
+    for lists_2, behind, serials in (
+        (("L.form2", "L.moved"), [first, second], "(10.1R, no serial number)"), (("L.moved", "L.form2"), [first, second], "(no serial number, 10.1R)"),
+        (("L.form2", "L.form2"), [first, second], "(10.1R)"), (("L.moved", "L.moved"), [second, first], "(no serial number)"),
+        (("L.form2", "L.list"), [first], "(10.1R)"), (("L.list", "L.form2"), [second], "(10.1R)"), (("L.list", "L.moved"), [second], "(no serial number)"),
+    ):
+        column = max(45, len(f"   1  R1 octet 54 bits 0-3 {serials} 15"))
+        yield ["differ", *lists_2, "train", CLOCK, "1", *behind], says(
+            f"first  '{lists_2[0]}' signals 1 version 1\nsecond '{lists_2[1]}' signals 1 version 1\nvehicle 1: R1 version 3 age 3000 ms\n"
+            + f"   1  R1 octet 54 bits 0-3 {serials}".ljust(column - 1) + "3  0 live ok".ljust(29) + "|" + "3".rjust(16) + "  0 live ok\n"
+            "vehicle 1 differs on 0 of 1 lines\ndiffer: 0 of 1 lines")
+    numbers_2 = names + " serial_1 serial_2"
+    for lists_2, behind, serials in (
+        (("L.form2", "L.moved"), [first, second], "10.1R -"), (("L.moved", "L.form2"), [first, second], "- 10.1R"), (("L.form2", "L.list"), [first], "10.1R -"),
+        (("L.list", "L.form2"), [second], "- 10.1R"), (("L.moved", "L.list"), [first], "- -"),
+    ):
+        yield ["differ", *lists_2, "train", CLOCK, "1", "table", *behind], table(numbers_2, f"1 R1 3 3000 R1 424 0 4 3 0 4 3 0 {serials}")
+    yield ["differ", "coach-2.list", "next-2.list", "train", CLOCK, "1", "only", "table", first, second], table(
+        numbers_2, "1 R1 3 3000 R1 380 1 4 0 8 4 2 0 4.35 4.35", "1 R1 3 3000 R1 424 1 4 3 0 4 15 3 4.3 4.5", "1 R1 3 3000 R1 524 1 - - - 4 2 0 - 0xFFFF")
+    yield words[:5] + [first, first], error(f"VEHICLE '{first}': {MOST}")
+    yield words[:5] + [first, "1"], error(f"VEHICLE '{first}': {MOST}")
+    yield words + [second, first, second], error("usage: " + text)
+    yield words[:5] + ["form2"], error(f"VEHICLE 'form2': {MOST}")
+    yield words[:4] + [second], error(f"CLOCK '{second}': {MOST}")
+    yield words + [first], refused("3 at 118 (first list): entry breaks its rule")
+    yield words + [second], refused("3 at 118 (second list): entry breaks its rule")
+    yield ["differ", "coach-2.list", *words[2:]], refused("3 at 116 (first list): entry breaks its rule")
+    yield ["differ", "L.form2", "ends.form2", *words[3:], first, second], refused("1 at 38 (second list): list ends inside a count or a section")
     yield from no_list(["differ", "L.list", "L.list", "store-1", CLOCK], 1, "first LIST", " (first list)")
     yield from no_list(["differ", "L.list", "L.list", "store-1", CLOCK], 2, "second LIST", " (second list)")
     yield from no_file("STORE", words, 3)
@@ -341,10 +435,13 @@ def marshal_table():
     words = ["marshal", "coach.list", "train", CLOCK, "bus"]
     routed = bytes.fromhex("F334 2000 2800 3F FF 1B58 2800 000000000000")
     yield ["marshal", "help"], as_in("marshal-help")
-    text = "marshal LIST STORE CLOCK DATA [routes] [table] [anyway]"
+    text = "marshal LIST STORE CLOCK DATA [routes] [table] [anyway] [form2]"
     yield from usage("marshal", (4,), text)
-    for behind in (["route"], ["routes", "routes"], ["table", "table"], ["anyway", "x"], ["routes", "table", "routes"], ["routes", "anyway", "routes"]):
+    for behind in (["route"], ["routes", "routes"], ["table", "table"], ["anyway", "x"], ["routes", "table", "routes"], ["routes", "anyway", "routes"],
+                   ["form2", "form2"], ["form1"], ["routes", "form2", "table", "form2"], ["routes", "table", "anyway", "form2", "routes"]):
         yield words + behind, error("usage: " + text)
+    yield words[:4] + ["form2"], error("DATA 'form2': " + NO_FILE)
+    yield words[:4] + ["form2", "bus"], error("usage: " + text)
     yield words, says("marshalled 14 routes, 11 live", bus=routed + b"\xff\xff")
     yield words + ["routes"], as_in("marshal-routes", bus=routed + b"\xff\xff")
     for behind in (["table"], ["routes", "table"], ["table", "routes"]):
@@ -377,7 +474,7 @@ def marshal_table():
     yield words[:4] + ["gone"], Expect("error: DATA 'gone': more than 4096 octets\n", gone_dot_new=None, gone_dot_lock=None)
     yield words[:4] + ["none/x"], error("DATA 'none/x': " + NO_FILE)
     # nothing that was given by mistake is written over, and bus data of a telegram's length only where they are said to be that
-    for file in ("L.list", "next.list", "across.list", "list-40", "list-128"):
+    for file in ("L.list", "next.list", "across.list", "list-40", "list-128", "L.form2", "L.moved", "coach-2.list", "across.form2"):
         yield words[:4] + [file], error(f"DATA '{file}': {LIST}")
         yield words[:4] + [file, "anyway"], error(f"DATA '{file}': {LIST}")
     for file in ("coach.list", "train"):
@@ -390,6 +487,18 @@ def marshal_table():
     for both in (["routes", "anyway"], ["anyway", "routes"]):
         yield words + both, as_in("marshal-routes", bus=routed + b"\xff\xff")
     yield ["marshal", "across.list", "train", CLOCK, "zeros-8"], says("marshalled 2 routes, 2 live", zeros_8=b"\x08\xa2\x20" + bytes(5))
+    # in form 2: the same data, and the serial number beside the place
+    words_2 = ["marshal", "coach-2.list", *words[2:], "form2"]
+    yield words_2, says("marshalled 14 routes, 11 live", bus=routed + b"\xff\xff")
+    for behind in (["routes"], ["anyway", "routes"]):
+        yield words_2 + behind, as_in("marshal-form2", bus=routed + b"\xff\xff")
+    yield words_2 + ["table"], as_in("marshal-form2-table", bus=routed + b"\xff\xff")
+    yield ["marshal", "L.moved", "train", CLOCK, "zeros-8", "table", "form2"], table(
+        "route data_start vehicle signal type start width value reason serial", "0 0 1 0 R1 424 4 3 0 -", zeros_8=b"\x30" + bytes(7))
+    yield words + ["form2"], refused("3 at 118: entry breaks its rule")
+    yield words_2[:-1], refused("3 at 116: entry breaks its rule")
+    yield ["marshal", "ends.form2", "store-1", CLOCK, "none", "form2"], refused("1 at 38: list ends inside a count or a section")
+    yield words_2[:4] + ["bus-17", "form2"], refused("12: data shorter than a route's end: 17 octets, 18 needed")
     yield from no_list(["marshal", "L.list", "store-1", CLOCK, "none"], 1)
     yield from no_file("STORE", words, 2)
     yield from no_number("CLOCK", words, 3)
@@ -438,7 +547,7 @@ def compose_table():
     forced = bytes.fromhex("1101") + bytes(38) + b"\x20" + bytes(12) + b"\x40" + bytes(74)
     plain = bytes.fromhex("1101") + bytes(38) + b"\x10" + bytes(87)
     yield ["compose", "help"], as_in("compose-help")
-    yield from usage("compose", (4,), "compose LIST TYPE VALUES OUT")
+    yield from usage("compose", (4,), "compose LIST TYPE VALUES OUT [form2]")
     yield words, says("composed R1 version 3 octets 128", out=R1)
     yield words[:2] + ["1", "values", "r3"], says("composed R1 version 3 octets 128", r3=R1)
     yield words[:4] + ["r2"], says("composed R1 version 3 octets 128", r2=R1)
@@ -508,8 +617,143 @@ def compose_table():
     yield words[:4] + ["none/x"], error("OUT 'none/x.lock': " + NO_FILE)
     yield words[:4] + ["folder"], error("OUT 'folder': is a folder")
     yield words[:4] + [""], error("OUT '': " + NO_FILE)
+    # in form 2: the same telegram, and the serial number in a note
+    yield ["compose", "next-2.list", *words[2:], "form2"], says("composed R1 version 3 octets 128", out=R1)
+    for file, serial in (("L.form2", "10.1R"), ("L.moved", "no serial number")):
+        yield ["compose", file, "R3", "v-wide", "out", "form2"], says(
+            f"composed R3 version 1 octets 40\nnote: VALUES 'v-wide' line 1: R1 octet 54 bits 0-3 ({serial}) is not carried by R3", out=b"\x13\x01" + bytes(38))
+    yield ["compose", "L.form2", "R1", "v-place-15", "out", "form2"], refused("15 signal 0: a written value at or above 2^width, or its code not known")
+    yield ["compose", "L.form2", "R1", "v-bit", "out", "form2"], error("VALUES 'v-bit' line 1: no such signal")
+    yield ["compose", "next-2.list", "R1", "empty", "form2"], refused("3 at 116: entry breaks its rule")
+    yield words + ["form2"], refused("3 at 118: entry breaks its rule")
+    for behind in (["form2", "form2"], ["form1"], ["table"], ["form2", "x"]):
+        yield words + behind, error("usage: compose LIST TYPE VALUES OUT [form2]")
+    yield words[:4] + ["form2", "out"], error("usage: compose LIST TYPE VALUES OUT [form2]")
     yield from no_list(["compose", "L.list", "R1", "v-word", "out"], 1)
     yield from no_file("VALUES", words, 3)
+
+
+def convert_table():
+    words = ["convert", "coach.list", "form2", "out"]
+    yield ["convert", "help"], as_in("convert-help")
+    yield from usage("convert", (3,), "convert LIST FORM OUT")
+    # there, and back to the same octets
+    for name in ("coach.list", "next.list", "L.list", "across.list", "wide.list", "longest.list"):
+        moved, count = FILES[name.replace(".list", ".moved")], len(signals_of(FILES[name], 16))
+        yield ["convert", name, "form2", "out"], says(f"moved to form 2: {count} signals, {len(moved)} octets", out=moved)
+        yield ["convert", name.replace(".list", ".moved"), "form1", "out"], says(f"moved to form 1: {count} signals, {len(FILES[name])} octets", out=FILES[name])
+    for form in (1, 2):
+        yield ["convert", "zeros-8", f"form{form}", "out"], says(f"moved to form {form}: 0 signals, 8 octets", out=bytes(8))
+    # a serial number that is set, of any kind
+    for name, serial, place, count in (
+        ("coach-2.list", 4, "R3 octet 9 bit 4 (4.25)", 156), ("next-2.list", 0, "R3 octet 9 bit 0 (1.17)", 157), ("L.form2", 0, "R1 octet 54 bits 0-3 (10.1R)", 1),
+        ("numbers-0.form2", 1, "R1 octet 41 bits 2-3 (0x0001)", 255),
+    ):
+        yield ["convert", name, "form1", "out"], refused(f"32: serial number set: signal {serial}, {place}, the first of {count}")
+    yield ["convert", "L.form2", "form1", "bus"], refused("32: serial number set: signal 0, R1 octet 54 bits 0-3 (10.1R), the first of 1")
+    # a list that breaks a rule, or is in the other form
+    rule = "entry breaks its rule"
+    for name, form, line in (
+        ("ends.list", 2, "1 at 36: list ends inside a count or a section"), ("ends.moved", 1, "1 at 38: list ends inside a count or a section"),
+        ("empty", 2, "1 at 0: list ends inside a count or a section"), ("above.list", 1, "2 at 0: count above its limit"),
+        ("broken.list", 2, f"3 at 2: {rule}: check 1, octet 3 bits 1-2, rule 1: its address is odd"), ("more.list", 2, "4 at 44: octets after the routes"),
+        ("more.form2", 1, "4 at 46: octets after the routes"), ("huge.list", 2, f"4 at {len(lists.LONGEST)}: octets after the routes"),
+        ("L.list", 1, "4 at 28: octets after the routes"), ("L.form2", 2, "2 at 22: count above its limit"),
+        ("L.moved", 2, f"3 at 26: {rule}: route 0 of signal 0, R1 octet 54 bits 0-3, rule 2: vehicle not 1-63"),
+        ("coach-2.list", 2, f"3 at 116: {rule}: signal 1, type 65 octet 1 bit 0, rule 1: width not 1-64"),
+    ):
+        yield ["convert", name, f"form{form}", "out"], refused(line)
+    for word in ("form3", "form", "2", "", "FORM2", "first-form2", "form2 "):
+        yield ["convert", "none", word, "out"], error(f"FORM '{word}': neither form1 nor form2")
+    for out in ("coach.list", "bus", "empty", "folder", "locked"):
+        yield words[:3] + [out], error(f"OUT '{out}': exists already")
+    yield words[:3] + ["none/x"], error("OUT 'none/x.lock': " + NO_FILE)
+    yield words[:3] + ["r1/x"], error("OUT 'r1/x': not in a folder")
+    yield words[:3] + [""], error("OUT '': " + NO_FILE)
+    yield words[:3] + ["a" * 252], error("OUT '" + "a" * 100 + "...lock': " + TOO_LONG)
+    yield from no_file("LIST", words, 1)
+
+
+# words that give the same answer in both forms, with their lists as NAME.form2 and the words that say so
+SAME = [
+    ["believe", "coach.list", "train", CLOCK], ["believe", "next.list", "train", CLOCK, "table"], ["believe", "coach.list", "train", "6000", "3"],
+    ["believe", "across.list", "parked", CLOCK], ["believe", "wide.list", "wide-heard", CLOCK], ["believe", "wide.list", "wide-heard", CLOCK, "1", "table"],
+    ["believe", "long.list", "store", CLOCK, "1"], ["believe", "L.list", "full", CLOCK], ["believe", "coach.list", "train", CLOCK, "1", "94"],
+    ["believe", "longest.list", "full", CLOCK, "7"], ["believe", "coach.list", "train", CLOCK, "64"],
+    ["differ", "coach.list", "next.list", "train", CLOCK], ["differ", "coach.list", "next.list", "train", CLOCK, "only"],
+    ["differ", "coach.list", "next.list", "train", CLOCK, "1", "table"], ["differ", "across.list", "across-2.list", "train", "12000"],
+    ["differ", "wide.list", "wide-2.list", "wide-heard", CLOCK], ["differ", "L.list", "wide.list", "wide-heard", CLOCK, "1"],
+    ["marshal", "coach.list", "train", CLOCK, "bus", "routes"], ["marshal", "next.list", "train", CLOCK, "bus", "table"],
+    ["marshal", "wide.list", "wide-heard", CLOCK, "bus-256", "routes"], ["marshal", "longest.list", "full", CLOCK, "bus-4096"],
+    ["marshal", "long.list", "store", CLOCK, "bus-256", "routes"], ["marshal", "L.list", "full", CLOCK, "empty"],
+    ["compose", "next.list", "R1", "values", "out"], ["compose", "L.list", "R1", "v-L", "out"], ["compose", "L.list", "R2", "v-place-last", "out"],
+    ["compose", "across.list", "R1", "v-three", "out"], ["compose", "wide.list", "R1", "v-64", "out"], ["compose", "coach.list", "R1", "v-zero", "out"],
+    ["compose", "L.list", "R1", "v-check-beside", "out"], ["compose", "L.list", "R1", "v-mark", "out"],
+]
+NUMBER = r"(?:no serial number|0x[0-9A-F]{4}|\d+\.\d+[A-Z]?(?:/\d)?[de]?)"
+
+
+def plain(text):
+    """What is printed, without serial numbers and without the spaces that put values into a column."""
+    names = text.split("\n")[0].split("\t")
+    if len(names) > 1:
+        kept = sum(not name.startswith("serial") for name in names)
+        return [line.split("\t")[:kept] for line in text.splitlines()]
+    text = re.sub(rf" \({NUMBER}(?:, {NUMBER})?\)", "", text).replace(".form2'", ".list'")
+    return re.sub(" +", " ", text).splitlines()
+
+
+def answer(folder, words):
+    """What a run answers: its words without serial numbers, its status, and the files that it changed, which are put back."""
+    before = held(folder)
+    out, trouble, status = run(folder, words)
+    changed = {name: octets for name, octets in held(folder).items() if before.get(name) != octets}
+    put_back(folder, before)
+    return plain(out + trouble), status, changed
+
+
+def in_form_2(words):
+    """The same words with each list that they name in form 2, one by one and together."""
+    at = (1, 2) if words[0] == "differ" else (1,)
+    options = ("first-form2", "second-form2") if words[0] == "differ" else ("form2",)
+    for chosen in itertools.chain.from_iterable(itertools.combinations(range(len(at)), k) for k in range(1, len(at) + 1)):
+        moved = list(words)
+        for k in chosen:
+            moved[at[k]] = moved[at[k]].replace(".list", ".form2")
+        yield moved + [options[k] for k in chosen]
+
+
+def other_in_form_2(folder):
+    """Runs of which the answer is another one in form 2; and how many were made."""
+    count, others = 0, []
+    for words in SAME:
+        expected = answer(folder, words)
+        for moved in in_form_2(words):
+            count += 1
+            if answer(folder, moved) != expected:
+                others.append((moved, "another answer than in form 1"))
+    return count, others
+
+
+def numbers_of_a():
+    """The serial number of Appendix A of each signal, by telegram and start, out of signals.csv alone."""
+    with open(os.path.join(ROOT, "data", "signals.csv"), newline="") as f:
+        return {(row["telegram"], row["start"]): row["serial_of_A"] or "-" for row in csv.DictReader(f)}
+
+
+def column_of(folder, file):
+    """The column `serial` of what is believed of vehicle 1 under a list in form 2."""
+    lines = [line.split("\t") for line in run(folder, ["believe", file, "store", CLOCK, "1", "table", "form2"])[0].splitlines()]
+    return {(line[5], line[6]): line[10] for line in lines[1:]}
+
+
+def badly_numbered(folder):
+    if column_of(folder, "coach-2.list") != numbers_of_a():
+        yield "coach-2.list", "other serial numbers than signals.csv has"
+    for k, part in enumerate(PARTS):
+        expected = ["-" if number == 0 else lists.printed(number) for number in part]
+        if list(column_of(folder, f"numbers-{k}.form2").values()) != expected:
+            yield f"numbers-{k}.form2", "serial numbers printed otherwise"
 
 
 def fill(folder):
@@ -567,6 +811,12 @@ PAGED = [
 ]
 
 
+ONE_LINE = [
+    ["take", "store", "64", "1", "r1"], ["sweep", "store-1", "1"], ["judge", "broken.list"], ["differ", "L.list", "broken.list", "train", CLOCK], ["believe", "none", "train", CLOCK],
+    ["convert", "coach-2.list", "form1", "out"],
+]
+
+
 def badly_paged(folder):
     for words, file in PAGED:
         found = pages(folder, words)
@@ -575,7 +825,7 @@ def badly_paged(folder):
                 yield words, "other octets, page by page"
         if len(found) > 1 + sum(map(len, found)) // 3856 or any(not page.endswith(b"\n") for page in found):
             yield words, f"{len(found)} writes"
-    for words in (["take", "store", "64", "1", "r1"], ["sweep", "store-1", "1"], ["judge", "broken.list"], ["differ", "L.list", "broken.list", "train", CLOCK], ["believe", "none", "train", CLOCK]):
+    for words in ONE_LINE:
         if len(pages(folder, words)) != 1:
             yield words, "a line in more than one write"
 
@@ -636,7 +886,7 @@ def main():
     folder = tempfile.mkdtemp()
     try:
         fill(folder)
-        tables = [row for table in (take_table, sweep_table, believe_table, differ_table, marshal_table, compose_table) for row in table()]
+        tables = [row for table in (take_table, sweep_table, believe_table, differ_table, marshal_table, compose_table, convert_table) for row in table()]
         failing = [
             (["take", "store", "1", "5000", "r1"], error("STORE 'store.new': cannot be written")),
             (["take", "new", "made"], error("STORE 'made.new': cannot be written")),
@@ -644,15 +894,21 @@ def main():
             (["marshal", "L.list", "train", CLOCK, "bus-4096"], error("DATA 'bus-4096.new': cannot be written")),
             (["compose", "L.list", "R1", "v-L", "out"], error("OUT 'out.new': cannot be written")),
             (["compose", "L.list", "R1", "v-L", "r3"], error("OUT 'r3.new': cannot be written")),
+            (["convert", "coach.list", "form2", "out"], error("OUT 'out.new': cannot be written")),
         ]
         for words, expect, before in [(w, e, None) for w, e in tables] + [(w, e, small_files) for w, e in failing]:
             count += 1
             for what in wrong(folder, words, expect, write, before):
                 print(f"{' '.join(words)!r}: {what[:2000]}")
                 bad += 1
-        count += len(PAGED) + 5
-        for words, what in badly_paged(folder):
+        same, others = other_in_form_2(folder)
+        numbered = list(badly_numbered(folder))
+        count += len(PAGED) + len(ONE_LINE) + same + 1 + len(PARTS)
+        for words, what in itertools.chain(badly_paged(folder), others):
             print(f"{' '.join(words)!r}: {what}")
+            bad += 1
+        for file, what in numbered:
+            print(f"{file}: {what}")
             bad += 1
     finally:
         shutil.rmtree(folder)

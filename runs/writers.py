@@ -25,6 +25,7 @@ TAKE = ["take", "store", "1", "5000", "r1"]
 SWEEP = ["sweep", "full", "700000"]
 MARSHAL = ["marshal", "coach.list", "train", "9000", "bus"]
 COMPOSE = ["compose", "next.list", "R1", "values", "out"]
+CONVERT = ["convert", "L.list", "form2", "moved"]
 STORE_1 = slots.taken(NEW, 1, 5000, R1)
 SWEPT = slots.expired(programs.FULL, *range(1, slots.VEHICLES + 1))
 BUS = bytes.fromhex("F334 2000 2800 3F FF 1B58 2800 000000000000 FFFF")
@@ -152,7 +153,10 @@ def link_to_nothing(f):
     os.symlink("made-2", f.at("new-2"))
     f.says(instead(COMPOSE, 4, "new-2"), "composed R1 version 3 octets 128")
     f.holds("made-2", R1)
-    f.expect("links", ["made", "made-2"], [os.readlink(f.at(n)) for n in ("new", "new-2")])
+    os.symlink("made-3", f.at("new-3"))
+    f.says(instead(CONVERT, 3, "new-3"), "moved to form 2: 1 signals, 46 octets")
+    f.holds("made-3", lists.in_form_2(lists.L))
+    f.expect("links", ["made", "made-2", "made-3"], [os.readlink(f.at(n)) for n in ("new", "new-2", "new-3")])
     os.symlink("round", f.at("round"))
     f.says(*error(TAKE, 1, "STORE", "too many links", "round"))
 
@@ -234,6 +238,27 @@ def killed_new(f):
     f.has_left()
 
 
+def killed_convert(f):
+    """A moved list is made whole or not at all."""
+    words = ["convert", "coach.list", "form2", "moved"]
+    f.run(words, dies)
+    f.expect("moved", False, os.path.exists(f.at("moved")))
+    f.says(words, "moved to form 2: 165 signals, 3404 octets")
+    f.holds("moved", lists.in_form_2(programs.FILES["coach.list"]))
+    f.has_left()
+
+
+def not_over_a_list(f):
+    """The list that is moved stays, by its name, another path and a link, and whatever else is there."""
+    os.mkdir(f.at("folder"))
+    os.symlink("L.list", f.at("link"))
+    for out in ("L.list", "folder/../L.list", "link", "store", "folder"):
+        f.says(instead(CONVERT, 3, out), f"error: OUT '{out}': exists already")
+    f.holds("L.list", lists.L)
+    f.holds("store", NEW)
+    f.has_left()
+
+
 def others_new(f):
     """A file of that name that no writer left is not taken away."""
     f.write("store.new", lists.L)
@@ -307,8 +332,8 @@ def at_once_behind_a_killed_one(f):
 
 ROOTS = [owner_not_kept]
 ALONE = [at_once, swept_at_once, at_once_behind_a_killed_one]
-CASES = [mode_and_owner, read_only, links, link_to_nothing, two_names, no_plain_file, given_twice, killed, killed_sweep, killed_new, others_new, lock_without_process,
-         lock_of_another_machine, lock_half_freed, held]
+CASES = [mode_and_owner, read_only, links, link_to_nothing, two_names, no_plain_file, given_twice, killed, killed_sweep, killed_new, killed_convert,
+         not_over_a_list, others_new, lock_without_process, lock_of_another_machine, lock_half_freed, held]
 
 
 def nobody_can_run():

@@ -110,6 +110,7 @@ counted() {
 
 page() {
     need python3 python3
+    mkdir -p "$room"
     timed >"$room/times.md"
     counted >"$room/counts.md"
     python3 rust/bench/page.py times <"$room/times.md"

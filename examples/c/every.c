@@ -1,4 +1,4 @@
-/* Every call of the header once, on an input whose answer document 01 gives: the header fits the library. Says which call is wrong. */
+/* Every call of the header once, on an input whose answer documents 01 and 02 give: the header fits the library. Says which call is wrong. */
 #include <stdio.h>
 #include <string.h>
 
@@ -20,25 +20,82 @@ static void expect(const char *call, int right)
 
 static void lists(void)
 {
-    df_judged j = df_judge(L, sizeof L);
+    df_judged j = df_judge(L, sizeof L, DF_FORM_1);
     expect("df_judge", !j.refusal && !j.carried && j.checks == 1 && j.signals == 1 && j.codes == 2 && j.routes == 1 && j.version == 1);
-    j = df_judge(L, sizeof L - 1);
+    j = df_judge(L, sizeof L - 1, DF_FORM_1);
     expect("df_judge", j.refusal == 1 && j.carried == 36 && !j.checks && !j.signals && !j.codes && !j.routes && !j.version);
-    df_extending e = df_extends(L, sizeof L, L, sizeof L);
+    df_extending e = df_extends(L, sizeof L, DF_FORM_1, L, sizeof L, DF_FORM_1);
     expect("df_extends", !e.refusal && !e.which && !e.carried && e.extends == 1);
-    e = df_extends(L, sizeof L, L, sizeof L - 1);
+    e = df_extends(L, sizeof L, DF_FORM_1, L, sizeof L - 1, DF_FORM_1);
     expect("df_extends", e.refusal == 1 && e.which == 2 && e.carried == 36 && !e.extends);
-    df_entry t = df_signal_entry(L, sizeof L, 0);
+    df_entry t = df_signal_entry(L, sizeof L, DF_FORM_1, 0);
     expect("df_signal_entry", !t.refusal && !t.carried && t.start == 8 * 53 && t.width == 4 && t.type == 1 && t.check == 1 && t.since == 1);
     expect("df_signal_entry", t.limit == 5000 && !t.replacement && t.place == 8 * 40 + 2);
-    t = df_signal_entry(L, sizeof L, 1);
+    t = df_signal_entry(L, sizeof L, DF_FORM_1, 1);
     expect("df_signal_entry", t.refusal == DF_REFUSAL_NO_SUCH_SIGNAL && !t.carried && !t.start && !t.width && !t.limit && !t.place);
-    df_found f = df_find_signal(L, sizeof L, 1, 8 * 53);
+    df_found f = df_find_signal(L, sizeof L, DF_FORM_1, 1, 8 * 53);
     expect("df_find_signal", !f.refusal && !f.carried && !f.signal);
-    f = df_find_signal(L, sizeof L - 1, 1, 8 * 53);
+    f = df_find_signal(L, sizeof L - 1, DF_FORM_1, 1, 8 * 53);
     expect("df_find_signal", f.refusal == DF_REFUSAL_LIST_ENDS && f.carried == 36 && !f.signal);
     df_place p = df_check_place(8 * 61 + 4);
     expect("df_check_place", !p.refusal && p.place == 8 * 41 + 2);
+}
+
+/* L in form 2: two octets more behind its signal, in which 4.3 stands as 0x40C0 */
+static void forms(void)
+{
+    uint8_t wide[sizeof L + 2], back[sizeof L], before[sizeof L] = {0};
+    df_outcome o = df_to_form_2(L, sizeof L, wide, sizeof wide);
+    expect("df_to_form_2", !o.refusal && !o.carried && !memcmp(wide, L, 22) && !wide[22] && !wide[23] && !memcmp(wide + 24, L + 22, 22));
+    o = df_to_form_2(L, sizeof L, wide, sizeof wide - 1);
+    expect("df_to_form_2", o.refusal == DF_REFUSAL_FORM_OUTPUT && !o.carried);
+    o = df_to_form_1(wide, sizeof wide, back, sizeof back);
+    expect("df_to_form_1", !o.refusal && !o.carried && !memcmp(back, L, sizeof L));
+    wide[22] = 0x40, wide[23] = 0xC0;
+    memset(back, 0, sizeof back);
+    o = df_to_form_1(wide, sizeof wide, back, sizeof back - 1);
+    expect("df_to_form_1", o.refusal == DF_REFUSAL_SERIAL_SET && !o.carried && !memcmp(back, before, sizeof back));
+    df_serial_number s = df_serial(wide, sizeof wide, DF_FORM_2, 0);
+    expect("df_serial", !s.refusal && !s.carried && s.serial == 0x40C0);
+    s = df_serial(wide, sizeof wide, DF_FORM_2, 1);
+    expect("df_serial", s.refusal == DF_REFUSAL_NO_SUCH_SIGNAL && !s.carried && !s.serial);
+    s = df_serial(L, sizeof L, DF_FORM_1, 0);
+    expect("df_serial", !s.refusal && !s.carried && !s.serial);
+    df_judged j = df_judge(wide, sizeof wide, DF_FORM_2);
+    expect("df_judge, form 2", !j.refusal && j.checks == 1 && j.signals == 1 && j.codes == 2 && j.routes == 1 && j.version == 1);
+    j = df_judge(wide, sizeof wide - 1, DF_FORM_2);
+    expect("df_judge, form 2", j.refusal == DF_REFUSAL_LIST_ENDS && j.carried == 38);
+    /* any number but 2 is form 1, in which the serial number stands where the codes' count does */
+    j = df_judge(L, sizeof L, 0);
+    expect("df_judge, form 0", !j.refusal && j.signals == 1);
+    j = df_judge(wide, sizeof wide, 3);
+    expect("df_judge, form 3", j.refusal == DF_REFUSAL_COUNT_ABOVE && j.carried == 22);
+    df_extending e = df_extends(L, sizeof L, DF_FORM_1, wide, sizeof wide, DF_FORM_2);
+    expect("df_extends, both forms", !e.refusal && e.extends == 1);
+    e = df_extends(wide, sizeof wide, DF_FORM_2, wide, sizeof wide, DF_FORM_1);
+    expect("df_extends, both forms", e.refusal == DF_REFUSAL_COUNT_ABOVE && e.which == 2 && e.carried == 22);
+}
+
+/* The same answers under L in form 2. */
+static void in_form_2(void)
+{
+    static uint8_t store[DF_STORE_OCTETS];
+    uint8_t wide[sizeof L + 2], out[128], data[1] = {0xAB};
+    static const uint64_t value = 4;
+    static const uint8_t ok = 1;
+    df_outcome o = df_to_form_2(L, sizeof L, wide, sizeof wide);
+    wide[22] = 0x40, wide[23] = 0xC0;
+    df_entry t = df_signal_entry(wide, sizeof wide, DF_FORM_2, 0);
+    expect("df_signal_entry, form 2", !o.refusal && !t.refusal && t.start == 8 * 53 && t.limit == 5000 && t.place == 8 * 40 + 2);
+    df_found f = df_find_signal(wide, sizeof wide, DF_FORM_2, 1, 8 * 53);
+    expect("df_find_signal, form 2", !f.refusal && !f.signal);
+    o = df_compose(wide, sizeof wide, DF_FORM_2, 1, &value, 1, &ok, 1, out, sizeof out);
+    expect("df_compose, form 2", !o.refusal && out[0] == 0x11 && out[40] == 0x10 && out[53] == 0x40);
+    o = df_take(store, sizeof store, 1, 1000, out, sizeof out);
+    df_reading r = df_read(wide, sizeof wide, DF_FORM_2, store, sizeof store, 6000, 1, 0);
+    expect("df_read, form 2", !o.refusal && !r.refusal && r.reason == 0 && r.value == 4);
+    df_marshalled m = df_marshal(wide, sizeof wide, DF_FORM_2, store, sizeof store, 6000, data, sizeof data);
+    expect("df_marshal, form 2", !m.refusal && m.lives == 1 && data[0] == 0x4B);
 }
 
 static void telegrams(void)
@@ -47,24 +104,24 @@ static void telegrams(void)
     uint8_t out[128], data[1] = {0xAB};
     uint64_t values[1] = {4};
     uint8_t marks[1] = {1};
-    df_outcome o = df_compose(L, sizeof L, 1, values, 1, marks, 1, out, sizeof out);
+    df_outcome o = df_compose(L, sizeof L, DF_FORM_1, 1, values, 1, marks, 1, out, sizeof out);
     expect("df_compose", !o.refusal && !o.carried && out[0] == 0x11 && out[1] == 1 && out[40] == 0x10 && out[53] == 0x40);
     values[0] = 7;
-    o = df_compose(L, sizeof L, 1, values, 1, marks, 1, out, sizeof out);
+    o = df_compose(L, sizeof L, DF_FORM_1, 1, values, 1, marks, 1, out, sizeof out);
     expect("df_compose", o.refusal == 15 && o.carried == 0 && out[53] == 0x40);
-    df_reading r = df_read(L, sizeof L, store, sizeof store, 6000, 1, 0);
+    df_reading r = df_read(L, sizeof L, DF_FORM_1, store, sizeof store, 6000, 1, 0);
     expect("df_read", !r.refusal && r.reason == 2 && !r.carried && r.value == 0);
     o = df_take(store, sizeof store, 1, 1000, out, sizeof out);
     expect("df_take", !o.refusal && !o.carried && memcmp(store, before, sizeof store) != 0);
     /* what was taken, and when: the value is live for 5,000 ms */
-    r = df_read(L, sizeof L, store, sizeof store, 6000, 1, 0);
+    r = df_read(L, sizeof L, DF_FORM_1, store, sizeof store, 6000, 1, 0);
     expect("df_read after df_take", !r.refusal && r.reason == 0 && !r.carried && r.value == 4);
-    r = df_read(L, sizeof L, store, sizeof store, 6001, 1, 0);
+    r = df_read(L, sizeof L, DF_FORM_1, store, sizeof store, 6001, 1, 0);
     expect("df_read after df_take", !r.refusal && r.reason == 3 && !r.carried && r.value == 0);
     memcpy(before, store, sizeof store);
     o = df_take(store, sizeof store - 1, 1, 2000, out, sizeof out);
     expect("df_take", o.refusal == 5 && !o.carried && memcmp(store, before, sizeof store) == 0);
-    df_marshalled m = df_marshal(L, sizeof L, store, sizeof store, 6000, data, sizeof data);
+    df_marshalled m = df_marshal(L, sizeof L, DF_FORM_1, store, sizeof store, 6000, data, sizeof data);
     expect("df_marshal", !m.refusal && !m.carried && m.lives == 1 && data[0] == 0x4B);
 }
 
@@ -75,22 +132,22 @@ static void parked(void)
     static const uint64_t value = 4;
     static const uint8_t ok = 1;
     uint8_t out[128];
-    df_compose(L, sizeof L, 1, &value, 1, &ok, 1, out, sizeof out);
+    df_compose(L, sizeof L, DF_FORM_1, 1, &value, 1, &ok, 1, out, sizeof out);
     df_take(store, sizeof store, 1, 1000, out, sizeof out);
     memcpy(before, store, sizeof store);
     df_outcome o = df_sweep(store, sizeof store - 1, 601001);
     expect("df_sweep", o.refusal == DF_REFUSAL_STORE_LENGTH && !o.carried && memcmp(store, before, sizeof store) == 0);
     o = df_sweep(store, sizeof store, 601000);
     expect("df_sweep", !o.refusal && !o.carried && memcmp(store, before, sizeof store) == 0);
-    df_reading r = df_read(L, sizeof L, store, sizeof store, 2000, 1, 0);
+    df_reading r = df_read(L, sizeof L, DF_FORM_1, store, sizeof store, 2000, 1, 0);
     expect("df_read, unswept", !r.refusal && r.reason == 0 && r.value == 4);
     o = df_sweep(store, sizeof store, 601001);
     before[0] = 2;
     expect("df_sweep", !o.refusal && !o.carried && memcmp(store, before, sizeof store) == 0);
-    r = df_read(L, sizeof L, store, sizeof store, 2000, 1, 0);
+    r = df_read(L, sizeof L, DF_FORM_1, store, sizeof store, 2000, 1, 0);
     expect("df_read after df_sweep", !r.refusal && r.reason == DF_REASON_TOO_OLD && !r.carried && r.value == 0);
     o = df_take(store, sizeof store, 1, 2000, out, sizeof out);
-    r = df_read(L, sizeof L, store, sizeof store, 2000, 1, 0);
+    r = df_read(L, sizeof L, DF_FORM_1, store, sizeof store, 2000, 1, 0);
     expect("df_take after df_sweep", !o.refusal && !r.refusal && r.reason == 0 && r.value == 4);
 }
 
@@ -104,15 +161,15 @@ static void wide_fields(void)
     uint8_t out[128], data[9];
     uint64_t value = UINT64_MAX;
     memset(data, 0xFF, sizeof data);
-    df_marshalled m = df_marshal(W, sizeof W, store, sizeof store, 0, data, sizeof data);
+    df_marshalled m = df_marshal(W, sizeof W, DF_FORM_1, store, sizeof store, 0, data, sizeof data);
     expect("df_marshal, 64 bits", !m.refusal && !m.lives && memcmp(data, replaced, sizeof data) == 0);
-    df_outcome o = df_compose(W, sizeof W, 1, &value, 1, W, 0, out, sizeof out);
+    df_outcome o = df_compose(W, sizeof W, DF_FORM_1, 1, &value, 1, W, 0, out, sizeof out);
     expect("df_compose, 64 bits", !o.refusal && out[52] == 0 && out[53] == 0x7F && out[54] == 0xFF && out[61] == 0x80 && out[62] == 0);
     o = df_take(store, sizeof store, 1, 0, out, sizeof out);
-    df_reading r = df_read(W, sizeof W, store, sizeof store, 0, 1, 0);
+    df_reading r = df_read(W, sizeof W, DF_FORM_1, store, sizeof store, 0, 1, 0);
     expect("df_read, 64 bits", !o.refusal && !r.refusal && r.reason == 0 && r.value == UINT64_MAX);
     memset(data, 0, sizeof data);
-    m = df_marshal(W, sizeof W, store, sizeof store, 0, data, sizeof data);
+    m = df_marshal(W, sizeof W, DF_FORM_1, store, sizeof store, 0, data, sizeof data);
     expect("df_marshal, 64 bits", !m.refusal && m.lives == 1 && data[0] == 0x0F && data[1] == 0xFF && data[8] == 0xF0);
 }
 
@@ -150,6 +207,7 @@ static void texts(void)
 {
     expect("df_refusal_text", !strcmp(df_refusal_text(DF_REFUSAL_LIST_ENDS), "list ends inside a count or a section"));
     expect("df_refusal_text", !strcmp(df_refusal_text(27), "no check place in the table") && DF_REFUSAL_NO_CHECK_PLACE == 27);
+    expect("df_refusal_text", !strcmp(df_refusal_text(33), "output not of the needed length") && DF_REFUSAL_FORM_OUTPUT == 33);
     expect("df_refusal_text", !strcmp(df_refusal_text(DF_NOT_REFUSED), "not refused") && df_refusal_text(UINT32_MAX));
     expect("df_reason_text", !strcmp(df_reason_text(DF_REASON_LIVE_OK), "live ok") && df_reason_text(UINT32_MAX));
     expect("df_reason_text", !strcmp(df_reason_text(8), "code not known") && DF_REASON_CODE_NOT_KNOWN == 8);
@@ -158,6 +216,8 @@ static void texts(void)
 int main(void)
 {
     lists();
+    forms();
+    in_form_2();
     telegrams();
     parked();
     wide_fields();

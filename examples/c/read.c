@@ -25,7 +25,7 @@ static int refused(uint32_t refusal, uint64_t carried)
 
 static int print_reading(uint32_t clock, uint64_t signal)
 {
-    df_reading r = df_read(list, sizeof list, store, sizeof store, clock, 1, signal);
+    df_reading r = df_read(list, sizeof list, DF_FORM_1, store, sizeof store, clock, 1, signal);
     if (refused(r.refusal, r.carried))
         return 1;
     printf("value %" PRIu64 " reason %" PRIu32 " %s\n", r.value, r.reason, df_reason_text(r.reason));
@@ -38,7 +38,7 @@ int main(void)
     telegram[41 - 1] = 0x10;             /* the check of 4.3: ok */
     telegram[54 - 1] = 0x40;             /* 4.3: 4 */
 
-    df_judged j = df_judge(list, sizeof list);
+    df_judged j = df_judge(list, sizeof list, DF_FORM_1);
     if (refused(j.refusal, j.carried))
         return 1;
     printf("list ok checks=%" PRIu64 " signals=%" PRIu64 " codes=%" PRIu64 " routes=%" PRIu64 " version=%" PRIu64 "\n",
@@ -49,7 +49,7 @@ int main(void)
         return 1;
 
     /* The signal by its place: R1 octet 54 bit 0. */
-    df_found voltage = df_find_signal(list, sizeof list, 1, 8 * (54 - 1));
+    df_found voltage = df_find_signal(list, sizeof list, DF_FORM_1, 1, 8 * (54 - 1));
     if (refused(voltage.refusal, voltage.carried))
         return 1;
 
@@ -59,13 +59,13 @@ int main(void)
 
     /* The route writes its four bits and leaves the others. */
     uint8_t data[] = { 0xAB };
-    df_marshalled m = df_marshal(list, sizeof list, store, sizeof store, 6000, data, sizeof data);
+    df_marshalled m = df_marshal(list, sizeof list, DF_FORM_1, store, sizeof store, 6000, data, sizeof data);
     if (refused(m.refusal, m.carried))
         return 1;
     printf("data %02X live %" PRIu64 "\n", data[0], m.lives);
 
     /* A list that lacks its last octet is refused, and the refusal says where. */
-    df_judged cut = df_judge(list, sizeof list - 1);
+    df_judged cut = df_judge(list, sizeof list - 1, DF_FORM_1);
     refused(cut.refusal, cut.carried);
     return cut.refusal != DF_REFUSAL_LIST_ENDS;
 }

@@ -22,6 +22,7 @@ struct Asked {
     vehicle: usize,
     signal: usize,
     table: bool,
+    form: u8,
     // where the values of the lines end
     column: usize,
 }
@@ -29,7 +30,7 @@ struct Asked {
 fn help() {
     io::write_all(
         STDOUT_FILENO,
-        b"believe LIST STORE CLOCK [VEHICLE [SIGNAL]] [table]
+        b"believe LIST STORE CLOCK [VEHICLE [SIGNAL]] [table] [form2]
 
 What a gateway with the signal list LIST believes at CLOCK of the vehicles in
 STORE: of all that were heard, of one, or of one signal of it, counted from 0.
@@ -51,24 +52,36 @@ With the word `table` it prints a line of names, then a line for each signal,
 each of ten columns with a tab between: vehicle, its telegram, version and age
 (or `expired`; a dash each where it was never heard), signal, type, start,
 width, value, reason.
+With the word `form2` LIST is in form 2: each PLACE has the serial number of the
+signal behind it, as `(4.3)` or `(no serial number)`, and the table an eleventh
+column, serial, with a dash for none. `convert help` says how one is printed.
 Bad input gets one line that begins with `refused` and the number of document
 01, or with `error`.
 ",
     );
 }
 
-fn print_row(page: &mut Page, store: &[u8], asked: Asked, k: usize, s: Signal, r: Reading) {
+fn print_row(
+    page: &mut Page,
+    store: &[u8],
+    asked: Asked,
+    k: usize,
+    s: Signal,
+    serial: usize,
+    r: Reading,
+) {
     let l = words::say_head(saying::empty(), store, asked.clock, asked.vehicle);
     let l = saying::put(saying::say_tab(l, k as u64), b'\t');
     let l = saying::say_tab(words::say_telegram(l, s.kind), s.start as u64);
     let l = saying::say_tab(saying::say_tab(l, s.width as u64), r.value);
-    saying::add(page, saying::say_tab(l, r.reason as u64));
+    let l = saying::say_tab(l, r.reason as u64);
+    saying::add(page, words::say_serial_tab(l, asked.form, serial));
 }
 
-fn print_signal(page: &mut Page, asked: Asked, k: usize, s: Signal, r: Reading) {
+fn print_signal(page: &mut Page, asked: Asked, k: usize, s: Signal, serial: usize, r: Reading) {
     let l = saying::say_right(saying::empty(), 2, asked.vehicle as u64);
     let l = saying::say(saying::say_right(l, 7, k as u64), b"  ");
-    let l = words::say_place(l, s.kind, s.start, s.width);
+    let l = words::say_signal(l, asked.form, s, serial);
     let l = saying::say(saying::say_right(l, asked.column, r.value), b"  ");
     saying::add(page, words::say_reason(l, r.reason));
 }
@@ -82,15 +95,16 @@ fn one_signal(
     e: Entry,
     totals: Totals,
 ) -> Totals {
-    let read = gateway::read(list, store, asked.clock, asked.vehicle, k);
+    let read = gateway::read(list, asked.form, store, asked.clock, asked.vehicle, k);
     let ReadOutcome::Read(r) = read else {
         return totals;
     };
     let s = e.signal;
+    let serial = words::serial_at(list, asked.form, k);
     if asked.table {
-        print_row(page, store, asked, k, s, r);
+        print_row(page, store, asked, k, s, serial, r);
     } else {
-        print_signal(page, asked, k, s, r);
+        print_signal(page, asked, k, s, serial, r);
     }
     words::count_reason(totals, r.reason)
 }
@@ -113,7 +127,7 @@ fn one_vehicle(
     let mut t = totals;
     let mut k = 0;
     while k < signals {
-        let entry = gateway::signal_entry(list, k);
+        let entry = gateway::signal_entry(list, asked.form, k);
         if let EntryOutcome::Entry(e) = entry {
             t = one_signal(page, list, store, asked, k, e, t);
         }
@@ -129,6 +143,7 @@ fn of_vehicle(asked: Asked, vehicle: usize) -> Asked {
         vehicle,
         signal: asked.signal,
         table: asked.table,
+        form: asked.form,
         column: asked.column,
     }
 }
@@ -140,6 +155,7 @@ fn in_column(asked: Asked, column: usize) -> Asked {
         vehicle: asked.vehicle,
         signal: asked.signal,
         table: asked.table,
+        form: asked.form,
         column,
     }
 }
@@ -173,18 +189,16 @@ fn print_totals(page: &mut Page, asked: Asked, totals: Totals) {
 
 fn print_names(page: &mut Page, asked: Asked) {
     if asked.table {
-        saying::add(
-            page,
-            saying::say(
-                saying::empty(),
-                b"vehicle\ttelegram\tversion\tage\tsignal\ttype\tstart\twidth\tvalue\treason",
-            ),
+        let l = saying::say(
+            saying::empty(),
+            b"vehicle\ttelegram\tversion\tage\tsignal\ttype\tstart\twidth\tvalue\treason",
         );
+        saying::add(page, words::say_serial_name(l, asked.form, b"serial"));
     }
 }
 
 fn print_one(list: &[u8], store: &[u8], asked: Asked) {
-    let entry = gateway::signal_entry(list, asked.signal);
+    let entry = gateway::signal_entry(list, asked.form, asked.signal);
     match entry {
         EntryOutcome::Refused(f) => words::print_refused(f),
         EntryOutcome::Entry(e) => {
@@ -214,7 +228,7 @@ fn print_all(list: &[u8], signals: usize, store: &[u8], asked: Asked) {
 
 // Refused as a reading is: 1 to 4, then 5, 6 and 11.
 fn judge(list: &[u8], store: &[u8], asked: Asked) {
-    let judged = gateway::judge(list);
+    let judged = gateway::judge(list, asked.form);
     match judged {
         Judged::Refused(f) => words::print_refused(f),
         Judged::Accepted(n) => {
@@ -223,7 +237,7 @@ fn judge(list: &[u8], store: &[u8], asked: Asked) {
                 words::print_refused(f);
                 return;
             }
-            let column = words::value_column(list, n.signals, 9, true, 48);
+            let column = words::value_column(list, asked.form, n.signals, 9, true, 48);
             if asked.words == 5 {
                 print_one(list, store, in_column(asked, column));
             } else {
@@ -249,7 +263,7 @@ fn read_files(asked: Asked) {
     judge(&list[..n], &store[..m], asked);
 }
 
-fn ask(words: usize, table: bool) {
+fn ask(words: usize, table: bool, form: u8) {
     let Clock::At(clock) = saying::clock_argument(3) else {
         return;
     };
@@ -265,6 +279,7 @@ fn ask(words: usize, table: bool) {
         vehicle: vehicle as usize,
         signal: signal as usize,
         table,
+        form,
         column: 0,
     });
 }
@@ -275,14 +290,13 @@ fn main() {
         help();
         return;
     }
-    if n < 4 {
-        saying::print_usage(b"believe LIST STORE CLOCK [VEHICLE [SIGNAL]] [table]");
+    let table = saying::has_option(4, n, b"table");
+    let is_form_2 = saying::has_option(4, n, b"form2");
+    let options = saying::one_if(table) + saying::one_if(is_form_2);
+    let words = saying::words_before(n, options);
+    if (3 <= words) & (words <= 5) {
+        ask(words, table, words::form_of(is_form_2));
         return;
     }
-    let o = saying::options_of(n - 1, 3, b"table");
-    if (5 < o.words) | o.own {
-        saying::print_usage(b"believe LIST STORE CLOCK [VEHICLE [SIGNAL]] [table]");
-        return;
-    }
-    ask(o.words, o.table);
+    saying::print_usage(b"believe LIST STORE CLOCK [VEHICLE [SIGNAL]] [table] [form2]");
 }

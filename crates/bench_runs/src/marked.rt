@@ -1,4 +1,5 @@
 // The marked cases (a) to (l) of document 01, run on the compiled calls. The table that is proved stands in crates/paper/specs/Marked.antt.
+use gateway::FORM_1;
 use gateway::HeldOutcome;
 use gateway::Kind;
 use gateway::Marshalled;
@@ -78,7 +79,7 @@ fn heard_at(store: &mut [u8; STORE], o41: u8, o54: u8, stamp: u32) {
 
 // One reading: the value and the reason.
 fn say_read(line: Line, store: &[u8; STORE], clock: u32) -> Line {
-    let read = gateway::read(&L, store, clock, 1, 0);
+    let read = gateway::read(&L, FORM_1, store, clock, 1, 0);
     match read {
         ReadOutcome::Read(r) => say_count(
             say_count(line, b" value ", r.value),
@@ -116,7 +117,7 @@ fn say_octet(line: Line, bus: &[u8; 1]) -> Line {
 fn marshals(name: &[u8], store: &[u8; STORE], clock: u32) {
     let mut bus = [0xABu8; 1];
     let l = saying::say(saying::empty(), name);
-    let done = gateway::marshal(&L, store, clock, &mut bus);
+    let done = gateway::marshal(&L, FORM_1, store, clock, &mut bus);
     let l = match done {
         Marshalled::Live(n) => say_count(l, b" live ", n as u64),
         Marshalled::Refused(f) => say_refused(l, f),

@@ -21,7 +21,7 @@ use words::Written;
 fn help() {
     io::write_all(
         STDOUT_FILENO,
-        b"compose LIST TYPE VALUES OUT
+        b"compose LIST TYPE VALUES OUT [form2]
 
 Composes an R-telegram under the signal list LIST and writes it to OUT.
 
@@ -45,6 +45,9 @@ OUT       the telegram's file; what exists is replaced only where it is a
 
 Prints `composed R1 version 3 octets 128`, then a line that begins with `note`
 for each value given that the type does not carry: it is not in the telegram.
+With the word `form2` LIST is in form 2: in a note the signal's serial number
+stands behind its place, as `(4.3)` or `(no serial number)`. In VALUES a place
+is given without it. `convert help` says how one is printed.
 Where nothing was composed it prints one line that begins with `refused` and the
 number of document 01, or with `error`, and OUT is as it was. It is replaced
 whole, by way of OUT.new, with its owner and mode but without access lists;
@@ -55,8 +58,8 @@ line begins with `error: busy`. What a killed one left is taken away.
     );
 }
 
-fn replacement_of(list: &[u8], k: usize) -> u64 {
-    let entry = gateway::signal_entry(list, k);
+fn replacement_of(list: &[u8], form: u8, k: usize) -> u64 {
+    let entry = gateway::signal_entry(list, form, k);
     let EntryOutcome::Entry(e) = entry else {
         return 0;
     };
@@ -65,10 +68,10 @@ fn replacement_of(list: &[u8], k: usize) -> u64 {
 }
 
 // What is not given is the list's replacement: 0 need not be a known code.
-fn replacements(list: &[u8], values: &mut [u64]) {
+fn replacements(list: &[u8], form: u8, values: &mut [u64]) {
     let mut k = 0;
     while k < values.len() {
-        values[k] = replacement_of(list, k);
+        values[k] = replacement_of(list, form, k);
         k += 1;
     }
 }
@@ -125,13 +128,14 @@ fn write_out(kind: usize, version: usize, out: &[u8]) -> bool {
 
 fn compose_out(
     list: &[u8],
+    form: u8,
     n: Counts,
     kind: usize,
     values: &[u64],
     marks: &[u8],
     out: &mut [u8],
 ) -> bool {
-    let outcome = gateway::compose(list, kind, values, marks, out);
+    let outcome = gateway::compose(list, form, kind, values, marks, out);
     match outcome {
         Outcome::Refused(f) => {
             words::print_refused(f);
@@ -142,30 +146,38 @@ fn compose_out(
 }
 
 // A telegram of the type's length; the type itself is tested by the composing.
-fn compose_kind(list: &[u8], n: Counts, kind: usize, values: &[u64], marks: &[u8]) -> bool {
+fn compose_kind(
+    list: &[u8],
+    form: u8,
+    n: Counts,
+    kind: usize,
+    values: &[u64],
+    marks: &[u8],
+) -> bool {
     if kind == 3 {
         let mut out = [0u8; 40];
-        compose_out(list, n, kind, values, marks, &mut out)
+        compose_out(list, form, n, kind, values, marks, &mut out)
     } else {
         let mut out = [0u8; 128];
-        compose_out(list, n, kind, values, marks, &mut out)
+        compose_out(list, form, n, kind, values, marks, &mut out)
     }
 }
 
 fn compose_given(
     list: &[u8],
+    form: u8,
     n: Counts,
     kind: usize,
     given: &[u8],
     values: &mut [u64],
     marks: &mut [u8],
 ) {
-    replacements(list, values);
-    if !text::read_lines(list, given, values, marks) {
+    replacements(list, form, values);
+    if !text::read_lines(list, form, given, values, marks) {
         return;
     }
-    if compose_kind(list, n, kind, values, marks) {
-        text::print_notes(list, given, kind);
+    if compose_kind(list, form, n, kind, values, marks) {
+        text::print_notes(list, form, given, kind);
     }
 }
 
@@ -181,7 +193,7 @@ fn all_ok() -> [u8; 64]
     [1u8; 64]
 }
 
-fn compose_under(list: &[u8], n: Counts, kind: usize, given: &[u8])
+fn compose_under(list: &[u8], form: u8, n: Counts, kind: usize, given: &[u8])
     requires { ⌜ (n .signals ≤ 256) × (n .checks ≤ 64) ⌝ }
 {
     let signals = n.signals;
@@ -190,6 +202,7 @@ fn compose_under(list: &[u8], n: Counts, kind: usize, given: &[u8])
     let mut marks = all_ok();
     compose_given(
         list,
+        form,
         n,
         kind,
         given,
@@ -198,15 +211,15 @@ fn compose_under(list: &[u8], n: Counts, kind: usize, given: &[u8])
     );
 }
 
-fn judge(list: &[u8], kind: usize, given: &[u8]) {
-    let judged = gateway::judge(list);
+fn judge(list: &[u8], form: u8, kind: usize, given: &[u8]) {
+    let judged = gateway::judge(list, form);
     match judged {
         Judged::Refused(f) => words::print_refused(f),
-        Judged::Accepted(n) => compose_under(list, n, kind, given),
+        Judged::Accepted(n) => compose_under(list, form, n, kind, given),
     }
 }
 
-fn read_values(list: &[u8], kind: usize) {
+fn read_values(list: &[u8], form: u8, kind: usize) {
     let mut given = [0u8; 65537];
     let v = files::read(3, b"VALUES", &mut given);
     if !v.ok {
@@ -217,17 +230,17 @@ fn read_values(list: &[u8], kind: usize) {
         files::print_long(3, b"VALUES", 65536);
         return;
     }
-    judge(list, kind, &given[..n]);
+    judge(list, form, kind, &given[..n]);
 }
 
-fn read_files(kind: usize) {
+fn read_files(kind: usize, form: u8) {
     let mut list = [0u8; LONGEST + 1];
     let l = files::read(1, b"LIST", &mut list);
     if !l.ok {
         return;
     }
     let n = l.octets;
-    read_values(&list[..n], kind);
+    read_values(&list[..n], form, kind);
 }
 
 // R1, R2 or R3, or the type's number. A number that is no type's is refused by the composing.
@@ -248,11 +261,11 @@ fn type_argument() -> Number {
     n
 }
 
-fn ask() {
+fn ask(form: u8) {
     let Number::Is(kind) = type_argument() else {
         return;
     };
-    read_files(kind as usize);
+    read_files(kind as usize, form);
 }
 
 fn main() {
@@ -261,9 +274,10 @@ fn main() {
         help();
         return;
     }
-    if n == 5 {
-        ask();
+    let is_form_2 = saying::has_option(5, n, b"form2");
+    if saying::words_before(n, saying::one_if(is_form_2)) == 4 {
+        ask(words::form_of(is_form_2));
         return;
     }
-    saying::print_usage(b"compose LIST TYPE VALUES OUT");
+    saying::print_usage(b"compose LIST TYPE VALUES OUT [form2]");
 }

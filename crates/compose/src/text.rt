@@ -73,8 +73,8 @@ fn mark_of(text: &[u8]) -> Number {
 }
 
 // The signal k is there, and as wide as the line says, if it does.
-fn is_wide(list: &[u8], k: usize, width: usize) -> bool {
-    let entry = gateway::signal_entry(list, k);
+fn is_wide(list: &[u8], form: u8, k: usize, width: usize) -> bool {
+    let entry = gateway::signal_entry(list, form, k);
     let EntryOutcome::Entry(e) = entry else {
         return false;
     };
@@ -93,12 +93,12 @@ fn place_of(line: &[u8], k: usize, n: usize) -> Field
 }
 
 // The signal at a place.
-fn signal_at(list: &[u8], kind: usize, f: Field) -> Number {
-    let found = gateway::find_signal(list, kind, f.start);
+fn signal_at(list: &[u8], form: u8, kind: usize, f: Field) -> Number {
+    let found = gateway::find_signal(list, form, kind, f.start);
     let Found::At(k) = found else {
         return Number::Not;
     };
-    if is_wide(list, k, f.width) {
+    if is_wide(list, form, k, f.width) {
         Number::Is(k as u64)
     } else {
         Number::Not
@@ -106,11 +106,11 @@ fn signal_at(list: &[u8], kind: usize, f: Field) -> Number {
 }
 
 // The signal of a line of n words: at a place, or by its number.
-fn signal_of(list: &[u8], line: &[u8], n: usize) -> Number {
+fn signal_of(list: &[u8], form: u8, line: &[u8], n: usize) -> Number {
     if n == 3 {
         return saying::parse(word(line, 1), 4294967295);
     }
-    signal_at(list, type_of(word(line, 1)), place_of(line, 2, n))
+    signal_at(list, form, type_of(word(line, 1)), place_of(line, 2, n))
 }
 
 // Whether it has the form of either.
@@ -119,8 +119,8 @@ fn names_signal(line: &[u8], n: usize) -> bool {
     (n == 3) | (type_of(word(line, 1)) < 3) & f.ok
 }
 
-fn check_named(list: &[u8], k: usize, place: usize) -> usize {
-    let entry = gateway::signal_entry(list, k);
+fn check_named(list: &[u8], form: u8, k: usize, place: usize) -> usize {
+    let entry = gateway::signal_entry(list, form, k);
     let EntryOutcome::Entry(e) = entry else {
         return 0;
     };
@@ -129,10 +129,10 @@ fn check_named(list: &[u8], k: usize, place: usize) -> usize {
 }
 
 // The number of the check at a place, from 1, if one of the signals names it; else 0.
-fn check_at(list: &[u8], signals: usize, place: usize) -> usize {
+fn check_at(list: &[u8], form: u8, signals: usize, place: usize) -> usize {
     let mut k = 0;
     while k < signals {
-        let check = check_named(list, k, place);
+        let check = check_named(list, form, k, place);
         if 0 < check {
             return check;
         }
@@ -142,12 +142,12 @@ fn check_at(list: &[u8], signals: usize, place: usize) -> usize {
 }
 
 // The check of a line of n words: at a place, or by its number.
-fn check_of(list: &[u8], line: &[u8], n: usize, signals: usize) -> Number {
+fn check_of(list: &[u8], form: u8, line: &[u8], n: usize, signals: usize) -> Number {
     if n == 3 {
         return saying::parse(word(line, 1), 4294967295);
     }
     let f = place_of(line, 1, n);
-    Number::Is(check_at(list, signals, f.start) as u64)
+    Number::Is(check_at(list, form, signals, f.start) as u64)
 }
 
 // Whether it has the form of either: a check is two bits wide.
@@ -156,11 +156,11 @@ fn names_check(line: &[u8], n: usize) -> bool {
     (n == 3) | f.ok & ((f.width == 0) | (f.width == 2))
 }
 
-fn read_value(list: &[u8], line: &[u8], n: usize, values: &mut [u64]) -> u8 {
+fn read_value(list: &[u8], form: u8, line: &[u8], n: usize, values: &mut [u64]) -> u8 {
     if !names_signal(line, n) {
         return PLACE;
     }
-    let Number::Is(k) = signal_of(list, line, n) else {
+    let Number::Is(k) = signal_of(list, form, line, n) else {
         return SIGNAL;
     };
     let Number::Is(v) = saying::parse(last(line, n), 18446744073709551615) else {
@@ -175,11 +175,11 @@ fn read_value(list: &[u8], line: &[u8], n: usize, values: &mut [u64]) -> u8 {
 }
 
 // Checks count from 1, as a signal names them.
-fn read_mark(list: &[u8], line: &[u8], n: usize, signals: usize, marks: &mut [u8]) -> u8 {
+fn read_mark(list: &[u8], form: u8, line: &[u8], n: usize, signals: usize, marks: &mut [u8]) -> u8 {
     if !names_check(line, n) {
         return CHECK_PLACE;
     }
-    let Number::Is(k) = check_of(list, line, n, signals) else {
+    let Number::Is(k) = check_of(list, form, line, n, signals) else {
         return CHECK;
     };
     let Number::Is(m) = mark_of(last(line, n)) else {
@@ -207,7 +207,7 @@ fn last(line: &[u8], n: usize) -> &[u8] {
     word(line, n - 1)
 }
 
-fn read_words(list: &[u8], line: &[u8], values: &mut [u64], marks: &mut [u8]) -> u8 {
+fn read_words(list: &[u8], form: u8, line: &[u8], values: &mut [u64], marks: &mut [u8]) -> u8 {
     let n = count(line);
     if n == 0 {
         return FINE;
@@ -216,27 +216,33 @@ fn read_words(list: &[u8], line: &[u8], values: &mut [u64], marks: &mut [u8]) ->
         return WORDS;
     }
     if check::same(word(line, 0), b"value") {
-        return read_value(list, line, n, values);
+        return read_value(list, form, line, n, values);
     }
     if check::same(word(line, 0), b"mark") {
-        return read_mark(list, line, n, values.len(), marks);
+        return read_mark(list, form, line, n, values.len(), marks);
     }
     WORDS
 }
 
-fn read_line(list: &[u8], line: &[u8], values: &mut [u64], marks: &mut [u8]) -> u8 {
+fn read_line(list: &[u8], form: u8, line: &[u8], values: &mut [u64], marks: &mut [u8]) -> u8 {
     let a = 0;
     let e = find(line, a, b'#');
-    read_words(list, &line[a..e], values, marks)
+    read_words(list, form, &line[a..e], values, marks)
 }
 
 // Whether every line was read; where one is at fault, an error line names it.
-pub fn read_lines(list: &[u8], text: &[u8], values: &mut [u64], marks: &mut [u8]) -> bool {
+pub fn read_lines(
+    list: &[u8],
+    form: u8,
+    text: &[u8],
+    values: &mut [u64],
+    marks: &mut [u8],
+) -> bool {
     let mut at = 0;
     let mut line: u64 = 1;
     while at < text.len() {
         let e = find(text, at, b'\n');
-        let fault = read_line(list, &text[at..e], values, marks);
+        let fault = read_line(list, form, &text[at..e], values, marks);
         if fault != FINE {
             print_fault(line, fault);
             return false;
@@ -248,8 +254,8 @@ pub fn read_lines(list: &[u8], text: &[u8], values: &mut [u64], marks: &mut [u8]
 }
 
 // The signal k, which a telegram of the type does not carry, is named by a line of its own.
-fn note_signal(list: &[u8], k: usize, kind: usize, line: u64) {
-    let entry = gateway::signal_entry(list, k);
+fn note_signal(list: &[u8], form: u8, k: usize, kind: usize, line: u64) {
+    let entry = gateway::signal_entry(list, form, k);
     let EntryOutcome::Entry(e) = entry else {
         return;
     };
@@ -257,33 +263,34 @@ fn note_signal(list: &[u8], k: usize, kind: usize, line: u64) {
     if (s.kind == 0) | (s.kind == kind) {
         return;
     }
-    let l = words::say_place(say_line(b"note: VALUES ", line), s.kind, s.start, s.width);
+    let serial = words::serial_at(list, form, k);
+    let l = words::say_signal(say_line(b"note: VALUES ", line), form, s, serial);
     saying::print(words::say_telegram(saying::say(l, b" is not carried by "), kind));
 }
 
-fn note_words(list: &[u8], line: &[u8], kind: usize, number: u64) {
+fn note_words(list: &[u8], form: u8, line: &[u8], kind: usize, number: u64) {
     let n = count(line);
     if check::same(word(line, 0), b"value") {
-        let found = signal_of(list, line, n);
+        let found = signal_of(list, form, line, n);
         if let Number::Is(k) = found {
-            note_signal(list, k as usize, kind, number);
+            note_signal(list, form, k as usize, kind, number);
         }
     }
 }
 
-fn note_line(list: &[u8], line: &[u8], kind: usize, number: u64) {
+fn note_line(list: &[u8], form: u8, line: &[u8], kind: usize, number: u64) {
     let a = 0;
     let e = find(line, a, b'#');
-    note_words(list, &line[a..e], kind, number);
+    note_words(list, form, &line[a..e], kind, number);
 }
 
 // A line for each value that a telegram of the type does not carry.
-pub fn print_notes(list: &[u8], text: &[u8], kind: usize) {
+pub fn print_notes(list: &[u8], form: u8, text: &[u8], kind: usize) {
     let mut at = 0;
     let mut line: u64 = 1;
     while at < text.len() {
         let e = find(text, at, b'\n');
-        note_line(list, &text[at..e], kind, line);
+        note_line(list, form, &text[at..e], kind, line);
         at = e + 1;
         line = std::num::wrapping_add_u64(line, 1);
     }

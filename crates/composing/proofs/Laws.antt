@@ -12,6 +12,7 @@ use Rattle.paper.specs.Answer.{gives, andThen}
 use Rattle.paper.specs.Telegrams.{typeLength, markWidth}
 use Rattle.paper.specs.SignalList.{SignalList, Counts, judge, listOf, version}
 use Rattle.paper.specs.Composing.{writesSignal, writesCheck, headed, composing}
+use Rattle.paper.proofs.ListLaws.{version-here}
 use Rattle.paper.proofs.AnswerLaws.{not-refused, past, same-then}
 use Rattle.bools.proofs.Tests.{both}
 use Rattle.paper.specs.Accepted.{Laid, Kept}
@@ -40,16 +41,16 @@ written-head (x ∷ y ∷ l) a b n e h =
     ap (λ (m : List ℕ). a ∷ b ∷ zeros ++ m) (ap (λ (i : ℕ). drop i (a ∷ b ∷ l)) z ∙ drop-length (a ∷ b ∷ l)) ∙ ap (λ (m : List ℕ). a ∷ b ∷ m) (append-nil zeros)
 
 pub head-is : (xs : List ℕ) (n : Counts) (type : ℕ) → Laid xs n → headOf type (n .version) ≡ headed (listOf xs n) type
-unfolding headed version
-head-is xs n type h = rw (h .version)
+unfolding headed
+head-is xs n type h = rw (version-here xs n h)
 
 -- ---- the tests
 
-pub tested : (xs : List ℕ) (type : ℕ) (values marks : List ℕ) (room : ℕ)
-    → composing xs type values marks room ≡ andThen (judge xs) (λ n. composingUnder (listOf xs n) type values marks room)
+pub tested : (form : ℕ) (xs : List ℕ) (type : ℕ) (values marks : List ℕ) (room : ℕ)
+    → composing form xs type values marks room ≡ andThen (judge form xs) (λ n. composingUnder (listOf xs n) type values marks room)
 unfolding composing composingTests
-tested xs type values marks room =
-    same-then (judge xs) _ _ (λ n. past _ 9 0 _ _ _ (past _ 13 0 _ _ _ (past _ 14 0 _ _ _ (past _ 15 _ _ _ _ (past _ 16 0 _ _ _ refl)))))
+tested form xs type values marks room =
+    same-then (judge form xs) _ _ (λ n. past _ 9 0 _ _ _ (past _ 13 0 _ _ _ (past _ 14 0 _ _ _ (past _ 15 _ _ _ _ (past _ 16 0 _ _ _ refl)))))
 
 -- what the tests ask of the sizes
 pub sized : (xs : List ℕ) (n : Counts) (type : ℕ) (values marks : List ℕ) (room : ℕ)

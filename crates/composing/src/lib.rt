@@ -34,7 +34,7 @@ fn mark_fits(list: &[u8], n: Counts, kind: usize, marks: &[u8], j: usize) -> boo
     requires { ⌜ (Marks (now list) (countsOf n) (now marks)) × (j < n .checks) ⌝ }
     ensures { λ r. ⌜ r ≡ markFits (listOf (now (list .entry)) (countsOf n)) kind (now (marks .entry)) j ⌝ }
 {
-    !is_within(entries::check_at(list, j), kind) | (marks[j] <= 3)
+    !is_within(lists::check_in(list, n, j), kind) | (marks[j] <= 3)
 }
 
 // Nor is a value.
@@ -158,7 +158,7 @@ fn write_checks(list: &[u8], n: Counts, kind: usize, marks: &[u8], out: &mut [u8
 {
     let mut j = 0;
     while j < n.checks {
-        let place = entries::check_at(list, j);
+        let place = lists::check_in(list, n, j);
         write_where(out, is_within(place, kind), place, 2, marks[j] as u64);
         j += 1;
     }
@@ -197,10 +197,17 @@ fn compose_under(
 }
 
 // Composes a telegram of type `kind` into `out`. Refused: 1 to 4, then 9 and 13 to 16, and `out` stays as it was.
-pub fn compose(list: &[u8], kind: usize, values: &[u64], marks: &[u8], out: &mut [u8]) -> Outcome
-    ensures { λ r. ⌜ Written (composing (now (list .entry)) kind (now (values .entry)) (now (marks .entry)) (length (now (out .entry)))) (now (out .entry)) r (now (out .exit)) ⌝ }
+pub fn compose(
+    list: &[u8],
+    form: u8,
+    kind: usize,
+    values: &[u64],
+    marks: &[u8],
+    out: &mut [u8],
+) -> Outcome
+    ensures { λ r. ⌜ Written (composing form (now (list .entry)) kind (now (values .entry)) (now (marks .entry)) (length (now (out .entry)))) (now (out .entry)) r (now (out .exit)) ⌝ }
 {
-    let judged = lists::judge(list);
+    let judged = lists::judge(list, form);
     match judged {
         Judged::Refused(f) => Outcome::Refused(f),
         Judged::Accepted(n) => compose_under(list, n, kind, values, marks, out),

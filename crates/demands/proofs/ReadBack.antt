@@ -50,11 +50,11 @@ pub refused-passes : (store : List ℕ) (v w now : ℕ) (telegram : List ℕ) (f
 refused-passes store v w now telegram f next t = inr (numberOf f, (carriedOf f, written-not _ store f next t))
 
 -- `told` is such a run of calls, with one of `sweep` between: what it ensures it has from the contracts of the four, so they fit this record
-pub told-calls : (xs : List ℕ) (type : ℕ) (values marks out store : List ℕ) (v stamp at : ℕ) (ys : List ℕ) (now k : ℕ)
-    (sent held : List ℕ) (r : Answers) → (t : Told xs type values marks out store v stamp at ys now k sent held r) → stamp < turn → r .composed ≡ O.Done → r .taken ≡ O.Done
-    → stale (slotOf (t .heard) v) at ≡ false → Calls xs type values marks v stamp ys now k (r .read)
+pub told-calls : (form : ℕ) (xs : List ℕ) (type : ℕ) (values marks out store : List ℕ) (v stamp at form′ : ℕ) (ys : List ℕ) (now k : ℕ)
+    (sent held : List ℕ) (r : Answers) → (t : Told form xs type values marks out store v stamp at form′ ys now k sent held r) → stamp < turn → r .composed ≡ O.Done → r .taken ≡ O.Done
+    → stale (slotOf (t .heard) v) at ≡ false → Calls form xs type values marks v stamp form′ ys now k (r .read)
 unfolding NoneLater NoneExpired
-told-calls xs type values marks out store v stamp at ys now k sent held r t clock composed took young =
+told-calls form xs type values marks out store v stamp at form′ ys now k sent held r t clock composed took young =
     record {
       out = out;
       telegram = sent;
@@ -71,9 +71,9 @@ told-calls xs type values marks out store v stamp at ys now k sent held r t cloc
       read = t .read;
     }
 
-module _ (xs : List ℕ) (type : ℕ) (values marks : List ℕ) (v stamp : ℕ) (ys : List ℕ) (now k : ℕ) (r : ReadOutcome)
-    (c : Calls xs type values marks v stamp ys now k r) where
-  sent : composing xs type values marks (length (c .out)) ≡ gives (c .telegram)
+module _ (form : ℕ) (xs : List ℕ) (type : ℕ) (values marks : List ℕ) (v stamp form′ : ℕ) (ys : List ℕ) (now k : ℕ) (r : ReadOutcome)
+    (c : Calls form xs type values marks v stamp form′ ys now k r) where
+  sent : composing form xs type values marks (length (c .out)) ≡ gives (c .telegram)
   sent = written-gives _ (c .out) (c .telegram) (c .composed)
 
   standing : (limit : ℕ) → inTime (age now stamp) limit ≡ true → Standing v stamp now limit (c .telegram) (c .store)
@@ -91,45 +91,45 @@ module _ (xs : List ℕ) (type : ℕ) (values marks : List ℕ) (v stamp : ℕ) 
       }
 
   -- DEMAND 3: a signal that both lists have and the type carries
-  pub both-have : (m n : Counts) → judge xs ≡ gives m → judge ys ≡ gives n → Related (listOf xs m) (listOf ys n)
+  pub both-have : (m n : Counts) → judge form xs ≡ gives m → judge form′ ys ≡ gives n → Related (listOf xs m) (listOf ys n)
       → (i : ℕ) → i < m .signals → k < n .signals → same (listOf xs m .signal i) (listOf ys n .signal k) ≡ true
       → carries type (listOf ys n .signal k .type) ≡ true → inTime (age now stamp) (listOf ys n .signal k .limit) ≡ true
       → readAnswer r ≡ gives (delivered (listOf ys n) k (givenMark marks (listOf xs m .signal i)) (getD values i 0))
   both-have m n writer reader related i hi hk one carried within =
-      c .read ∙ paper.both-have _ _ _ _ _ _ sent m writer _ n reader _ _ _ _ _ hk (standing _ within) related i hi one carried
+      c .read ∙ paper.both-have _ _ _ _ _ _ _ sent m writer _ _ n reader _ _ _ _ _ hk (standing _ within) related i hi one carried
 
   -- DEMAND 3: a signal that only the reader's list has, or that the type doesn't carry
-  pub only-reader : (m n : Counts) → judge xs ≡ gives m → judge ys ≡ gives n → Related (listOf xs m) (listOf ys n) → k < n .signals
+  pub only-reader : (m n : Counts) → judge form xs ≡ gives m → judge form′ ys ≡ gives n → Related (listOf xs m) (listOf ys n) → k < n .signals
       → (carries type (listOf ys n .signal k .type) ≡ false) ⊎ ((i : ℕ) → i < m .signals → same (listOf xs m .signal i) (listOf ys n .signal k) ≡ true → ⊥)
       → inTime (age now stamp) (listOf ys n .signal k .limit) ≡ true
       → readAnswer r ≡ gives (withheld (listOf ys n) type k)
   only-reader m n writer reader related hk d within =
-      c .read ∙ paper.only-reader _ _ _ _ _ _ sent m writer _ n reader _ _ _ _ _ hk (standing _ within) related d
+      c .read ∙ paper.only-reader _ _ _ _ _ _ _ sent m writer _ _ n reader _ _ _ _ _ hk (standing _ within) related d
 
   -- DEMAND 3, whole: every signal of the reader's list comes with one of the readings that the demand names. Never another value
-  pub never-another : (m n : Counts) → judge xs ≡ gives m → judge ys ≡ gives n → Related (listOf xs m) (listOf ys n) → k < n .signals
+  pub never-another : (m n : Counts) → judge form xs ≡ gives m → judge form′ ys ≡ gives n → Related (listOf xs m) (listOf ys n) → k < n .signals
       → inTime (age now stamp) (listOf ys n .signal k .limit) ≡ true
       → (given : Reading) × ((Named (listOf xs m) (listOf ys n) type values marks k given) × (readAnswer r ≡ gives given))
   never-another m n writer reader related hk within =
-      let t = paper.never-another _ _ _ _ _ _ sent m writer _ n reader _ _ _ _ _ hk (standing _ within) related in
+      let t = paper.never-another _ _ _ _ _ _ _ sent m writer _ _ n reader _ _ _ _ _ hk (standing _ within) related in
       (t .0, (t .1 .0, c .read ∙ t .1 .1))
 
 -- DEMAND 2, reading back under the list that it was composed with: a signal that the type carries, with a mark ok or forced, or no check,
 -- reads back within its time limit as given
-pub read-back : (xs : List ℕ) (type : ℕ) (values marks : List ℕ) (v stamp now k : ℕ) (r : ReadOutcome) → Calls xs type values marks v stamp xs now k r
-    → (m : Counts) → judge xs ≡ gives m → k < m .signals → carries type (listOf xs m .signal k .type) ≡ true
+pub read-back : (form : ℕ) (xs : List ℕ) (type : ℕ) (values marks : List ℕ) (v stamp now k : ℕ) (r : ReadOutcome) → Calls form xs type values marks v stamp form xs now k r
+    → (m : Counts) → judge form xs ≡ gives m → k < m .signals → carries type (listOf xs m .signal k .type) ≡ true
     → (givenMark marks (listOf xs m .signal k) ≡ ok) ⊎ (givenMark marks (listOf xs m .signal k) ≡ forced)
     → inTime (age now stamp) (listOf xs m .signal k .limit) ≡ true
     → readAnswer r ≡ gives (record { value = getD values k 0; reason = cond (eqb (givenMark marks (listOf xs m .signal k)) forced) 1 0 })
-read-back xs type values marks v stamp now k r c m e hk carried mark within =
+read-back form xs type values marks v stamp now k r c m e hk carried mark within =
     c .read
-    ∙ paper.read-back _ _ _ _ _ _ (sent xs type values marks v stamp xs now k r c) m e _ _ _ _ _ hk carried mark
-    (standing xs type values marks v stamp xs now k r c _ within)
+    ∙ paper.read-back _ _ _ _ _ _ _ (sent form xs type values marks v stamp form xs now k r c) m e _ _ _ _ _ hk carried mark
+    (standing form xs type values marks v stamp form xs now k r c _ within)
 
 -- what `compose` wrote, `take` never refuses for a vehicle of the 63 and a store of the right length
-pub composed-taken : (xs : List ℕ) (type : ℕ) (values marks out telegram : List ℕ) → Written (composing xs type values marks (length out)) out O.Done telegram
+pub composed-taken : (form : ℕ) (xs : List ℕ) (type : ℕ) (values marks out telegram : List ℕ) → Written (composing form xs type values marks (length out)) out O.Done telegram
     → (before : List ℕ) (v now : ℕ) (r : Outcome) (after : List ℕ) → length before ≡ storeOctets → 1 ≤ v → v ≤ vehicles
     → Written (taking before v now telegram) before r after → (r ≡ O.Done) × (after ≡ taken before v now telegram)
-composed-taken xs type values marks out telegram composed before v now r after whole first last took =
-    let e = paper.composed-taken xs type values marks (length out) telegram (written-gives _ out telegram composed) before v now whole first last in
+composed-taken form xs type values marks out telegram composed before v now r after whole first last took =
+    let e = paper.composed-taken form xs type values marks (length out) telegram (written-gives _ out telegram composed) before v now whole first last in
     one-written _ before r O.Done after (taken before v now telegram) took (written-done _ before _ (sym e))

@@ -15,16 +15,16 @@ use Rattle.reading.specs.declared.Reading.{Reading}
 use Rattle.reading.specs.declared.ReadOutcome.the-variants as R
 use Rattle.reading.specs.Reading.{asReading, readAnswer}
 
-module _ (xs store : List ℕ) (now v k : ℕ) (g : Reading) (read : readAnswer (R.Read g) ≡ paper.reading xs store now v k) where
+module _ (form : ℕ) (xs store : List ℕ) (now v k : ℕ) (g : Reading) (read : readAnswer (R.Read g) ≡ paper.reading form xs store now v k) where
   -- the list was accepted, the store is whole, and the vehicle and the signal are there
-  pub read-tells : paper.Reads xs store now v k (asReading g)
-  read-tells = laws.reads xs store now v k (asReading g) (sym read)
+  pub read-tells : paper.Reads form xs store now v k (asReading g)
+  read-tells = laws.reads form xs store now v k (asReading g) (sym read)
 
-  module _ (n : Counts) (accepted : judge xs ≡ gives n) where
+  module _ (n : Counts) (accepted : judge form xs ≡ gives n) where
     is : paper.readingOf (listOf xs n) (slotOf store v) now k ≡ asReading g
     is =
         let h = read-tells in
-        ap (λ (m : Counts). paper.readingOf (listOf xs m) (slotOf store v) now k) (gives-one (judge xs) n (h .counts) accepted (h .accepted)) ∙ h .is
+        ap (λ (m : Counts). paper.readingOf (listOf xs m) (slotOf store v) now k) (gives-one (judge form xs) n (h .counts) accepted (h .accepted)) ∙ h .is
 
     -- "A value is live exactly when its telegram was heard, is within its time limit, carries the signal and is new enough, its mark .. is
     -- ok or forced, and the code is known."

@@ -22,10 +22,10 @@ use Rattle.demands.specs.Calls.{Made, none, takes, sweeps}
 use Rattle.demands.proofs.ReadBack.{made-runs}
 
 -- `told` makes such calls
-pub told-made : (xs : List ℕ) (type : ℕ) (values marks out store : List ℕ) (v stamp at : ℕ) (ys : List ℕ) (now k : ℕ)
-    (sent held : List ℕ) (r : Answers) → Told xs type values marks out store v stamp at ys now k sent held r
+pub told-made : (form : ℕ) (xs : List ℕ) (type : ℕ) (values marks out store : List ℕ) (v stamp at form′ : ℕ) (ys : List ℕ) (now k : ℕ)
+    (sent held : List ℕ) (r : Answers) → Told form xs type values marks out store v stamp at form′ ys now k sent held r
     → Made store (offer v stamp sent ∷ sweep at ∷ []) held
-told-made xs type values marks out store v stamp at ys now k sent held r t =
+told-made form xs type values marks out store v stamp at form′ ys now k sent held r t =
     takes v stamp sent (r .taken) (t .taken) (sweeps at (r .swept) (t .swept) none)
 
 -- an answer that the paper gives is a value and a reason
@@ -36,19 +36,19 @@ answered (R.Refused f) given e = let z : _≡_ {A = ℕ} 0 1 = cc in absurd (ome
 -- calls of `take` and `sweep`, each given the true clock modulo 4,294,967,296, and then one of `read`, given it too
 module _ (start : List ℕ) (begun : ℕ) (steps : List Step) (now : ℕ) (c : TrueClock start begun steps now)
     (store : List ℕ) (made : Made start (map onClock steps) store)
-    (xs : List ℕ) (v k : ℕ) (r : ReadOutcome) (read : readAnswer r ≡ paper.reading xs store (now % turn) v k) where
+    (form : ℕ) (xs : List ℕ) (v k : ℕ) (r : ReadOutcome) (read : readAnswer r ≡ paper.reading form xs store (now % turn) v k) where
   -- what is read is what the paper's steps leave
-  reading-run : readAnswer r ≡ paper.reading xs (run start (map onClock steps)) (now % turn) v k
-  reading-run = read ∙ ap (λ (s : List ℕ). paper.reading xs s (now % turn) v k) (sym (made-runs made))
+  reading-run : readAnswer r ≡ paper.reading form xs (run start (map onClock steps)) (now % turn) v k
+  reading-run = read ∙ ap (λ (s : List ℕ). paper.reading form xs s (now % turn) v k) (sym (made-runs made))
 
   -- of a vehicle taken from and a signal with a limit, `read` answers reason 3 exactly when the true age is above the limit
-  pub true-age : (t : ℕ) → LastTaken v t start steps → (n : Counts) → judge xs ≡ gives n → k < n .signals → 1 ≤ listOf xs n .signal k .limit
+  pub true-age : (t : ℕ) → LastTaken v t start steps → (n : Counts) → judge form xs ≡ gives n → k < n .signals → 1 ≤ listOf xs n .signal k .limit
       → (g : Reading) × ((r ≡ R.Read g) × ((g .reason ≡ 3) ↔ (listOf xs n .signal k .limit < now - t)))
   true-age t h n accepted lt limited =
-      let a = laws.true-age start begun steps now c v t h xs n accepted k lt limited in
+      let a = laws.true-age start begun steps now c v t h form xs n accepted k lt limited in
       let q = answered r (a .0) (reading-run ∙ a .1 .0) in
       (q .0, (q .1 .0, rw (← q .1 .1) at (a .1 .1)))
 
   -- and of a vehicle from which nothing was taken, reason 2 if it answers a reading at all
   pub untaken : NoneLater v start (map onClock steps) → (g : Reading) → r ≡ R.Read g → g .reason ≡ 2
-  untaken h g e = laws.untaken start begun steps now c v h xs k (asReading g) (sym reading-run ∙ ap readAnswer e)
+  untaken h g e = laws.untaken start begun steps now c v h form xs k (asReading g) (sym reading-run ∙ ap readAnswer e)

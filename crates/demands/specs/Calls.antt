@@ -22,11 +22,11 @@ pub data Made : List ℕ → List Step → List ℕ → Type 0 where
       → Written (sweeping store now) store r next → Made next steps last → Made store (sweep now ∷ steps) last
 
 -- The calls, each by what its contract ensures, at any octets that meet it.
-pub record Calls (xs : List ℕ) (type : ℕ) (values marks : List ℕ) (v stamp : ℕ) (ys : List ℕ) (now k : ℕ) (r : ReadOutcome) : Type 0 where
+pub record Calls (form : ℕ) (xs : List ℕ) (type : ℕ) (values marks : List ℕ) (v stamp form′ : ℕ) (ys : List ℕ) (now k : ℕ) (r : ReadOutcome) : Type 0 where
   -- `compose` under the list xs is done: `out` then holds `telegram`
   pub out : List ℕ
   pub telegram : List ℕ
-  pub composed : Written (composing xs type values marks (length out)) out O.Done telegram
+  pub composed : Written (composing form xs type values marks (length out)) out O.Done telegram
   -- `take` of that telegram for vehicle v is done at the clock value `stamp`, a u32
   pub before : List ℕ
   pub after : List ℕ
@@ -39,4 +39,4 @@ pub record Calls (xs : List ℕ) (type : ℕ) (values marks : List ℕ) (v stamp
   pub later : NoneLater v after steps
   pub unexpired : NoneExpired v after steps
   -- `read` of signal k under the list ys answers r at the clock value `now`
-  pub read : readAnswer r ≡ reading ys store now v k
+  pub read : readAnswer r ≡ reading form′ ys store now v k

@@ -14,6 +14,7 @@ pub struct Answers {
 // The telegram is left in `out` and in the vehicle's slot. Taken at `stamp`, swept at `sweep`, read at `clock`.
 pub fn told(
     writer: &[u8],
+    form: u8,
     kind: usize,
     values: &[u64],
     marks: &[u8],
@@ -23,15 +24,16 @@ pub fn told(
     stamp: u32,
     sweep: u32,
     reader: &[u8],
+    other: u8,
     clock: u32,
     signal: usize,
 ) -> Answers
-    ensures { λ r. ⌜ Told (now (writer .entry)) kind (now (values .entry)) (now (marks .entry)) (now (out .entry)) (now (store .entry)) vehicle stamp sweep (now (reader .entry)) clock signal (now (out .exit)) (now (store .exit)) r ⌝ }
+    ensures { λ r. ⌜ Told form (now (writer .entry)) kind (now (values .entry)) (now (marks .entry)) (now (out .entry)) (now (store .entry)) vehicle stamp sweep other (now (reader .entry)) clock signal (now (out .exit)) (now (store .exit)) r ⌝ }
 {
-    let composed = composing::compose(writer, kind, values, marks, out);
+    let composed = composing::compose(writer, form, kind, values, marks, out);
     let taken = store::take(store, vehicle, stamp, out);
     let swept = store::sweep(store, sweep);
-    let read = reading::read(reader, store, clock, vehicle, signal);
+    let read = reading::read(reader, other, store, clock, vehicle, signal);
     Answers {
         composed,
         taken,

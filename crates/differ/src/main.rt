@@ -1,10 +1,12 @@
 // Which gateway believes what: one store read by two gateways' lists, side by side.
 use gateway::Counts;
 use gateway::EntryOutcome;
+use gateway::FORM_2;
 use gateway::HeldOutcome;
 use gateway::Judged;
 use gateway::LONGEST;
 use gateway::PAST_KEYS;
+use gateway::Pair;
 use gateway::Pairing;
 use gateway::ReadOutcome;
 use gateway::STORE;
@@ -13,7 +15,6 @@ use libc::STDOUT_FILENO;
 use saying::Clock;
 use saying::Line;
 use saying::Number;
-use saying::Options;
 use saying::Page;
 
 // A signal as one gateway reads it, if its list has it.
@@ -24,6 +25,8 @@ struct Side {
     width: usize,
     value: u64,
     reason: u8,
+    // 0 for none
+    serial: usize,
 }
 
 // What judging a list gives the program to go on with.
@@ -32,13 +35,15 @@ enum Accepted {
     Not,
 }
 
-// What is asked: of one vehicle or of all; only the lines that differ; as lines for people, or as a table.
+// What is asked: of one vehicle or of all; only the lines that differ; as lines for people, or as a table; the form of each list.
 struct Asked {
     clock: u32,
     vehicle: usize,
     all: bool,
     only: bool,
     table: bool,
+    first_form: u8,
+    second_form: u8,
     // where the values of the lines end, the first list's and the second's
     left: usize,
     right: usize,
@@ -54,6 +59,7 @@ fn help() {
     io::write_all(
         STDOUT_FILENO,
         b"differ LIST LIST STORE CLOCK [VEHICLE] [only] [table]
+       [first-form2] [second-form2]
 
 Which gateway believes what: STORE, read at CLOCK by two gateways' signal lists,
 side by side, for all vehicles that were heard or for one.
@@ -73,7 +79,13 @@ With the word `table` it prints a line of names, then a line for each signal,
 each of 13 columns with a tab between: vehicle, its telegram, version and age
 (or `expired`; a dash each where it was never heard), type, start, differs (1 or
 0), then width, value and reason of the first list and of the second (a dash
-where a list has no such signal). The words may be combined, in any order.
+where a list has no such signal).
+With the words `first-form2` and `second-form2` that list is in form 2: each
+PLACE has the signal's serial number behind it, as `(4.3)`, or, where the two
+lists have different ones, both, as `(4.3, no serial number)`. No answer differs
+by that, and it alone puts no * before a line. The table has two columns more,
+serial_1 and serial_2, with a dash for none. `convert help` says how a serial
+number is printed. The words may be combined, in any order.
 `believe help` lists the reasons. Bad input gets one line that begins with
 `refused` and the number of document 01, or with `error`.
 The exit status is as of `diff`: 0 no difference, 1 differences, 2 bad input.
@@ -89,16 +101,17 @@ fn missing() -> Side {
         width: 0,
         value: 0,
         reason: 0,
+        serial: 0,
     }
 }
 
 // What a gateway makes of its list's signal k; a signal that the list has not is refused.
-fn side_at(list: &[u8], store: &[u8], clock: u32, vehicle: usize, k: usize) -> Side {
-    let entry = gateway::signal_entry(list, k);
+fn side_at(list: &[u8], form: u8, store: &[u8], clock: u32, vehicle: usize, k: usize) -> Side {
+    let entry = gateway::signal_entry(list, form, k);
     let EntryOutcome::Entry(e) = entry else {
         return missing();
     };
-    let read = gateway::read(list, store, clock, vehicle, k);
+    let read = gateway::read(list, form, store, clock, vehicle, k);
     let ReadOutcome::Read(r) = read else {
         return missing();
     };
@@ -110,6 +123,7 @@ fn side_at(list: &[u8], store: &[u8], clock: u32, vehicle: usize, k: usize) -> S
         width: s.width,
         value: r.value,
         reason: r.reason,
+        serial: words::serial_at(list, form, k),
     }
 }
 
@@ -140,11 +154,38 @@ fn say_widths(line: Line, a: Side, b: Side) -> Line {
     line
 }
 
-// The place, which either side may have, and what each side says there.
+// The serial numbers that the lists in form 2 have for the signal; one that both have, once.
+fn say_serials(line: Line, asked: Asked, a: Side, b: Side) -> Line {
+    let first = a.there & (asked.first_form == FORM_2);
+    let second = b.there & (asked.second_form == FORM_2);
+    if first & second & (a.serial != b.serial) {
+        let l = words::say_serial(saying::say(line, b" ("), a.serial);
+        return saying::put(words::say_serial(saying::say(l, b", "), b.serial), b')');
+    }
+    if first {
+        return words::say_beside(line, FORM_2, a.serial);
+    }
+    if second {
+        return words::say_beside(line, FORM_2, b.serial);
+    }
+    line
+}
+
+// The place, which either side may have, with its serial numbers.
+fn say_signal(line: Line, asked: Asked, place: Side, a: Side, b: Side) -> Line {
+    let l = words::say_place(line, place.kind, place.start, place.width);
+    say_serials(l, asked, a, b)
+}
+
+fn place_of(a: Side, b: Side) -> Side {
+    if a.there { a } else { b }
+}
+
+// The place, and what each side says there.
 fn print_pair(page: &mut Page, mark: u8, asked: Asked, place: Side, a: Side, b: Side) {
     let head = saying::put(saying::empty(), mark);
     let l = saying::say_right(head, 4, asked.vehicle as u64);
-    let l = words::say_place(saying::say(l, b"  "), place.kind, place.start, place.width);
+    let l = say_signal(saying::say(l, b"  "), asked, place, a, b);
     let l = saying::pad(say_side(l, asked.left, a), bar(asked.left));
     let l = say_side(saying::say(l, b"|"), asked.right, b);
     saying::add(page, say_widths(l, a, b));
@@ -156,6 +197,11 @@ fn say_columns(line: Line, side: Side) -> Line {
     }
     let l = saying::say_tab(saying::say_tab(line, side.width as u64), side.value);
     saying::say_tab(l, side.reason as u64)
+}
+
+// The form of the columns: with serial numbers as soon as one list has them.
+fn form_of_table(asked: Asked) -> u8 {
+    words::form_of((asked.first_form == FORM_2) | (asked.second_form == FORM_2))
 }
 
 // The same as a row of the table.
@@ -171,7 +217,10 @@ fn print_row(
     let l = words::say_head(saying::empty(), store, asked.clock, asked.vehicle);
     let l = words::say_telegram(saying::put(l, b'\t'), place.kind);
     let l = saying::say_tab(saying::say_tab(l, place.start as u64), differs);
-    saying::add(page, say_columns(say_columns(l, a), b));
+    let l = say_columns(say_columns(l, a), b);
+    let form = form_of_table(asked);
+    let l = words::say_serial_tab(l, form, a.serial);
+    saying::add(page, words::say_serial_tab(l, form, b.serial));
 }
 
 fn more(n: u64) -> u64 {
@@ -208,7 +257,7 @@ fn print_sides(
 ) -> Count {
     let lines = more(so_far.lines);
     let same = are_same(a, b);
-    print_line(page, store, asked, same, if a.there { a } else { b }, a, b);
+    print_line(page, store, asked, same, place_of(a, b), a, b);
     if same {
         return Count {
             lines,
@@ -221,16 +270,38 @@ fn print_sides(
     }
 }
 
+fn first_side(list: &[u8], store: &[u8], asked: Asked, p: Pair) -> Side {
+    side_at(
+        list,
+        asked.first_form,
+        store,
+        asked.clock,
+        asked.vehicle,
+        p.first,
+    )
+}
+
+fn second_side(list: &[u8], store: &[u8], asked: Asked, p: Pair) -> Side {
+    side_at(
+        list,
+        asked.second_form,
+        store,
+        asked.clock,
+        asked.vehicle,
+        p.second,
+    )
+}
+
 fn all_signals(page: &mut Page, first: &[u8], second: &[u8], store: &[u8], asked: Asked) -> Count {
     let mut count = none();
     let mut key = 0;
     while key < PAST_KEYS {
-        let pairing = gateway::pair_from(first, second, key);
+        let pairing = gateway::pair_from(first, asked.first_form, second, asked.second_form, key);
         let Pairing::Pair(p) = pairing else {
             return count;
         };
-        let a = side_at(first, store, asked.clock, asked.vehicle, p.first);
-        let b = side_at(second, store, asked.clock, asked.vehicle, p.second);
+        let a = first_side(first, store, asked, p);
+        let b = second_side(second, store, asked, p);
         count = print_sides(page, store, asked, a, b, count);
         key = p.key + 1;
     }
@@ -272,25 +343,56 @@ fn of_vehicle(asked: Asked, vehicle: usize) -> Asked {
         all: asked.all,
         only: asked.only,
         table: asked.table,
+        first_form: asked.first_form,
+        second_form: asked.second_form,
         left: asked.left,
         right: asked.right,
     }
 }
 
+// Where the line of a pair has come to once the first list's value is said, if it has one.
+fn end_of(asked: Asked, a: Side, b: Side) -> usize {
+    let l = say_signal(saying::pad(saying::empty(), 6), asked, place_of(a, b), a, b);
+    if a.there {
+        return words::end_of_value(l, a.width);
+    }
+    l.at
+}
+
+// The column at which the first list's values end: 45, or as far right as the longest line needs.
+fn left_column(first: &[u8], second: &[u8], store: &[u8], asked: Asked) -> usize {
+    let mut column = 45;
+    let mut key = 0;
+    while key < PAST_KEYS {
+        let pairing = gateway::pair_from(first, asked.first_form, second, asked.second_form, key);
+        let Pairing::Pair(p) = pairing else {
+            return column;
+        };
+        let a = first_side(first, store, asked, p);
+        let b = second_side(second, store, asked, p);
+        column = words::greater(column, end_of(asked, a, b));
+        key = p.key + 1;
+    }
+    column
+}
+
 // With the columns of these two lists.
-fn in_columns(asked: Asked, first: &[u8], m: Counts, second: &[u8], n: Counts) -> Asked {
-    let left = words::value_column(first, m.signals, 6, true, 45);
+fn in_columns(asked: Asked, first: &[u8], second: &[u8], n: Counts, store: &[u8]) -> Asked {
+    let left = left_column(first, second, store, asked);
     let at = bar(left);
     let least = std::num::wrapping_add_usize(at, 17);
     let behind = std::num::wrapping_add_usize(at, 1);
+    let form = asked.second_form;
     Asked {
         clock: asked.clock,
         vehicle: asked.vehicle,
         all: asked.all,
         only: asked.only,
         table: asked.table,
+        first_form: asked.first_form,
+        second_form: form,
         left,
-        right: words::value_column(second, n.signals, behind, false, least),
+        right: words::value_column(second, form, n.signals, behind, false, least),
     }
 }
 
@@ -334,19 +436,20 @@ fn print_count(page: &mut Page, asked: Asked, count: Count) {
     saying::add(page, saying::say(l, b" lines"));
 }
 
-fn print_names(page: &mut Page) {
+fn print_names(page: &mut Page, form: u8) {
     let l = saying::say(
         saying::empty(),
         b"vehicle\ttelegram\tversion\tage\ttype\tstart\tdiffers",
     );
     let l = saying::say(l, b"\twidth_1\tvalue_1\treason_1");
-    saying::add(page, saying::say(l, b"\twidth_2\tvalue_2\treason_2"));
+    let l = saying::say(l, b"\twidth_2\tvalue_2\treason_2");
+    saying::add(page, words::say_serial_name(l, form, b"serial_1\tserial_2"));
 }
 
 // What stands above the lines: the two lists, or the names of the columns.
-fn print_above(page: &mut Page, m: Counts, n: Counts, table: bool) {
-    if table {
-        print_names(page);
+fn print_above(page: &mut Page, m: Counts, n: Counts, asked: Asked) {
+    if asked.table {
+        print_names(page, form_of_table(asked));
         return;
     }
     print_list(page, b"first  ", 1, m);
@@ -355,7 +458,7 @@ fn print_above(page: &mut Page, m: Counts, n: Counts, table: bool) {
 
 fn print_asked(first: &[u8], m: Counts, second: &[u8], n: Counts, store: &[u8], asked: Asked) {
     let mut page = saying::new_page();
-    print_above(&mut page, m, n, asked.table);
+    print_above(&mut page, m, n, asked);
     if asked.all {
         let count = all_vehicles(&mut page, first, second, store, asked);
         print_count(&mut page, asked, count);
@@ -367,8 +470,8 @@ fn print_asked(first: &[u8], m: Counts, second: &[u8], n: Counts, store: &[u8], 
 }
 
 // The counts of a list; a list that is not accepted is said to be refused.
-fn judge(list: &[u8], of: &[u8]) -> Accepted {
-    let judged = gateway::judge(list);
+fn judge(list: &[u8], form: u8, of: &[u8]) -> Accepted {
+    let judged = gateway::judge(list, form);
     match judged {
         Judged::Refused(f) => {
             words::print_refused_of(f, of);
@@ -380,10 +483,10 @@ fn judge(list: &[u8], of: &[u8]) -> Accepted {
 
 // Refused as a reading is: 1 to 4 of either list, then 5 and 6.
 fn compare(first: &[u8], second: &[u8], store: &[u8], asked: Asked) {
-    let Accepted::With(m) = judge(first, b" (first list)") else {
+    let Accepted::With(m) = judge(first, asked.first_form, b" (first list)") else {
         return;
     };
-    let Accepted::With(n) = judge(second, b" (second list)") else {
+    let Accepted::With(n) = judge(second, asked.second_form, b" (second list)") else {
         return;
     };
     let held = gateway::holding(store, asked.clock, asked.vehicle);
@@ -391,7 +494,7 @@ fn compare(first: &[u8], second: &[u8], store: &[u8], asked: Asked) {
         words::print_refused(f);
         return;
     }
-    let placed = in_columns(asked, first, m, second, n);
+    let placed = in_columns(asked, first, second, n, store);
     print_asked(first, m, second, n, store, placed);
 }
 
@@ -421,19 +524,45 @@ fn read_files(asked: Asked) {
     read_others(&first[..n], asked);
 }
 
-fn ask(o: Options) {
+// What the words behind the fourth say, but for the vehicle.
+fn options(n: usize) -> Asked {
+    let first = saying::has_option(5, n, b"first-form2");
+    let second = saying::has_option(5, n, b"second-form2");
+    Asked {
+        clock: 0,
+        vehicle: 1,
+        all: true,
+        only: saying::has_option(5, n, b"only"),
+        table: saying::has_option(5, n, b"table"),
+        first_form: words::form_of(first),
+        second_form: words::form_of(second),
+        left: 0,
+        right: 0,
+    }
+}
+
+fn words_of(n: usize, o: Asked) -> usize {
+    let shown = saying::one_if(o.only) + saying::one_if(o.table);
+    let first = saying::one_if(o.first_form == FORM_2);
+    let second = saying::one_if(o.second_form == FORM_2);
+    saying::words_before(n, shown + first + second)
+}
+
+fn ask(words: usize, o: Asked) {
     let Clock::At(clock) = saying::clock_argument(4) else {
         return;
     };
-    let Number::Is(vehicle) = saying::number_or(o.words, 5, b"VEHICLE", 1) else {
+    let Number::Is(vehicle) = saying::number_or(words, 5, b"VEHICLE", 1) else {
         return;
     };
     read_files(Asked {
         clock,
         vehicle: vehicle as usize,
-        all: o.words == 4,
-        only: o.own,
+        all: words == 4,
+        only: o.only,
         table: o.table,
+        first_form: o.first_form,
+        second_form: o.second_form,
         left: 0,
         right: 0,
     });
@@ -445,14 +574,13 @@ fn main() {
         help();
         return;
     }
-    if n < 5 {
-        saying::print_usage(b"differ LIST LIST STORE CLOCK [VEHICLE] [only] [table]");
+    let o = options(n);
+    let words = words_of(n, o);
+    if (words == 4) | (words == 5) {
+        ask(words, o);
         return;
     }
-    let o = saying::options_of(n - 1, 4, b"only");
-    if 5 < o.words {
-        saying::print_usage(b"differ LIST LIST STORE CLOCK [VEHICLE] [only] [table]");
-        return;
-    }
-    ask(o);
+    saying::print_usage(
+        b"differ LIST LIST STORE CLOCK [VEHICLE] [only] [table] [first-form2] [second-form2]",
+    );
 }

@@ -10,6 +10,7 @@ use Rattle.paper.specs.Telegrams.{checkPlace}
 use Rattle.paper.specs.SignalList.{Counts, judge, OfTwo, ofBoth, firstRefused, secondRefused, GivenTwo, NumberedTwo}
 use Rattle.paper.specs.Extends.{extendsLists}
 use Rattle.paper.specs.Pairs.{Entry, entryOf, finding}
+use Rattle.paper.specs.Forms.{serialOf, toForm2, toForm1}
 use Rattle.paper.specs.Store.{taking, sweeping}
 use Rattle.paper.specs.Reading.{Reading, reading}
 use Rattle.paper.specs.Marshalling.{Marshalled, marshalling}
@@ -20,7 +21,7 @@ use Rattle.paper.specs.ETelegrams.{EReading, eReading, answering}
 use Rattle.paper.proofs.RefusalLaws as laws
 use Rattle.dustferrule.specs.declared.DfOutcome.{DfOutcome}
 use Rattle.dustferrule.specs.declared.DfMarshalled.{DfMarshalled}
-use Rattle.dustferrule.specs.Results.{outcomeC, judgedC, extendingC, entryC, foundC, livesC, placeC, readingC, shownC, membersC, eReadC, WrittenC, DeliveredC}
+use Rattle.dustferrule.specs.Results.{outcomeC, judgedC, extendingC, entryC, foundC, serialC, livesC, placeC, readingC, shownC, membersC, eReadC, WrittenC, DeliveredC}
 
 -- ---- each result, of any answer
 
@@ -41,6 +42,9 @@ entry-given = laws.zero-given (λ a. entryC a .refusal) (λ a. refl) (λ n at. r
 
 pub found-given : (a : Answer ℕ) → Numbered a → (foundC a .refusal ≡ 0) ↔ Given a
 found-given = laws.zero-given (λ a. foundC a .refusal) (λ a. refl) (λ n at. refl)
+
+pub serial-c-given : (a : Answer ℕ) → Numbered a → (serialC a .refusal ≡ 0) ↔ Given a
+serial-c-given = laws.zero-given (λ a. serialC a .refusal) (λ a. refl) (λ n at. refl)
 
 pub lives-given : (a : Answer ℕ) → Numbered a → (livesC a .refusal ≡ 0) ↔ Given a
 lives-given = laws.zero-given (λ a. livesC a .refusal) (λ a. refl) (λ n at. refl)
@@ -83,23 +87,39 @@ delivered-kept (refused n at) old r new d h = d .octets
 
 -- ---- the calls
 
-pub judge-given : (xs : List ℕ) → (judgedC (judge xs) .refusal ≡ 0) ↔ Given (judge xs)
-judge-given xs = judged-given _ (laws.numbered-judge xs)
+pub judge-given : (form : ℕ) (xs : List ℕ) → (judgedC (judge form xs) .refusal ≡ 0) ↔ Given (judge form xs)
+judge-given form xs = judged-given _ (laws.numbered-judge form xs)
 
-pub extends-given : (xs ys : List ℕ) → (extendingC (extendsLists xs ys) .refusal ≡ 0) ↔ GivenTwo (extendsLists xs ys)
-extends-given xs ys = extending-given _ (laws.numbered-extends xs ys)
+pub extends-given : (form : ℕ) (xs : List ℕ) (form′ : ℕ) (ys : List ℕ) → (extendingC (extendsLists form xs form′ ys) .refusal ≡ 0) ↔ GivenTwo (extendsLists form xs form′ ys)
+extends-given form xs form′ ys = extending-given _ (laws.numbered-extends form xs form′ ys)
 
-pub signal-entry-given : (xs : List ℕ) (k : ℕ) → (entryC (entryOf xs k) .refusal ≡ 0) ↔ Given (entryOf xs k)
-signal-entry-given xs k = entry-given _ (laws.numbered-entry xs k)
+pub signal-entry-given : (form : ℕ) (xs : List ℕ) (k : ℕ) → (entryC (entryOf form xs k) .refusal ≡ 0) ↔ Given (entryOf form xs k)
+signal-entry-given form xs k = entry-given _ (laws.numbered-entry form xs k)
 
-pub find-signal-given : (xs : List ℕ) (type start : ℕ) → (foundC (finding xs type start) .refusal ≡ 0) ↔ Given (finding xs type start)
-find-signal-given xs type start = found-given _ (laws.numbered-finding xs type start)
+pub find-signal-given : (form : ℕ) (xs : List ℕ) (type start : ℕ) → (foundC (finding form xs type start) .refusal ≡ 0) ↔ Given (finding form xs type start)
+find-signal-given form xs type start = found-given _ (laws.numbered-finding form xs type start)
+
+pub serial-given : (form : ℕ) (xs : List ℕ) (k : ℕ) → (serialC (serialOf form xs k) .refusal ≡ 0) ↔ Given (serialOf form xs k)
+serial-given form xs k = serial-c-given _ (laws.numbered-serial form xs k)
+
+module _ (xs out : List ℕ) (room : ℕ) (r : DfOutcome) (new : List ℕ) where
+  pub to-form-2-given : WrittenC (toForm2 xs room) out r new → (r .refusal ≡ 0) ↔ Given (toForm2 xs room)
+  to-form-2-given w = written-given _ out r new w (laws.numbered-toForm2 xs room)
+
+  pub to-form-2-kept : WrittenC (toForm2 xs room) out r new → (r .refusal ≡ 0 → ⊥) → new ≡ out
+  to-form-2-kept w = written-kept _ out r new w
+
+  pub to-form-1-given : WrittenC (toForm1 xs room) out r new → (r .refusal ≡ 0) ↔ Given (toForm1 xs room)
+  to-form-1-given w = written-given _ out r new w (laws.numbered-toForm1 xs room)
+
+  pub to-form-1-kept : WrittenC (toForm1 xs room) out r new → (r .refusal ≡ 0 → ⊥) → new ≡ out
+  to-form-1-kept w = written-kept _ out r new w
 
 pub check-place-given : (b : ℕ) → (placeC (checkPlace b) .refusal ≡ 0) ↔ Given (checkPlace b)
 check-place-given b = place-given _ (laws.numbered-place b)
 
-pub read-given : (xs store : List ℕ) (now v k : ℕ) → (readingC (reading xs store now v k) .refusal ≡ 0) ↔ Given (reading xs store now v k)
-read-given xs store now v k = reading-given _ (laws.numbered-reading xs store now v k)
+pub read-given : (form : ℕ) (xs store : List ℕ) (now v k : ℕ) → (readingC (reading form xs store now v k) .refusal ≡ 0) ↔ Given (reading form xs store now v k)
+read-given form xs store now v k = reading-given _ (laws.numbered-reading form xs store now v k)
 
 pub show-given : (kind : Kind) (width raw : ℕ) → (shownC (showing kind width raw) .refusal ≡ 0) ↔ Given (showing kind width raw)
 show-given kind width raw = shown-given _ (laws.numbered-showing kind width raw)
@@ -124,10 +144,10 @@ module _ (store : List ℕ) (now : ℕ) (r : DfOutcome) (new : List ℕ) (w : Wr
   pub sweep-kept : (r .refusal ≡ 0 → ⊥) → new ≡ store
   sweep-kept = written-kept _ store r new w
 
-module _ (xs : List ℕ) (type : ℕ) (values marks : List ℕ) (room : ℕ) (out : List ℕ) (r : DfOutcome) (new : List ℕ)
-    (w : WrittenC (composing xs type values marks room) out r new) where
-  pub compose-given : (r .refusal ≡ 0) ↔ Given (composing xs type values marks room)
-  compose-given = written-given _ out r new w (laws.numbered-composing xs type values marks room)
+module _ (form : ℕ) (xs : List ℕ) (type : ℕ) (values marks : List ℕ) (room : ℕ) (out : List ℕ) (r : DfOutcome) (new : List ℕ)
+    (w : WrittenC (composing form xs type values marks room) out r new) where
+  pub compose-given : (r .refusal ≡ 0) ↔ Given (composing form xs type values marks room)
+  compose-given = written-given _ out r new w (laws.numbered-composing form xs type values marks room)
 
   pub compose-kept : (r .refusal ≡ 0 → ⊥) → new ≡ out
   compose-kept = written-kept _ out r new w
@@ -139,9 +159,9 @@ module _ (telegram head : List ℕ) (status : ℕ) (out : List ℕ) (r : DfOutco
   pub e-answer-kept : (r .refusal ≡ 0 → ⊥) → new ≡ out
   e-answer-kept = written-kept _ out r new w
 
-module _ (xs store : List ℕ) (now : ℕ) (bus : List ℕ) (r : DfMarshalled) (new : List ℕ) (d : DeliveredC (marshalling xs store now bus) bus r new) where
-  pub marshal-given : (r .refusal ≡ 0) ↔ Given (marshalling xs store now bus)
-  marshal-given = delivered-given _ bus r new d (laws.numbered-marshalling xs store now bus)
+module _ (form : ℕ) (xs store : List ℕ) (now : ℕ) (bus : List ℕ) (r : DfMarshalled) (new : List ℕ) (d : DeliveredC (marshalling form xs store now bus) bus r new) where
+  pub marshal-given : (r .refusal ≡ 0) ↔ Given (marshalling form xs store now bus)
+  marshal-given = delivered-given _ bus r new d (laws.numbered-marshalling form xs store now bus)
 
   pub marshal-kept : (r .refusal ≡ 0 → ⊥) → new ≡ bus
   marshal-kept = delivered-kept _ bus r new d

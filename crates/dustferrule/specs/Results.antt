@@ -17,6 +17,7 @@ use Rattle.dustferrule.specs.declared.DfJudged.{DfJudged}
 use Rattle.dustferrule.specs.declared.DfExtending.{DfExtending}
 use Rattle.dustferrule.specs.declared.DfEntry.{DfEntry}
 use Rattle.dustferrule.specs.declared.DfFound.{DfFound}
+use Rattle.dustferrule.specs.declared.DfSerial.{DfSerial}
 use Rattle.dustferrule.specs.declared.DfMarshalled.{DfMarshalled}
 use Rattle.dustferrule.specs.declared.DfPlace.{DfPlace}
 use Rattle.dustferrule.specs.declared.DfReading.{DfReading}
@@ -58,6 +59,10 @@ entryC (gives e) = record {
 }
 entryC (refused n at) =
     record { refusal = n; carried = at; start = 0; width = 0; kind = 0; check = 0; since = 0; limit = 0; replacement = 0; place = 0 }
+
+abbrev pub serialC : Answer ℕ → DfSerial
+serialC (gives v) = record { refusal = 0; carried = 0; serial = v }
+serialC (refused n at) = record { refusal = n; carried = at; serial = 0 }
 
 abbrev pub foundC : Answer ℕ → DfFound
 foundC (gives k) = record { refusal = 0; carried = 0; signal = k }

@@ -8,6 +8,7 @@ ghost use Rattle.paper.specs.Telegrams.{checkPlace};
 ghost use Rattle.paper.specs.SignalList.{judge as judging};
 ghost use Rattle.paper.specs.Extends.{extendsLists};
 ghost use Rattle.paper.specs.Pairs.{entryOf, finding};
+ghost use Rattle.paper.specs.Forms.{serialOf, toForm2, toForm1};
 ghost use Rattle.paper.specs.Store.{taking, sweeping};
 ghost use Rattle.paper.specs.Reading.{reading};
 ghost use Rattle.paper.specs.Marshalling.{marshalling};
@@ -20,13 +21,14 @@ ghost use Rattle.refusals.specs.Outcome.{outcomeOf};
 ghost use Rattle.lists.specs.Judged.{judgedAnswer};
 ghost use Rattle.extending.specs.Extending.{extendsAnswer};
 ghost use Rattle.finding.specs.Finding.{entryAnswer, foundAnswer};
+ghost use Rattle.forms.specs.Forms.{serialAnswer};
 ghost use Rattle.marshalling.specs.Marshalling.{liveAnswer};
 ghost use Rattle.grouping.specs.Place.{placeAnswer};
 ghost use Rattle.reading.specs.Reading.{readAnswer};
 ghost use Rattle.shown.specs.Show.{kindOf, shownOf, showingAnswer};
 ghost use Rattle.train.specs.Marks.{vehicleOf, resolvedAnswer};
 ghost use Rattle.etelegrams.specs.Answers.{eReadAnswer};
-ghost use Rattle.dustferrule.specs.Results.{yesNo, floatOf, outcomeC, judgedC, extendingC, entryC, foundC, livesC, placeC, readingC, shownC, membersC, eReadC, WrittenC, DeliveredC};
+ghost use Rattle.dustferrule.specs.Results.{yesNo, floatOf, outcomeC, judgedC, extendingC, entryC, foundC, serialC, livesC, placeC, readingC, shownC, membersC, eReadC, WrittenC, DeliveredC};
 use gateway::ERead;
 use gateway::EntryOutcome;
 use gateway::ExtendsOutcome;
@@ -39,6 +41,7 @@ use gateway::Place;
 use gateway::ReadOutcome;
 use gateway::Refusal;
 use gateway::Resolved;
+use gateway::SerialOutcome;
 use gateway::Showing;
 use gateway::Shown;
 
@@ -89,6 +92,13 @@ pub struct DfFound {
     pub refusal: u32,
     pub carried: u64,
     pub signal: u64,
+}
+
+#[repr(C)]
+pub struct DfSerial {
+    pub refusal: u32,
+    pub carried: u64,
+    pub serial: u64,
 }
 
 #[repr(C)]
@@ -267,6 +277,23 @@ fn found_c(o: Found) -> DfFound
     }
 }
 
+fn serial_c(o: SerialOutcome) -> DfSerial
+    ensures { λ r. ⌜ r ≡ serialC (serialAnswer o) ⌝ }
+{
+    match o {
+        SerialOutcome::Serial(v) => DfSerial {
+            refusal: 0,
+            carried: 0,
+            serial: v as u64,
+        },
+        SerialOutcome::Refused(f) => DfSerial {
+            refusal: number(f),
+            carried: carried(f),
+            serial: 0,
+        },
+    }
+}
+
 fn lives_c(o: Marshalled) -> DfMarshalled
     ensures { λ r. ⌜ r ≡ livesC (liveAnswer o) ⌝ }
 {
@@ -387,31 +414,52 @@ fn e_read_c(o: ERead) -> DfERead
 }
 
 #[no_mangle]
-pub extern "C" fn df_judge(list: &[u8]) -> DfJudged
-    ensures { λ r. ⌜ r ≡ judgedC (judging (now (list .entry))) ⌝ }
+pub extern "C" fn df_judge(list: &[u8], form: u8) -> DfJudged
+    ensures { λ r. ⌜ r ≡ judgedC (judging form (now (list .entry))) ⌝ }
 {
-    judged_c(gateway::judge(list))
+    judged_c(gateway::judge(list, form))
 }
 
 #[no_mangle]
-pub extern "C" fn df_extends(a: &[u8], b: &[u8]) -> DfExtending
-    ensures { λ r. ⌜ r ≡ extendingC (extendsLists (now (a .entry)) (now (b .entry))) ⌝ }
+pub extern "C" fn df_extends(a: &[u8], form: u8, b: &[u8], other: u8) -> DfExtending
+    ensures { λ r. ⌜ r ≡ extendingC (extendsLists form (now (a .entry)) other (now (b .entry))) ⌝ }
 {
-    extending_c(gateway::extends(a, b))
+    extending_c(gateway::extends(a, form, b, other))
 }
 
 #[no_mangle]
-pub extern "C" fn df_signal_entry(list: &[u8], signal: u64) -> DfEntry
-    ensures { λ r. ⌜ r ≡ entryC (entryOf (now (list .entry)) signal) ⌝ }
+pub extern "C" fn df_signal_entry(list: &[u8], form: u8, signal: u64) -> DfEntry
+    ensures { λ r. ⌜ r ≡ entryC (entryOf form (now (list .entry)) signal) ⌝ }
 {
-    entry_c(gateway::signal_entry(list, signal as usize))
+    entry_c(gateway::signal_entry(list, form, signal as usize))
 }
 
 #[no_mangle]
-pub extern "C" fn df_find_signal(list: &[u8], kind: u64, start: u64) -> DfFound
-    ensures { λ r. ⌜ r ≡ foundC (finding (now (list .entry)) kind start) ⌝ }
+pub extern "C" fn df_find_signal(list: &[u8], form: u8, kind: u64, start: u64) -> DfFound
+    ensures { λ r. ⌜ r ≡ foundC (finding form (now (list .entry)) kind start) ⌝ }
 {
-    found_c(gateway::find_signal(list, kind as usize, start as usize))
+    found_c(gateway::find_signal(list, form, kind as usize, start as usize))
+}
+
+#[no_mangle]
+pub extern "C" fn df_serial(list: &[u8], form: u8, signal: u64) -> DfSerial
+    ensures { λ r. ⌜ r ≡ serialC (serialOf form (now (list .entry)) signal) ⌝ }
+{
+    serial_c(gateway::serial_of(list, form, signal as usize))
+}
+
+#[no_mangle]
+pub extern "C" fn df_to_form_2(list: &[u8], out: &mut [u8]) -> DfOutcome
+    ensures { λ r. ⌜ WrittenC (toForm2 (now (list .entry)) (length (now (out .entry)))) (now (out .entry)) r (now (out .exit)) ⌝ }
+{
+    outcome_c(gateway::to_form_2(list, out))
+}
+
+#[no_mangle]
+pub extern "C" fn df_to_form_1(list: &[u8], out: &mut [u8]) -> DfOutcome
+    ensures { λ r. ⌜ WrittenC (toForm1 (now (list .entry)) (length (now (out .entry)))) (now (out .entry)) r (now (out .exit)) ⌝ }
+{
+    outcome_c(gateway::to_form_1(list, out))
 }
 
 #[no_mangle]
@@ -438,34 +486,42 @@ pub extern "C" fn df_sweep(store: &mut [u8], clock: u32) -> DfOutcome
 #[no_mangle]
 pub extern "C" fn df_read(
     list: &[u8],
+    form: u8,
     store: &[u8],
     clock: u32,
     vehicle: u64,
     signal: u64,
 ) -> DfReading
-    ensures { λ r. ⌜ r ≡ readingC (reading (now (list .entry)) (now (store .entry)) clock vehicle signal) ⌝ }
+    ensures { λ r. ⌜ r ≡ readingC (reading form (now (list .entry)) (now (store .entry)) clock vehicle signal) ⌝ }
 {
-    reading_c(gateway::read(list, store, clock, vehicle as usize, signal as usize))
+    reading_c(gateway::read(list, form, store, clock, vehicle as usize, signal as usize))
 }
 
 #[no_mangle]
-pub extern "C" fn df_marshal(list: &[u8], store: &[u8], clock: u32, bus: &mut [u8]) -> DfMarshalled
-    ensures { λ r. ⌜ DeliveredC (marshalling (now (list .entry)) (now (store .entry)) clock (now (bus .entry))) (now (bus .entry)) r (now (bus .exit)) ⌝ }
+pub extern "C" fn df_marshal(
+    list: &[u8],
+    form: u8,
+    store: &[u8],
+    clock: u32,
+    bus: &mut [u8],
+) -> DfMarshalled
+    ensures { λ r. ⌜ DeliveredC (marshalling form (now (list .entry)) (now (store .entry)) clock (now (bus .entry))) (now (bus .entry)) r (now (bus .exit)) ⌝ }
 {
-    lives_c(gateway::marshal(list, store, clock, bus))
+    lives_c(gateway::marshal(list, form, store, clock, bus))
 }
 
 #[no_mangle]
 pub extern "C" fn df_compose(
     list: &[u8],
+    form: u8,
     kind: u64,
     values: &[u64],
     marks: &[u8],
     out: &mut [u8],
 ) -> DfOutcome
-    ensures { λ r. ⌜ WrittenC (composing (now (list .entry)) kind (now (values .entry)) (now (marks .entry)) (length (now (out .entry)))) (now (out .entry)) r (now (out .exit)) ⌝ }
+    ensures { λ r. ⌜ WrittenC (composing form (now (list .entry)) kind (now (values .entry)) (now (marks .entry)) (length (now (out .entry)))) (now (out .entry)) r (now (out .exit)) ⌝ }
 {
-    outcome_c(gateway::compose(list, kind as usize, values, marks, out))
+    outcome_c(gateway::compose(list, form, kind as usize, values, marks, out))
 }
 
 // A code is shown as itself: nothing is refused.

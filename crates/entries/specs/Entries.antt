@@ -4,7 +4,7 @@ use mathlib.Core.Path.{_≡_}
 use mathlib.Core.Bool.{Bool, _&&_, _||_}
 use mathlib.Core.List.{List}
 use lib.Dec.{ltb, leb, eqb}
-use Rattle.paper.specs.SignalList.{Signal as PaperSignal, Code as PaperCode, Route as PaperRoute, checkAt, signalAt, codeAt, routeAt}
+use Rattle.paper.specs.SignalList.{Signal as PaperSignal, Code as PaperCode, Route as PaperRoute, codeAt, routeAt}
 use Rattle.paper.specs.SignalList.{widthRule, typeRule, placeRule, namedRule, valueRule, routeEnd}
 use Rattle.entries.specs.declared.Signal.{Signal}
 use Rattle.entries.specs.declared.Code.{Code}
@@ -33,12 +33,12 @@ pub record Placeable (s : Signal) : Type 0 where
   pub start-small : s .start < 65536
   pub width-small : s .width < 256
 
-pub record CheckRead (xs : List ℕ) (k r : ℕ) : Type 0 where
-  pub is : r ≡ checkAt xs k
+pub record CheckRead (place r : ℕ) : Type 0 where
+  pub is : r ≡ place
   pub small : r < 65536
 
-pub record SignalRead (xs : List ℕ) (k : ℕ) (r : Signal) : Type 0 where
-  pub is : signalOf r ≡ signalAt xs k
+pub record SignalRead (s : PaperSignal) (r : Signal) : Type 0 where
+  pub is : signalOf r ≡ s
   pub start-small : r .start < 65536
   pub width-small : r .width < 256
   pub kind-small : r .kind < 256

@@ -4,15 +4,17 @@ ghost use Prim.Native.Nat.{_+_, _-_, _^_, _<_, _≤_};
 ghost use mathlib.Core.Bool.{_&&_};
 ghost use lib.ListN.{length, getD};
 ghost use lib.Dec.{ltb};
-ghost use Rattle.paper.specs.SignalList.{entry, checkSize, signalSize, codeSize, routeSize, widest, checkAt, signalAt};
+ghost use Rattle.paper.specs.SignalList.{entry, checkSize, codeSize, routeSize, checkAt, signalAt};
 ghost use Rattle.paper.specs.SignalList.{checkRule, placeRule, namedRule, valueRule, routeEnd};
 ghost use Rattle.entries.specs.Entries.{signalOf, codeOf, routeOf, CheckRead, SignalRead, CodeRead, RouteRead, OctetRead};
 ghost use Rattle.entries.specs.Entries.{Placeable, inOrder, ownRule, codeKeeps, routeKeeps};
 
-// The octets of an entry of each section.
+// The octets of an entry of each section; a signal's has so many in form 1, and in form 2 a serial number behind them.
 pub const CHECK_SIZE: usize = 2;
 
 pub const SIGNAL_SIZE: usize = 16;
+
+pub const SERIAL_SIZE: usize = 2;
 
 pub const CODE_SIZE: usize = 6;
 
@@ -62,17 +64,17 @@ fn octet_at(s: &[u8], at: usize) -> usize
 // Inner: check k of the list.
 pub fn check_at(list: &[u8], k: usize) -> usize
     requires { ⌜ entry checkSize (k + 1) ≤ length (now list) ⌝ }
-    ensures { λ r. ⌜ CheckRead (now (list .entry)) k r ⌝ }
+    ensures { λ r. ⌜ CheckRead (checkAt (now (list .entry)) k) r ⌝ }
 {
     octets::read16(list, 2 + CHECK_SIZE * k)
 }
 
-// Inner: signal k, from the signals' count on.
-pub fn signal_at(tail: &[u8], k: usize) -> Signal
-    requires { ⌜ entry signalSize (k + 1) ≤ length (now tail) ⌝ }
-    ensures { λ r. ⌜ SignalRead (now (tail .entry)) k r ⌝ }
+// Inner: signal k of entries of `size` octets, from the signals' count on.
+pub fn signal_at(tail: &[u8], size: usize, k: usize) -> Signal
+    requires { ⌜ (16 ≤ size) × (entry size (k + 1) ≤ length (now tail)) ⌝ }
+    ensures { λ r. ⌜ SignalRead (signalAt size (now (tail .entry)) k) r ⌝ }
 {
-    let at = 2 + SIGNAL_SIZE * k;
+    let at = 2 + size * k;
     Signal {
         start: octets::read16(tail, at),
         width: octets::wide(tail[at + 2]),
@@ -112,19 +114,19 @@ pub fn route_at(tail: &[u8], k: usize) -> Route
 }
 
 // Inner: the width of signal k, which need not exist.
-pub fn width_at(tail: &[u8], k: usize) -> usize
-    requires { ⌜ k < 65536 ⌝ }
-    ensures { λ r. ⌜ OctetRead (signalAt (now (tail .entry)) k .width) r ⌝ }
+pub fn width_at(tail: &[u8], size: usize, k: usize) -> usize
+    requires { ⌜ (size ≤ 18) × (k < 65536) ⌝ }
+    ensures { λ r. ⌜ OctetRead (signalAt size (now (tail .entry)) k .width) r ⌝ }
 {
-    octet_at(tail, 2 + SIGNAL_SIZE * k + 2)
+    octet_at(tail, 2 + size * k + 2)
 }
 
 // Inner: the since-version of signal k.
-pub fn since_at(tail: &[u8], k: usize) -> usize
-    requires { ⌜ entry signalSize (k + 1) ≤ length (now tail) ⌝ }
-    ensures { λ r. ⌜ OctetRead (signalAt (now (tail .entry)) k .since) r ⌝ }
+pub fn since_at(tail: &[u8], size: usize, k: usize) -> usize
+    requires { ⌜ (16 ≤ size) × (entry size (k + 1) ≤ length (now tail)) ⌝ }
+    ensures { λ r. ⌜ OctetRead (signalAt size (now (tail .entry)) k .since) r ⌝ }
 {
-    octets::wide(tail[2 + SIGNAL_SIZE * k + 5])
+    octets::wide(tail[2 + size * k + 5])
 }
 
 // Inner: check k keeps its rule.
@@ -207,22 +209,29 @@ pub fn check_before(list: &[u8], checks: usize, j: usize, end: usize) -> bool
 }
 
 // The width of signal k, which exists.
-fn width_of(tail: &[u8], k: usize) -> usize
-    requires { ⌜ entry signalSize (k + 1) ≤ length (now tail) ⌝ }
-    ensures { λ r. ⌜ OctetRead (signalAt (now (tail .entry)) k .width) r ⌝ }
+fn width_of(tail: &[u8], size: usize, k: usize) -> usize
+    requires { ⌜ (16 ≤ size) × (entry size (k + 1) ≤ length (now tail)) ⌝ }
+    ensures { λ r. ⌜ OctetRead (signalAt size (now (tail .entry)) k .width) r ⌝ }
 {
-    octets::wide(tail[2 + SIGNAL_SIZE * k + 2])
+    octets::wide(tail[2 + size * k + 2])
 }
 
 // Inner: c, behind a code entry of the signal `last` and with `least` as its least code, keeps its rule; sig starts at the signals' count.
-pub fn code_rule(sig: &[u8], signals: usize, last: usize, least: usize, c: Code) -> bool
-    requires { ⌜ entry signalSize signals ≤ length (now sig) ⌝ }
-    ensures { λ r. ⌜ r ≡ codeKeeps signals (signalAt (now (sig .entry))) last least (codeOf c) ⌝ }
+pub fn code_rule(
+    sig: &[u8],
+    size: usize,
+    signals: usize,
+    last: usize,
+    least: usize,
+    c: Code,
+) -> bool
+    requires { ⌜ (16 ≤ size) × (entry size signals ≤ length (now sig)) ⌝ }
+    ensures { λ r. ⌜ r ≡ codeKeeps signals (signalAt size (now (sig .entry))) last least (codeOf c) ⌝ }
 {
     if signals <= c.signal {
         return false;
     }
-    let w = width_of(sig, c.signal);
+    let w = width_of(sig, size, c.signal);
     if 16 < w {
         return false;
     }
@@ -230,10 +239,10 @@ pub fn code_rule(sig: &[u8], signals: usize, last: usize, least: usize, c: Code)
 }
 
 // Inner: r, behind a route that ends at `past`, keeps its rule.
-pub fn route_rule(sig: &[u8], signals: usize, past: usize, r: Route) -> bool
-    requires { ⌜ entry signalSize signals ≤ length (now sig) ⌝ }
+pub fn route_rule(sig: &[u8], size: usize, signals: usize, past: usize, r: Route) -> bool
+    requires { ⌜ (16 ≤ size) × (entry size signals ≤ length (now sig)) ⌝ }
     requires { ⌜ r .start < 65536 ⌝ }
-    ensures { λ b. ⌜ b ≡ routeKeeps signals (signalAt (now (sig .entry))) past (routeOf r) ⌝ }
+    ensures { λ b. ⌜ b ≡ routeKeeps signals (signalAt size (now (sig .entry))) past (routeOf r) ⌝ }
 {
     if signals <= r.signal {
         return false;
@@ -241,14 +250,14 @@ pub fn route_rule(sig: &[u8], signals: usize, past: usize, r: Route) -> bool
     (1 <= r.vehicle)
         & (r.vehicle <= 63)
         & (r.null == 0)
-        & (route_end(sig, r) <= 2048)
+        & (route_end(sig, size, r) <= 2048)
         & (past <= r.start)
 }
 
 // Inner: the first bit past a route whose signal exists.
-pub fn route_end(sig: &[u8], r: Route) -> usize
-    requires { ⌜ (entry signalSize (r .signal + 1) ≤ length (now sig)) × (r .start < 65536) ⌝ }
-    ensures { λ e. ⌜ e ≡ routeEnd (signalAt (now (sig .entry))) (routeOf r) ⌝ }
+pub fn route_end(sig: &[u8], size: usize, r: Route) -> usize
+    requires { ⌜ (16 ≤ size) × (entry size (r .signal + 1) ≤ length (now sig)) × (r .start < 65536) ⌝ }
+    ensures { λ e. ⌜ e ≡ routeEnd (signalAt size (now (sig .entry))) (routeOf r) ⌝ }
 {
-    r.start + width_of(sig, r.signal)
+    r.start + width_of(sig, size, r.signal)
 }

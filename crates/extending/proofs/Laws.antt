@@ -346,9 +346,10 @@ module _ (a b : SignalList) (i j from to : ℕ) (own : Own (a .codes) (a .code) 
 
 -- ---- a call that answers yes has the premise of demand 3, whichever of the two lists writes
 
-pub answered-yes : (xs ys : List ℕ) → extendsAnswer Yes ≡ extendsLists xs ys → (m n : Counts) → judge xs ≡ gives m → judge ys ≡ gives n
+pub answered-yes : (form : ℕ) (xs : List ℕ) (form′ : ℕ) (ys : List ℕ) → extendsAnswer Yes ≡ extendsLists form xs form′ ys
+    → (m n : Counts) → judge form xs ≡ gives m → judge form′ ys ≡ gives n
     → (Related (listOf xs m) (listOf ys n)) × (Related (listOf ys n) (listOf xs m))
-answered-yes xs ys e = yes-related xs ys (sym e)
+answered-yes form xs form′ ys e = yes-related form xs form′ ys (sym e)
 
 -- ---- the contract settles the answer
 

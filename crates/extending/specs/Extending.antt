@@ -21,8 +21,8 @@ extendsAnswer (FirstRefused f) = firstRefused (numberOf f) (carriedOf f)
 extendsAnswer (SecondRefused f) = secondRefused (numberOf f) (carriedOf f)
 
 -- what is answered once the first list is accepted
-abbrev pub extendsUnder : SignalList → List ℕ → OfTwo Bool
-extendsUnder a ys = ofTwo (judge ys) secondRefused (λ n. ofBoth (extends a (listOf ys n)))
+abbrev pub extendsUnder : SignalList → ℕ → List ℕ → OfTwo Bool
+extendsUnder a form ys = ofTwo (judge form ys) secondRefused (λ n. ofBoth (extends a (listOf ys n)))
 
 -- the list with the counts that it was accepted with
 abbrev pub listed : List ℕ → Counts → SignalList

@@ -167,11 +167,11 @@ fn compared(a: &[u8], m: Counts, b: &[u8], n: Counts) -> bool
 }
 
 // An accepted list A, and B yet to be judged.
-fn extends_accepted(a: &[u8], m: Counts, b: &[u8]) -> ExtendsOutcome
+fn extends_accepted(a: &[u8], m: Counts, b: &[u8], other: u8) -> ExtendsOutcome
     requires { ⌜ Laid (now a) (countsOf m) ⌝ }
-    ensures { λ r. ⌜ extendsAnswer r ≡ extendsUnder (listed (now (a .entry)) m) (now (b .entry)) ⌝ }
+    ensures { λ r. ⌜ extendsAnswer r ≡ extendsUnder (listed (now (a .entry)) m) other (now (b .entry)) ⌝ }
 {
-    let judged = lists::judge(b);
+    let judged = lists::judge(b, other);
     match judged {
         Judged::Refused(f) => ExtendsOutcome::SecondRefused(f),
         Judged::Accepted(n) => {
@@ -184,12 +184,12 @@ fn extends_accepted(a: &[u8], m: Counts, b: &[u8]) -> ExtendsOutcome
 }
 
 // Whether the list b extends the list a. Refused: 1 to 4, of a before b.
-pub fn extends(a: &[u8], b: &[u8]) -> ExtendsOutcome
-    ensures { λ r. ⌜ extendsAnswer r ≡ extendsLists (now (a .entry)) (now (b .entry)) ⌝ }
+pub fn extends(a: &[u8], form: u8, b: &[u8], other: u8) -> ExtendsOutcome
+    ensures { λ r. ⌜ extendsAnswer r ≡ extendsLists form (now (a .entry)) other (now (b .entry)) ⌝ }
 {
-    let judged = lists::judge(a);
+    let judged = lists::judge(a, form);
     match judged {
         Judged::Refused(f) => ExtendsOutcome::FirstRefused(f),
-        Judged::Accepted(m) => extends_accepted(a, m, b),
+        Judged::Accepted(m) => extends_accepted(a, m, b, other),
     }
 }

@@ -1,8 +1,9 @@
 -- What a section's answer is put together of, the rule of a signal from its parts, and that the contract settles the answer. Assumes nothing.
-use Prim.Native.Nat.{ℕ, _+_, _-_, _≤_, _<_}
+use Prim.Native.Nat.{ℕ, _+_, _-_, _*_, _/_, _≤_, _<_}
 use mathlib.Core.Path.{_≡_, refl, sym, ap, _∙_}
 use mathlib.Core.Bool.{Bool, true, false}
 use mathlib.Core.List.{List, _++_}
+use native.Mathlib.Nat.{mul-div-right, lt-of-mul-lt-mul-left, le-of-mul-le-mul-left}
 use native.Mathlib.Omega.{arith}
 use borrow.Author.Tests.{lt-ltb, le-ltb}
 use Rattle.paper.specs.Answer.{gives, Sought, found, nothing}
@@ -32,6 +33,17 @@ module _ (limit size : ℕ) (xs : List ℕ) {s : Section} (said : sectionAnswer 
 
   pub opened : Opened limit size xs n
   opened = opened-of _ _ _ n (sym told)
+
+-- `at` is where entry k stands
+module _ (size : ℕ) {at k : ℕ} (is : at ≡ entry size k) where
+  pub entry-number : 0 < size → (at - 2) / size ≡ k
+  entry-number pos = let z : at - 2 ≡ size * k = omega (arith, is) in rw z (mul-div-right k pos)
+
+  pub entry-before : (n : ℕ) → at < entry size n → k < n
+  entry-before n h = lt-of-mul-lt-mul-left size (omega (arith, is))
+
+  pub entry-past : (n : ℕ) → 0 < size → entry size n ≤ at → n ≤ k
+  entry-past n pos h = le-of-mul-le-mul-left (omega (arith, is)) pos
 
 -- k is what a loop over n entries answered
 module _ (rule : ℕ → Bool) (n : ℕ) {k : ℕ} (first : k ≡ firstBad rule n) where

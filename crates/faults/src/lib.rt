@@ -5,7 +5,8 @@ ghost use Prim.Native.Nat.{_+_, _^_, _<_, _≤_};
 ghost use lib.ListN.{length};
 ghost use lib.Dec.{ltb};
 ghost use Rattle.paper.specs.First.{stop, all};
-ghost use Rattle.paper.specs.SignalList.{entry, checkSize, signalSize, codeSize, routeSize, checkAt, signalAt, codeAt, routeAt, checkRule, signalRule};
+ghost use Rattle.paper.specs.SignalList.{entry, checkSize, codeSize, routeSize, checkAt, signalAt, codeAt, routeAt, checkRule, signalRule};
+ghost use Rattle.paper.specs.Accepted.{Sized};
 ghost use Rattle.paper.specs.Broken.{brokenOr, broken, named, checkFault, signalFault, codeFault, routeFault, faultFromRoutes, faultFromCodes, faultFromSignals, faultOf};
 ghost use Rattle.entries.specs.Entries.{signalOf, codeOf, routeOf, Placeable};
 ghost use Rattle.faults.specs.Faults.{faultAs, faultAnswer, valueTests, orderTests, placeTests, codeTestsOf, routeTestsOf};
@@ -14,7 +15,6 @@ use entries::CODE_SIZE;
 use entries::Code;
 use entries::ROUTE_SIZE;
 use entries::Route;
-use entries::SIGNAL_SIZE;
 use entries::Signal;
 use entries::WIDEST;
 use lists::MOST_CHECKS;
@@ -49,12 +49,12 @@ fn unless(kept: bool, number: usize, later: usize) -> usize
 }
 
 // The signal that an entry names; all 0 where there is none.
-fn named_signal(sig: &[u8], signals: usize, j: usize) -> Signal
-    requires { ⌜ entry signalSize signals ≤ length (now sig) ⌝ }
-    ensures { λ r. ⌜ signalOf r ≡ named signals (signalAt (now (sig .entry))) j ⌝ }
+fn named_signal(sig: &[u8], size: usize, signals: usize, j: usize) -> Signal
+    requires { ⌜ (16 ≤ size) × (entry size signals ≤ length (now sig)) ⌝ }
+    ensures { λ r. ⌜ signalOf r ≡ named signals (signalAt size (now (sig .entry))) j ⌝ }
 {
     if j < signals {
-        return entries::signal_at(sig, j);
+        return entries::signal_at(sig, size, j);
     }
     Signal {
         start: 0,
@@ -127,14 +127,21 @@ fn signal_number(list: &[u8], checks: usize, s: Signal, later: usize) -> usize
 }
 
 // Of a section that starts `base` octets on.
-fn signal_fault(base: usize, list: &[u8], checks: usize, tail: &[u8], k: usize) -> Fault
-    requires { ⌜ (entry checkSize checks ≤ length (now list)) × (entry signalSize (k + 1) ≤ length (now tail)) ⌝ }
-    requires { ⌜ (base ≤ 65536) × (k < 65536) ⌝ }
-    requires { ⌜ signalRule checks (checkAt (now list)) (signalAt (now tail)) k ≡ false ⌝ }
-    ensures { λ r. ⌜ faultAs r ≡ signalFault base checks (checkAt (now (list .entry))) (signalAt (now (tail .entry))) k ⌝ }
+fn signal_fault(
+    base: usize,
+    list: &[u8],
+    checks: usize,
+    tail: &[u8],
+    size: usize,
+    k: usize,
+) -> Fault
+    requires { ⌜ (entry checkSize checks ≤ length (now list)) × (entry size (k + 1) ≤ length (now tail)) ⌝ }
+    requires { ⌜ (Sized size) × (base ≤ 65536) × (k < 65536) ⌝ }
+    requires { ⌜ signalRule checks (checkAt (now list)) (signalAt size (now tail)) k ≡ false ⌝ }
+    ensures { λ r. ⌜ faultAs r ≡ signalFault size base checks (checkAt (now (list .entry))) (signalAt size (now (tail .entry))) k ⌝ }
 {
-    let s = entries::signal_at(tail, k);
-    let p = entries::signal_at(tail, entries::before(k));
+    let s = entries::signal_at(tail, size, k);
+    let p = entries::signal_at(tail, size, entries::before(k));
     let later = value_number(s, order_number(k, p, s));
     Fault {
         section: 2,
@@ -144,7 +151,7 @@ fn signal_fault(base: usize, list: &[u8], checks: usize, tail: &[u8], k: usize) 
         kind: s.kind,
         start: s.start,
         width: s.width,
-        at: base + (2 + SIGNAL_SIZE * k),
+        at: base + (2 + size * k),
     }
 }
 
@@ -163,15 +170,15 @@ fn code_number(signals: usize, width: usize, k: usize, p: Code, c: Code) -> usiz
     )
 }
 
-fn code_fault(base: usize, sig: &[u8], signals: usize, tail: &[u8], k: usize) -> Fault
-    requires { ⌜ (entry signalSize signals ≤ length (now sig)) × (entry codeSize (k + 1) ≤ length (now tail)) ⌝ }
-    requires { ⌜ (base ≤ 65536) × (k < 65536) ⌝ }
-    ensures { λ r. ⌜ faultAs r ≡ codeFault base signals (signalAt (now (sig .entry))) (codeAt (now (tail .entry))) k ⌝ }
+fn code_fault(base: usize, sig: &[u8], size: usize, signals: usize, tail: &[u8], k: usize) -> Fault
+    requires { ⌜ (entry size signals ≤ length (now sig)) × (entry codeSize (k + 1) ≤ length (now tail)) ⌝ }
+    requires { ⌜ (Sized size) × (base ≤ 65536) × (k < 65536) ⌝ }
+    ensures { λ r. ⌜ faultAs r ≡ codeFault base signals (signalAt size (now (sig .entry))) (codeAt (now (tail .entry))) k ⌝ }
 {
     let c = entries::code_at(tail, k);
     let p = entries::code_at(tail, entries::before(k));
-    let width = entries::width_at(sig, c.signal);
-    let s = named_signal(sig, signals, c.signal);
+    let width = entries::width_at(sig, size, c.signal);
+    let s = named_signal(sig, size, signals, c.signal);
     Fault {
         section: 3,
         index: k,
@@ -197,16 +204,16 @@ fn route_number(signals: usize, end: usize, k: usize, past: usize, r: Route) -> 
     )
 }
 
-fn route_fault(base: usize, sig: &[u8], signals: usize, tail: &[u8], k: usize) -> Fault
-    requires { ⌜ (entry signalSize signals ≤ length (now sig)) × (entry routeSize (k + 1) ≤ length (now tail)) ⌝ }
-    requires { ⌜ (base ≤ 65536) × (k < 65536) ⌝ }
-    ensures { λ r. ⌜ faultAs r ≡ routeFault base signals (signalAt (now (sig .entry))) (routeAt (now (tail .entry))) k ⌝ }
+fn route_fault(base: usize, sig: &[u8], size: usize, signals: usize, tail: &[u8], k: usize) -> Fault
+    requires { ⌜ (entry size signals ≤ length (now sig)) × (entry routeSize (k + 1) ≤ length (now tail)) ⌝ }
+    requires { ⌜ (Sized size) × (base ≤ 65536) × (k < 65536) ⌝ }
+    ensures { λ r. ⌜ faultAs r ≡ routeFault base signals (signalAt size (now (sig .entry))) (routeAt (now (tail .entry))) k ⌝ }
 {
     let r = entries::route_at(tail, k);
     let p = entries::route_at(tail, entries::before(k));
-    let end = r.start + entries::width_at(sig, r.signal);
-    let past = p.start + entries::width_at(sig, p.signal);
-    let s = named_signal(sig, signals, r.signal);
+    let end = r.start + entries::width_at(sig, size, r.signal);
+    let past = p.start + entries::width_at(sig, size, p.signal);
+    let s = named_signal(sig, size, signals, r.signal);
     Fault {
         section: 4,
         index: k,
@@ -220,17 +227,17 @@ fn route_fault(base: usize, sig: &[u8], signals: usize, tail: &[u8], k: usize) -
 }
 
 // The list from its routes on, which start `base` octets on; sig starts at the signals' count.
-fn from_routes(base: usize, sig: &[u8], signals: usize, tail: &[u8]) -> FaultOutcome
-    requires { ⌜ (base ≤ 65536) × (entry signalSize signals ≤ length (now sig)) ⌝ }
-    ensures { λ r. ⌜ faultAnswer r ≡ faultFromRoutes base signals (signalAt (now (sig .entry))) (now (tail .entry)) ⌝ }
+fn from_routes(base: usize, sig: &[u8], size: usize, signals: usize, tail: &[u8]) -> FaultOutcome
+    requires { ⌜ (Sized size) × (base ≤ 65536) × (entry size signals ≤ length (now sig)) ⌝ }
+    ensures { λ r. ⌜ faultAnswer r ≡ faultFromRoutes base signals (signalAt size (now (sig .entry))) (now (tail .entry)) ⌝ }
 {
     let opened = lists::open(tail, MOST_ROUTES, ROUTE_SIZE);
     match opened {
         Section::Refused(_) => FaultOutcome::NoEntry,
         Section::Entries(n) => {
-            let k = lists::first_bad_route(sig, signals, tail, n);
+            let k = lists::first_bad_route(sig, size, signals, tail, n);
             if k < n {
-                return FaultOutcome::Entry(route_fault(base, sig, signals, tail, k));
+                return FaultOutcome::Entry(route_fault(base, sig, size, signals, tail, k));
             }
             FaultOutcome::NoEntry
         }
@@ -238,47 +245,49 @@ fn from_routes(base: usize, sig: &[u8], signals: usize, tail: &[u8]) -> FaultOut
 }
 
 // From its codes on.
-fn from_codes(base: usize, sig: &[u8], signals: usize, tail: &[u8]) -> FaultOutcome
-    requires { ⌜ (base ≤ 32768) × (entry signalSize signals ≤ length (now sig)) ⌝ }
-    ensures { λ r. ⌜ faultAnswer r ≡ faultFromCodes base signals (signalAt (now (sig .entry))) (now (tail .entry)) ⌝ }
+fn from_codes(base: usize, sig: &[u8], size: usize, signals: usize, tail: &[u8]) -> FaultOutcome
+    requires { ⌜ (Sized size) × (base ≤ 32768) × (entry size signals ≤ length (now sig)) ⌝ }
+    ensures { λ r. ⌜ faultAnswer r ≡ faultFromCodes base signals (signalAt size (now (sig .entry))) (now (tail .entry)) ⌝ }
 {
     let opened = lists::open(tail, MOST_CODES, CODE_SIZE);
     match opened {
         Section::Refused(_) => FaultOutcome::NoEntry,
         Section::Entries(n) => {
-            let k = lists::first_bad_code(sig, signals, tail, n);
+            let k = lists::first_bad_code(sig, size, signals, tail, n);
             if k < n {
-                return FaultOutcome::Entry(code_fault(base, sig, signals, tail, k));
+                return FaultOutcome::Entry(code_fault(base, sig, size, signals, tail, k));
             }
             let past = base + (2 + CODE_SIZE * n);
-            from_routes(past, sig, signals, lists::rest(tail, CODE_SIZE, n))
+            from_routes(past, sig, size, signals, lists::rest(tail, CODE_SIZE, n))
         }
     }
 }
 
 // From its signals on; list starts at the checks' count.
-fn from_signals(base: usize, list: &[u8], checks: usize, tail: &[u8]) -> FaultOutcome
-    requires { ⌜ (base ≤ 16384) × (entry checkSize checks ≤ length (now list)) × (all (checkRule (checkAt (now list))) checks ≡ true) ⌝ }
-    ensures { λ r. ⌜ faultAnswer r ≡ faultFromSignals base checks (checkAt (now (list .entry))) (now (tail .entry)) ⌝ }
+fn from_signals(base: usize, list: &[u8], checks: usize, tail: &[u8], size: usize) -> FaultOutcome
+    requires { ⌜ (Sized size) × (base ≤ 16384) ⌝ }
+    requires { ⌜ (entry checkSize checks ≤ length (now list)) × (all (checkRule (checkAt (now list))) checks ≡ true) ⌝ }
+    ensures { λ r. ⌜ faultAnswer r ≡ faultFromSignals size base checks (checkAt (now (list .entry))) (now (tail .entry)) ⌝ }
 {
-    let opened = lists::open(tail, MOST_SIGNALS, SIGNAL_SIZE);
+    let opened = lists::open(tail, MOST_SIGNALS, size);
     match opened {
         Section::Refused(_) => FaultOutcome::NoEntry,
         Section::Entries(n) => {
-            let at = lists::first_bad_signal(list, checks, tail, n);
-            let end = 2 + SIGNAL_SIZE * n;
+            let at = lists::first_bad_signal(list, checks, tail, size, n);
+            let end = 2 + size * n;
             if at < end {
-                let k = (at - 2) / SIGNAL_SIZE;
-                return FaultOutcome::Entry(signal_fault(base, list, checks, tail, k));
+                let k = (at - 2) / size;
+                return FaultOutcome::Entry(signal_fault(base, list, checks, tail, size, k));
             }
-            from_codes(base + end, tail, n, lists::rest(tail, SIGNAL_SIZE, n))
+            from_codes(base + end, tail, size, n, lists::rest(tail, size, n))
         }
     }
 }
 
-// The entry that judging refuses with 3, with the first rule that it breaks. None where the list is accepted, or refused otherwise.
-pub fn find_fault(list: &[u8]) -> FaultOutcome
-    ensures { λ r. ⌜ faultAnswer r ≡ faultOf (now (list .entry)) ⌝ }
+// The entry that judging refuses with 3 in the form that the caller says, with the first rule that it breaks. None where the list is accepted, or
+// refused otherwise.
+pub fn find_fault(list: &[u8], form: u8) -> FaultOutcome
+    ensures { λ r. ⌜ faultAnswer r ≡ faultOf form (now (list .entry)) ⌝ }
 {
     let opened = lists::open(list, MOST_CHECKS, CHECK_SIZE);
     match opened {
@@ -289,7 +298,8 @@ pub fn find_fault(list: &[u8]) -> FaultOutcome
                 return FaultOutcome::Entry(check_fault(list, k));
             }
             let past = 2 + CHECK_SIZE * n;
-            from_signals(past, list, n, lists::rest(list, CHECK_SIZE, n))
+            let size = lists::entry_size(form);
+            from_signals(past, list, n, lists::rest(list, CHECK_SIZE, n), size)
         }
     }
 }

@@ -112,10 +112,10 @@ pub fn find_in(list: &[u8], n: Counts, kind: usize, start: usize) -> usize
 }
 
 // The entry of a signal. Refused: 1 to 4, 11.
-pub fn signal_entry(list: &[u8], signal: usize) -> EntryOutcome
-    ensures { λ r. ⌜ entryAnswer r ≡ entryOf (now (list .entry)) signal ⌝ }
+pub fn signal_entry(list: &[u8], form: u8, signal: usize) -> EntryOutcome
+    ensures { λ r. ⌜ entryAnswer r ≡ entryOf form (now (list .entry)) signal ⌝ }
 {
-    let judged = lists::judge(list);
+    let judged = lists::judge(list, form);
     match judged {
         Judged::Refused(f) => EntryOutcome::Refused(f),
         Judged::Accepted(n) => {
@@ -130,10 +130,10 @@ pub fn signal_entry(list: &[u8], signal: usize) -> EntryOutcome
 }
 
 // The number of the signal of a type at a start. Refused: 1 to 4, 11.
-pub fn find_signal(list: &[u8], kind: usize, start: usize) -> Found
-    ensures { λ r. ⌜ foundAnswer r ≡ finding (now (list .entry)) kind start ⌝ }
+pub fn find_signal(list: &[u8], form: u8, kind: usize, start: usize) -> Found
+    ensures { λ r. ⌜ foundAnswer r ≡ finding form (now (list .entry)) kind start ⌝ }
 {
-    let judged = lists::judge(list);
+    let judged = lists::judge(list, form);
     match judged {
         Judged::Refused(f) => Found::Refused(f),
         Judged::Accepted(n) => {
@@ -147,10 +147,10 @@ pub fn find_signal(list: &[u8], kind: usize, start: usize) -> Found
 }
 
 // The entry of a route, if there is one. Refused: 1 to 4.
-pub fn route_entry(list: &[u8], route: usize) -> RouteOutcome
-    ensures { λ r. ⌜ routeAnswer r ≡ routeEntry (now (list .entry)) route ⌝ }
+pub fn route_entry(list: &[u8], form: u8, route: usize) -> RouteOutcome
+    ensures { λ r. ⌜ routeAnswer r ≡ routeEntry form (now (list .entry)) route ⌝ }
 {
-    let judged = lists::judge(list);
+    let judged = lists::judge(list, form);
     match judged {
         Judged::Refused(f) => RouteOutcome::Refused(f),
         Judged::Accepted(n) => {

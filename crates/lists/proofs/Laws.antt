@@ -154,18 +154,18 @@ module _ (checks : ℕ) (check : ℕ → ℕ) where
 
 -- ---- what an accepted list keeps
 
-module _ (xs : List ℕ) (n : Counts) (e : judgedAnswer (Accepted n) ≡ judge xs) where
+module _ (form : ℕ) (xs : List ℕ) (n : Counts) (e : judgedAnswer (Accepted n) ≡ judge form xs) where
   pub accepted-laid : Laid xs (countsOf n)
-  accepted-laid = laid xs (countsOf n) (sym e)
+  accepted-laid = laid form xs (countsOf n) (sym e)
 
 -- the same where an answer turned out to be an acceptance
-pub laid-of : (xs : List ℕ) (j : Judged) (n : Counts) → j ≡ Accepted n → judgedAnswer j ≡ judge xs → Laid xs (countsOf n)
-laid-of xs j n e a = accepted-laid xs n (sym (ap judgedAnswer e) ∙ a)
+pub laid-of : (form : ℕ) (xs : List ℕ) (j : Judged) (n : Counts) → j ≡ Accepted n → judgedAnswer j ≡ judge form xs → Laid xs (countsOf n)
+laid-of form xs j n e a = accepted-laid form xs n (sym (ap judgedAnswer e) ∙ a)
 
 -- ---- the contract settles the answer
 
 told : Answer PaperCounts → Judged
-told (gives x) = Accepted (record { checks = x .checks; signals = x .signals; codes = x .codes; routes = x .routes; version = x .version })
+told (gives x) = Accepted (record { checks = x .checks; signals = x .signals; codes = x .codes; routes = x .routes; version = x .version; size = x .size })
 told (refused n at) = Refused (numbered n at)
 
 told-of : (r : Judged) → told (judgedAnswer r) ≡ r

@@ -10,7 +10,7 @@ use Rattle.lists.specs.declared.Section.{Section}
 use Rattle.lists.specs.declared.Section.the-variants.{Entries, Refused as Unopened}
 
 abbrev pub countsOf : Counts → PaperCounts
-countsOf n = record { checks = n .checks; signals = n .signals; codes = n .codes; routes = n .routes; version = n .version }
+countsOf n = record { checks = n .checks; signals = n .signals; codes = n .codes; routes = n .routes; version = n .version; size = n .size }
 
 abbrev pub judgedAnswer : Judged → Answer PaperCounts
 judgedAnswer (Accepted n) = gives (countsOf n)

@@ -9,16 +9,17 @@ ghost use Rattle.paper.specs.Answer.{shift};
 ghost use Rattle.paper.specs.First.{firstBad, all};
 ghost use Rattle.paper.specs.SignalList.{entry, checkSize, signalSize, codeSize, routeSize, checkAt, signalAt, codeAt, routeAt};
 ghost use Rattle.paper.specs.SignalList.{checkRule, signalRule, codeRule, routeRule, opening, greatestSince};
-ghost use Rattle.paper.specs.SignalList.{fromRoutes, fromCodes, fromSignals, judge as judgedList, rest as restOf};
+ghost use Rattle.paper.specs.SignalList.{fromRoutes, fromCodes, fromSignals, judgeSized, judge as judgedList, rest as restOf};
 ghost use Rattle.paper.specs.SignalList.{listOf, signalsPart, codesPart, routesPart, placeOf};
-ghost use Rattle.paper.specs.Accepted.{RefusedWithin, Laid};
-ghost use Rattle.entries.specs.Entries.{signalOf, SignalRead, CodeRead, RouteRead, OctetRead};
+ghost use Rattle.paper.specs.Accepted.{RefusedWithin, Laid, Sized};
+ghost use Rattle.entries.specs.Entries.{signalOf, CheckRead, SignalRead, CodeRead, RouteRead, OctetRead};
 ghost use Rattle.lists.specs.Judged.{countsOf, sectionAnswer, judgedAnswer};
 use entries::CHECK_SIZE;
 use entries::CODE_SIZE;
 use entries::Code;
 use entries::ROUTE_SIZE;
 use entries::Route;
+use entries::SERIAL_SIZE;
 use entries::SIGNAL_SIZE;
 use entries::Signal;
 use refusals::Refusal;
@@ -32,10 +33,18 @@ pub const MOST_CODES: usize = 512;
 
 pub const MOST_ROUTES: usize = 512;
 
-// The four counts, and every entry that a list may have.
+// The form of a list is a number that the caller says: 2 is form 2, with a serial number behind each signal, and any other is form 1.
+pub const FORM_1: u8 = 1;
+
+pub const FORM_2: u8 = 2;
+
+// A signal's entry in form 2.
+const SERIAL_ENTRY: usize = SIGNAL_SIZE + SERIAL_SIZE;
+
+// The four counts, and every entry that a list may have, in the longer form.
 pub const LONGEST: usize = 8
     + CHECK_SIZE * MOST_CHECKS
-    + SIGNAL_SIZE * MOST_SIGNALS
+    + SERIAL_ENTRY * MOST_SIGNALS
     + CODE_SIZE * MOST_CODES
     + ROUTE_SIZE * MOST_ROUTES;
 
@@ -46,6 +55,8 @@ pub struct Counts {
     pub codes: usize,
     pub routes: usize,
     pub version: usize,
+    // The octets of a signal entry.
+    pub size: usize,
 }
 
 // The answer for a list.
@@ -62,7 +73,7 @@ pub enum Section {
 
 // Inner: the count readable, within its limit, and its entries of `size` octets all present.
 pub fn open(tail: &[u8], limit: usize, size: usize) -> Section
-    requires { ⌜ size ≤ signalSize ⌝ }
+    requires { ⌜ size ≤ 18 ⌝ }
     ensures { λ r. ⌜ sectionAnswer r ≡ opening limit size (now (tail .entry)) ⌝ }
 {
     if tail.len() < 2 {
@@ -111,10 +122,10 @@ fn resumed(past: usize, s: Signal, from: usize) -> usize
 
 // Inner: the offset of the first of n signals that breaks its rule, or the end of the section. Each is tested by its own rule and then against the checks from
 // the first that may share a bit with it to the first at or past its end: checks rise, and starts do within a type.
-pub fn first_bad_signal(list: &[u8], checks: usize, tail: &[u8], n: usize) -> usize
+pub fn first_bad_signal(list: &[u8], checks: usize, tail: &[u8], size: usize, n: usize) -> usize
     requires { ⌜ (entry checkSize checks ≤ length (now list)) × (all (checkRule (checkAt (now list))) checks ≡ true) ⌝ }
-    requires { ⌜ entry signalSize n ≤ length (now tail) ⌝ }
-    ensures { λ r. ⌜ r ≡ entry signalSize (firstBad (signalRule checks (checkAt (now (list .entry))) (signalAt (now (tail .entry)))) n) ⌝ }
+    requires { ⌜ (Sized size) × (entry size n ≤ length (now tail)) ⌝ }
+    ensures { λ r. ⌜ r ≡ entry size (firstBad (signalRule checks (checkAt (now (list .entry))) (signalAt size (now (tail .entry)))) n) ⌝ }
 {
     let mut kind = 0;
     let mut past = 0;
@@ -122,17 +133,17 @@ pub fn first_bad_signal(list: &[u8], checks: usize, tail: &[u8], n: usize) -> us
     let mut k = 0;
     'signals: loop {
         if n <= k {
-            break 'signals 2 + SIGNAL_SIZE * n;
+            break 'signals 2 + size * n;
         }
-        let s = entries::signal_at(tail, k);
+        let s = entries::signal_at(tail, size, k);
         if !entries::signal_own(list, checks, kind, past, s) {
-            break 'signals 2 + SIGNAL_SIZE * k;
+            break 'signals 2 + size * k;
         }
         let end = s.start + s.width;
         let mut j = resumed(past, s, from);
         while entries::check_before(list, checks, j, end) {
             if s.start < entries::check_at(list, j) + 2 {
-                break 'signals 2 + SIGNAL_SIZE * k;
+                break 'signals 2 + size * k;
             }
             j += 1;
         }
@@ -144,17 +155,17 @@ pub fn first_bad_signal(list: &[u8], checks: usize, tail: &[u8], n: usize) -> us
 }
 
 // Inner: the first of n codes that breaks its rule, n where none does; sig starts at the signals' count.
-pub fn first_bad_code(sig: &[u8], signals: usize, tail: &[u8], n: usize) -> usize
-    requires { ⌜ entry signalSize signals ≤ length (now sig) ⌝ }
+pub fn first_bad_code(sig: &[u8], size: usize, signals: usize, tail: &[u8], n: usize) -> usize
+    requires { ⌜ (16 ≤ size) × (entry size signals ≤ length (now sig)) ⌝ }
     requires { ⌜ entry codeSize n ≤ length (now tail) ⌝ }
-    ensures { λ r. ⌜ r ≡ firstBad (codeRule signals (signalAt (now (sig .entry))) (codeAt (now (tail .entry)))) n ⌝ }
+    ensures { λ r. ⌜ r ≡ firstBad (codeRule signals (signalAt size (now (sig .entry))) (codeAt (now (tail .entry)))) n ⌝ }
 {
     let mut last = 0;
     let mut least = 0;
     let mut k = 0;
     while k < n {
         let c = entries::code_at(tail, k);
-        if !entries::code_rule(sig, signals, last, least, c) {
+        if !entries::code_rule(sig, size, signals, last, least, c) {
             return k;
         }
         last = c.signal;
@@ -165,36 +176,47 @@ pub fn first_bad_code(sig: &[u8], signals: usize, tail: &[u8], n: usize) -> usiz
 }
 
 // Inner: the same of n routes.
-pub fn first_bad_route(sig: &[u8], signals: usize, tail: &[u8], n: usize) -> usize
-    requires { ⌜ entry signalSize signals ≤ length (now sig) ⌝ }
+pub fn first_bad_route(sig: &[u8], size: usize, signals: usize, tail: &[u8], n: usize) -> usize
+    requires { ⌜ (16 ≤ size) × (entry size signals ≤ length (now sig)) ⌝ }
     requires { ⌜ entry routeSize n ≤ length (now tail) ⌝ }
-    ensures { λ r. ⌜ r ≡ firstBad (routeRule signals (signalAt (now (sig .entry))) (routeAt (now (tail .entry)))) n ⌝ }
+    ensures { λ r. ⌜ r ≡ firstBad (routeRule signals (signalAt size (now (sig .entry))) (routeAt (now (tail .entry)))) n ⌝ }
 {
     let mut past = 0;
     let mut k = 0;
     while k < n {
         let r = entries::route_at(tail, k);
-        if !entries::route_rule(sig, signals, past, r) {
+        if !entries::route_rule(sig, size, signals, past, r) {
             return k;
         }
-        past = entries::route_end(sig, r);
+        past = entries::route_end(sig, size, r);
         k += 1;
     }
     n
 }
 
-// Inner: the greatest since-version of the signals, 1 if there is none.
-pub fn version_of(tail: &[u8], signals: usize) -> usize
-    requires { ⌜ entry signalSize signals ≤ length (now tail) ⌝ }
-    ensures { λ r. ⌜ r ≡ greatestSince signals (signalAt (now (tail .entry))) ⌝ }
+// The greatest since-version of the signals, 1 if there is none.
+fn version_sized(tail: &[u8], size: usize, signals: usize) -> usize
+    requires { ⌜ (16 ≤ size) × (entry size signals ≤ length (now tail)) ⌝ }
+    ensures { λ r. ⌜ r ≡ greatestSince signals (signalAt size (now (tail .entry))) ⌝ }
 {
     let mut version = 1;
     let mut k = 0;
     while k < signals {
-        version = greater(version, entries::since_at(tail, k));
+        version = greater(version, entries::since_at(tail, size, k));
         k += 1;
     }
     version
+}
+
+// The same. The entries of form 1 are gone through by a size that the compiler knows, two at a time.
+fn version_of(tail: &[u8], size: usize, signals: usize) -> usize
+    requires { ⌜ (16 ≤ size) × (entry size signals ≤ length (now tail)) ⌝ }
+    ensures { λ r. ⌜ r ≡ greatestSince signals (signalAt size (now (tail .entry))) ⌝ }
+{
+    if size == SIGNAL_SIZE {
+        return version_sized(tail, SIGNAL_SIZE, signals);
+    }
+    version_sized(tail, size, signals)
 }
 
 fn greater(a: usize, b: usize) -> usize
@@ -214,16 +236,24 @@ fn moved(rest: Judged, by: usize) -> Judged
     }
 }
 
-// The list from its routes on; sig starts at the signals' count.
-fn from_routes(sig: &[u8], signals: usize, checks: usize, codes: usize, tail: &[u8]) -> Judged
-    requires { ⌜ entry signalSize signals ≤ length (now sig) ⌝ }
-    ensures { λ r. ⌜ judgedAnswer r ≡ fromRoutes signals (signalAt (now (sig .entry))) checks codes (now (tail .entry)) ⌝ }
+// The list from its routes on; sig starts at the signals' count, and `version` is theirs.
+fn from_routes(
+    sig: &[u8],
+    size: usize,
+    signals: usize,
+    version: usize,
+    checks: usize,
+    codes: usize,
+    tail: &[u8],
+) -> Judged
+    requires { ⌜ (16 ≤ size) × (entry size signals ≤ length (now sig)) × (version ≡ greatestSince signals (signalAt size (now sig))) ⌝ }
+    ensures { λ r. ⌜ judgedAnswer r ≡ fromRoutes size signals (signalAt size (now (sig .entry))) checks codes (now (tail .entry)) ⌝ }
 {
     let opened = open(tail, MOST_ROUTES, ROUTE_SIZE);
     match opened {
         Section::Refused(f) => Judged::Refused(f),
         Section::Entries(routes) => {
-            let at = 2 + ROUTE_SIZE * first_bad_route(sig, signals, tail, routes);
+            let at = 2 + ROUTE_SIZE * first_bad_route(sig, size, signals, tail, routes);
             let end = 2 + ROUTE_SIZE * routes;
             if at < end {
                 return Judged::Refused(Refusal(Refusal::ENTRY_BROKEN, at));
@@ -231,34 +261,49 @@ fn from_routes(sig: &[u8], signals: usize, checks: usize, codes: usize, tail: &[
             if end < tail.len() {
                 return Judged::Refused(Refusal(Refusal::OCTETS_AFTER, end));
             }
-            let version = version_of(sig, signals);
             Judged::Accepted(Counts {
                 checks,
                 signals,
                 codes,
                 routes,
                 version,
+                size,
             })
         }
     }
 }
 
 // From its codes on.
-fn from_codes(sig: &[u8], signals: usize, checks: usize, tail: &[u8]) -> Judged
-    requires { ⌜ entry signalSize signals ≤ length (now sig) ⌝ }
-    ensures { λ r. ⌜ judgedAnswer r ≡ fromCodes signals (signalAt (now (sig .entry))) checks (now (tail .entry)) ⌝ }
+fn from_codes(
+    sig: &[u8],
+    size: usize,
+    signals: usize,
+    version: usize,
+    checks: usize,
+    tail: &[u8],
+) -> Judged
+    requires { ⌜ (16 ≤ size) × (entry size signals ≤ length (now sig)) × (version ≡ greatestSince signals (signalAt size (now sig))) ⌝ }
+    ensures { λ r. ⌜ judgedAnswer r ≡ fromCodes size signals (signalAt size (now (sig .entry))) checks (now (tail .entry)) ⌝ }
 {
     let opened = open(tail, MOST_CODES, CODE_SIZE);
     match opened {
         Section::Refused(f) => Judged::Refused(f),
         Section::Entries(codes) => {
-            let at = 2 + CODE_SIZE * first_bad_code(sig, signals, tail, codes);
+            let at = 2 + CODE_SIZE * first_bad_code(sig, size, signals, tail, codes);
             let end = 2 + CODE_SIZE * codes;
             if at < end {
                 return Judged::Refused(Refusal(Refusal::ENTRY_BROKEN, at));
             }
             moved(
-                from_routes(sig, signals, checks, codes, rest(tail, CODE_SIZE, codes)),
+                from_routes(
+                    sig,
+                    size,
+                    signals,
+                    version,
+                    checks,
+                    codes,
+                    rest(tail, CODE_SIZE, codes),
+                ),
                 end,
             )
         }
@@ -266,30 +311,40 @@ fn from_codes(sig: &[u8], signals: usize, checks: usize, tail: &[u8]) -> Judged
 }
 
 // From its signals on; list starts at the checks' count.
-fn from_signals(list: &[u8], checks: usize, tail: &[u8]) -> Judged
+fn from_signals(list: &[u8], checks: usize, tail: &[u8], size: usize) -> Judged
     requires { ⌜ (entry checkSize checks ≤ length (now list)) × (all (checkRule (checkAt (now list))) checks ≡ true) ⌝ }
-    ensures { λ r. ⌜ judgedAnswer r ≡ fromSignals checks (checkAt (now (list .entry))) (now (tail .entry)) ⌝ }
+    requires { ⌜ Sized size ⌝ }
+    ensures { λ r. ⌜ judgedAnswer r ≡ fromSignals size checks (checkAt (now (list .entry))) (now (tail .entry)) ⌝ }
 {
-    let opened = open(tail, MOST_SIGNALS, SIGNAL_SIZE);
+    let opened = open(tail, MOST_SIGNALS, size);
     match opened {
         Section::Refused(f) => Judged::Refused(f),
         Section::Entries(signals) => {
-            let at = first_bad_signal(list, checks, tail, signals);
-            let end = 2 + SIGNAL_SIZE * signals;
+            let at = first_bad_signal(list, checks, tail, size, signals);
+            let end = 2 + size * signals;
             if at < end {
                 return Judged::Refused(Refusal(Refusal::ENTRY_BROKEN, at));
             }
+            let version = version_of(tail, size, signals);
             moved(
-                from_codes(tail, signals, checks, rest(tail, SIGNAL_SIZE, signals)),
+                from_codes(
+                    tail,
+                    size,
+                    signals,
+                    version,
+                    checks,
+                    rest(tail, size, signals),
+                ),
                 end,
             )
         }
     }
 }
 
-// Judges a list: its counts and version, or the first refusal that judging meets.
-pub fn judge(list: &[u8]) -> Judged
-    ensures { λ r. ⌜ judgedAnswer r ≡ judgedList (now (list .entry)) ⌝ }
+// Judges a list whose signal entries have `size` octets.
+fn judge_sized(list: &[u8], size: usize) -> Judged
+    requires { ⌜ Sized size ⌝ }
+    ensures { λ r. ⌜ judgedAnswer r ≡ judgeSized size (now (list .entry)) ⌝ }
 {
     let opened = open(list, MOST_CHECKS, CHECK_SIZE);
     match opened {
@@ -301,11 +356,29 @@ pub fn judge(list: &[u8]) -> Judged
                 return Judged::Refused(Refusal(Refusal::ENTRY_BROKEN, at));
             }
             moved(
-                from_signals(list, checks, rest(list, CHECK_SIZE, checks)),
+                from_signals(list, checks, rest(list, CHECK_SIZE, checks), size),
                 end,
             )
         }
     }
+}
+
+// The octets of a signal entry in a form.
+pub fn entry_size(form: u8) -> usize
+    ensures { λ r. ⌜ r ≡ signalSize form ⌝ }
+{
+    if form == FORM_2 {
+        SERIAL_ENTRY
+    } else {
+        SIGNAL_SIZE
+    }
+}
+
+// Judges a list in the form that the caller says: its counts and version, or the first refusal that judging meets.
+pub fn judge(list: &[u8], form: u8) -> Judged
+    ensures { λ r. ⌜ judgedAnswer r ≡ judgedList form (now (list .entry)) ⌝ }
+{
+    judge_sized(list, entry_size(form))
 }
 
 // Inner: the rest of an accepted list from its signals' count on.
@@ -321,7 +394,7 @@ pub fn codes_part(list: &[u8], n: Counts) -> &[u8]
     requires { ⌜ Laid (now list) (countsOf n) ⌝ }
     ensures { λ r. ⌜ now r ≡ codesPart (now (list .entry)) (countsOf n) ⌝ }
 {
-    rest(signals_part(list, n), SIGNAL_SIZE, n.signals)
+    rest(signals_part(list, n), n.size, n.signals)
 }
 
 // Inner: from its routes' count on.
@@ -332,12 +405,20 @@ pub fn routes_part(list: &[u8], n: Counts) -> &[u8]
     rest(codes_part(list, n), CODE_SIZE, n.codes)
 }
 
+// Inner: check j of an accepted list.
+pub fn check_in(list: &[u8], n: Counts, j: usize) -> usize
+    requires { ⌜ (Laid (now list) (countsOf n)) × (j < n .checks) ⌝ }
+    ensures { λ r. ⌜ CheckRead (listOf (now (list .entry)) (countsOf n) .check j) r ⌝ }
+{
+    entries::check_at(list, j)
+}
+
 // Inner: signal k of an accepted list.
 pub fn signal_in(list: &[u8], n: Counts, k: usize) -> Signal
     requires { ⌜ (Laid (now list) (countsOf n)) × (k < n .signals) ⌝ }
-    ensures { λ r. ⌜ SignalRead (signalsPart (now (list .entry)) (countsOf n)) k r ⌝ }
+    ensures { λ r. ⌜ SignalRead (listOf (now (list .entry)) (countsOf n) .signal k) r ⌝ }
 {
-    entries::signal_at(signals_part(list, n), k)
+    entries::signal_at(signals_part(list, n), n.size, k)
 }
 
 // Inner: its code entry e.
@@ -358,10 +439,10 @@ pub fn route_in(list: &[u8], n: Counts, r: usize) -> Route
 
 // Inner: the width of signal k, which a route to it has too.
 pub fn width_in(list: &[u8], n: Counts, k: usize) -> usize
-    requires { ⌜ (Laid (now list) (countsOf n)) × (k < 65536) ⌝ }
+    requires { ⌜ (Laid (now list) (countsOf n)) × (k < n .signals) ⌝ }
     ensures { λ w. ⌜ OctetRead (listOf (now (list .entry)) (countsOf n) .signal k .width) w ⌝ }
 {
-    entries::width_at(signals_part(list, n), k)
+    entries::width_at(signals_part(list, n), n.size, k)
 }
 
 // Inner: the place of the check that the signal names, 0 for none: the same check may have another number in another list.
@@ -373,5 +454,5 @@ pub fn place_in(list: &[u8], n: Counts, s: Signal) -> usize
     if check == 0 {
         return 0;
     }
-    entries::check_at(list, check - 1)
+    check_in(list, n, check - 1)
 }

@@ -1,5 +1,4 @@
 // Marshals routed signals out of a store into a file of vehicle bus data, and shows each route.
-ghost use Prim.Native.Nat.{_≤_};
 use files::Rules;
 use gateway::Counts;
 use gateway::EntryOutcome;
@@ -20,18 +19,21 @@ use words::Written;
 
 const MOST: usize = 4096;
 
-// What is asked beside the files: the clock, lines for the routes or a table of them, and bus data of a telegram's length.
+// What is asked beside the files: the clock, lines for the routes or a table of them, bus data of a telegram's length, and the list's form.
 struct Order {
     clock: u32,
     routes: bool,
     table: bool,
     anyway: bool,
+    form: u8,
+    // where the values of the lines end
+    column: usize,
 }
 
 fn help() {
     io::write_all(
         STDOUT_FILENO,
-        b"marshal LIST STORE CLOCK DATA [routes] [table] [anyway]
+        b"marshal LIST STORE CLOCK DATA [routes] [table] [anyway] [form2]
 
 Writes the value of each route of LIST, read out of STORE at CLOCK, into its
 field of the vehicle bus data in the file DATA, and changes no other bit of it.
@@ -49,6 +51,9 @@ ROUTE FIELD-OF-DATA VEHICLE PLACE VALUE REASON.
 With the word `table` it prints instead a line of names, then a line for each
 route, each of nine columns with a tab between: route, data_start, vehicle,
 signal, type, start, width, value, reason.
+With the word `form2` LIST is in form 2: each PLACE has the serial number of the
+signal behind it, as `(4.3)` or `(no serial number)`, and the table a tenth
+column, serial, with a dash for none. `convert help` says how one is printed.
 `believe help` lists the reasons.
 Where nothing was marshalled it prints one line that begins with `refused` and
 the number of document 01, or with `error`, and DATA is as it was. It is replaced
@@ -60,7 +65,15 @@ line begins with `error: busy`. What a killed one left is taken away.
     );
 }
 
-fn print_row(page: &mut Page, r: usize, t: Route, s: Signal, x: Reading) {
+fn print_row(
+    page: &mut Page,
+    order: Order,
+    r: usize,
+    t: Route,
+    s: Signal,
+    serial: usize,
+    x: Reading,
+) {
     let l = saying::say_tab(
         saying::say_number(saying::empty(), r as u64),
         t.start as u64,
@@ -68,52 +81,63 @@ fn print_row(page: &mut Page, r: usize, t: Route, s: Signal, x: Reading) {
     let l = saying::say_tab(saying::say_tab(l, t.vehicle as u64), t.signal as u64);
     let l = words::say_telegram(saying::put(l, b'\t'), s.kind);
     let l = saying::say_tab(saying::say_tab(l, s.start as u64), s.width as u64);
-    saying::add(
-        page,
-        saying::say_tab(saying::say_tab(l, x.value), x.reason as u64),
-    );
+    let l = saying::say_tab(saying::say_tab(l, x.value), x.reason as u64);
+    saying::add(page, words::say_serial_tab(l, order.form, serial));
 }
 
-fn print_route(page: &mut Page, column: usize, r: usize, t: Route, s: Signal, x: Reading) {
+fn print_route(
+    page: &mut Page,
+    order: Order,
+    r: usize,
+    t: Route,
+    s: Signal,
+    serial: usize,
+    x: Reading,
+) {
     let l = saying::say(saying::say_right(saying::empty(), 3, r as u64), b"  ");
     let l = saying::say_right(words::say_field(l, t.start, s.width), 36, t.vehicle as u64);
-    let l = words::say_place(saying::say(l, b"  "), s.kind, s.start, s.width);
-    let l = saying::say(saying::say_right(l, column, x.value), b"  ");
+    let l = words::say_signal(saying::say(l, b"  "), order.form, s, serial);
+    let l = saying::say(saying::say_right(l, order.column, x.value), b"  ");
     saying::add(page, words::say_reason(l, x.reason));
 }
 
-fn one_route(
-    page: &mut Page,
-    list: &[u8],
-    store: &[u8],
-    order: Order,
-    column: usize,
-    r: usize,
-    t: Route,
-) {
-    let entry = gateway::signal_entry(list, t.signal);
+fn one_route(page: &mut Page, list: &[u8], store: &[u8], order: Order, r: usize, t: Route) {
+    let entry = gateway::signal_entry(list, order.form, t.signal);
     let EntryOutcome::Entry(e) = entry else {
         return;
     };
-    let read = gateway::read(list, store, order.clock, t.vehicle, t.signal);
+    let read = gateway::read(list, order.form, store, order.clock, t.vehicle, t.signal);
     let ReadOutcome::Read(x) = read else {
         return;
     };
     let s = e.signal;
+    let serial = words::serial_at(list, order.form, t.signal);
     if order.table {
-        print_row(page, r, t, s, x);
+        print_row(page, order, r, t, s, serial, x);
     } else {
-        print_route(page, column, r, t, s, x);
+        print_route(page, order, r, t, s, serial, x);
+    }
+}
+
+fn in_column(order: Order, column: usize) -> Order {
+    Order {
+        clock: order.clock,
+        routes: order.routes,
+        table: order.table,
+        anyway: order.anyway,
+        form: order.form,
+        column,
     }
 }
 
 fn print_routes(page: &mut Page, list: &[u8], n: Counts, store: &[u8], order: Order) {
-    let column = words::value_column(list, n.signals, 38, true, 77);
+    let column = words::value_column(list, order.form, n.signals, 38, true, 77);
+    let placed = in_column(order, column);
     let mut r = 0;
     while r < n.routes {
-        let route = gateway::route_entry(list, r);
+        let route = gateway::route_entry(list, order.form, r);
         if let RouteOutcome::Route(t) = route {
-            one_route(page, list, store, order, column, r, t);
+            one_route(page, list, store, placed, r, t);
         }
         r += 1;
     }
@@ -128,15 +152,16 @@ fn print_count(page: &mut Page, n: Counts, live: usize) {
     saying::add(page, saying::say(l, b" live"));
 }
 
-fn print_names(page: &mut Page) {
+fn print_names(page: &mut Page, form: u8) {
     let l = saying::say(saying::empty(), b"route\tdata_start\tvehicle\tsignal");
-    saying::add(page, saying::say(l, b"\ttype\tstart\twidth\tvalue\treason"));
+    let l = saying::say(l, b"\ttype\tstart\twidth\tvalue\treason");
+    saying::add(page, words::say_serial_name(l, form, b"serial"));
 }
 
 fn print_done(list: &[u8], n: Counts, store: &[u8], order: Order, live: usize) {
     let mut page = saying::new_page();
     if order.table {
-        print_names(&mut page);
+        print_names(&mut page, order.form);
     }
     if order.routes | order.table {
         print_routes(&mut page, list, n, store, order);
@@ -148,15 +173,15 @@ fn print_done(list: &[u8], n: Counts, store: &[u8], order: Order, live: usize) {
 }
 
 // Where the last route ends, in octets: no other ends later.
-fn needed(list: &[u8], routes: usize) -> usize {
+fn needed(list: &[u8], form: u8, routes: usize) -> usize {
     if routes == 0 {
         return 0;
     }
-    let route = gateway::route_entry(list, routes - 1);
+    let route = gateway::route_entry(list, form, routes - 1);
     let RouteOutcome::Route(t) = route else {
         return 0;
     };
-    let entry = gateway::signal_entry(list, t.signal);
+    let entry = gateway::signal_entry(list, form, t.signal);
     let EntryOutcome::Entry(e) = entry else {
         return 0;
     };
@@ -165,14 +190,15 @@ fn needed(list: &[u8], routes: usize) -> usize {
 }
 
 // Data that are too short: how long they are, and how long they have to be.
-fn print_refused(f: Refusal, list: &[u8], n: Counts, octets: usize) {
+fn print_refused(f: Refusal, list: &[u8], form: u8, n: Counts, octets: usize) {
     let l = words::say_refused(f, b"");
     if gateway::number(f) != 12 {
         saying::print(l);
         return;
     }
     let l = saying::say_number(saying::say(l, b": "), octets as u64);
-    let l = saying::say_number(saying::say(l, b" octets, "), needed(list, n.routes) as u64);
+    let end = needed(list, form, n.routes);
+    let l = saying::say_number(saying::say(l, b" octets, "), end as u64);
     saying::print(saying::say(l, b" needed"));
 }
 
@@ -185,11 +211,11 @@ fn marshal_bus(
     order: Order,
     bus: &mut [u8],
 ) {
-    let outcome = gateway::marshal(list, store, order.clock, bus);
+    let outcome = gateway::marshal(list, order.form, store, order.clock, bus);
     match outcome {
         Marshalled::Refused(f) => {
             files::drop_new(path, fd);
-            print_refused(f, list, n, bus.len());
+            print_refused(f, list, order.form, n, bus.len());
         }
         Marshalled::Live(live) => {
             if files::commit(4, b"DATA", path, fd, bus) {
@@ -249,7 +275,7 @@ fn marshal_under(list: &[u8], n: Counts, store: &[u8], order: Order) {
 }
 
 fn judge(list: &[u8], store: &[u8], order: Order) {
-    let judged = gateway::judge(list);
+    let judged = gateway::judge(list, order.form);
     match judged {
         Judged::Refused(f) => words::print_refused(f),
         Judged::Accepted(n) => marshal_under(list, n, store, order),
@@ -272,7 +298,7 @@ fn read_files(order: Order) {
     judge(&list[..n], &store[..m], order);
 }
 
-fn ask(routes: bool, table: bool, anyway: bool) {
+fn ask(routes: bool, table: bool, anyway: bool, form: u8) {
     let Clock::At(clock) = saying::clock_argument(3) else {
         return;
     };
@@ -281,18 +307,9 @@ fn ask(routes: bool, table: bool, anyway: bool) {
         routes,
         table,
         anyway,
+        form,
+        column: 0,
     });
-}
-
-// Whether one of the words behind DATA is this one.
-fn has_word(word: &[u8]) -> bool {
-    saying::is_word(5, word) | saying::is_word(6, word) | saying::is_word(7, word)
-}
-
-fn one_if(is_there: bool) -> usize
-    ensures { λ r. ⌜ r ≤ 1 ⌝ }
-{
-    if is_there { 1 } else { 0 }
 }
 
 fn main() {
@@ -301,13 +318,15 @@ fn main() {
         help();
         return;
     }
-    let routes = has_word(b"routes");
-    let table = has_word(b"table");
-    let anyway = has_word(b"anyway");
-    // Each word once, and no other.
-    if n == 5 + one_if(routes) + one_if(table) + one_if(anyway) {
-        ask(routes, table, anyway);
+    let routes = saying::has_option(5, n, b"routes");
+    let table = saying::has_option(5, n, b"table");
+    let anyway = saying::has_option(5, n, b"anyway");
+    let is_form_2 = saying::has_option(5, n, b"form2");
+    let shown = saying::one_if(routes) + saying::one_if(table);
+    let options = shown + saying::one_if(anyway) + saying::one_if(is_form_2);
+    if saying::words_before(n, options) == 4 {
+        ask(routes, table, anyway, words::form_of(is_form_2));
         return;
     }
-    saying::print_usage(b"marshal LIST STORE CLOCK DATA [routes] [table] [anyway]");
+    saying::print_usage(b"marshal LIST STORE CLOCK DATA [routes] [table] [anyway] [form2]");
 }

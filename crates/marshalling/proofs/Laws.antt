@@ -83,10 +83,10 @@ pub delivered-live : (m : paper.Marshalled) (a : Answer paper.Marshalled) (old :
     → Delivered a old (Live k) new
 delivered-live m a old k new p q e = record { lives = rw (← e) (ap gives p); octets = rw (← e) q }
 
-pub under : (xs store : List ℕ) (now : ℕ) (bus : List ℕ)
-    → paper.marshalling xs store now bus ≡ andThen (judge xs) (λ n. marshallingUnder (listOf xs n) store now bus)
+pub under : (form : ℕ) (xs store : List ℕ) (now : ℕ) (bus : List ℕ)
+    → paper.marshalling form xs store now bus ≡ andThen (judge form xs) (λ n. marshallingUnder (listOf xs n) store now bus)
 unfolding paper.marshalling marshallingUnder
-under xs store now bus = refl
+under form xs store now bus = refl
 
 pub delivered-on : {A : Type 0} (r : A) (a : Answer A) (k : A → Answer paper.Marshalled) (old : List ℕ) (o : Marshalled) (new : List ℕ)
     → gives r ≡ a → Delivered (k r) old o new → Delivered (andThen a k) old o new
@@ -107,24 +107,24 @@ pub refused-keeps : (a : Answer paper.Marshalled) (old : List ℕ) (f : Refusal)
 refused-keeps (gives m) old f new d = let e = d .lives in let z : _≡_ {A = ℕ} 0 1 = cc in absurd (omega arith)
 refused-keeps (refused n at) old f new d = d .octets
 
-module _ (xs store : List ℕ) (now : ℕ) (bus : List ℕ) (k : ℕ) (new : List ℕ) (d : Delivered (paper.marshalling xs store now bus) bus (Live k) new) where
+module _ (form : ℕ) (xs store : List ℕ) (now : ℕ) (bus : List ℕ) (k : ℕ) (new : List ℕ) (d : Delivered (paper.marshalling form xs store now bus) bus (Live k) new) where
   -- the list was accepted, the store is whole, the data are long enough, and the count and the data afterwards are the definition's
-  pub marshal-tells : paper.Marshals xs store now bus (record { octets = new; lives = k })
-  marshal-tells = laws.marshals xs store now bus _ (delivered-gives _ bus k new d)
+  pub marshal-tells : paper.Marshals form xs store now bus (record { octets = new; lives = k })
+  marshal-tells = laws.marshals form xs store now bus _ (delivered-gives _ bus k new d)
 
-  module _ (n : Counts) (accepted : judge xs ≡ gives n) where
+  module _ (n : Counts) (accepted : judge form xs ≡ gives n) where
     is : marshal-tells .counts ≡ n
-    is = gives-one (judge xs) (marshal-tells .counts) n (marshal-tells .accepted) accepted
+    is = gives-one (judge form xs) (marshal-tells .counts) n (marshal-tells .accepted) accepted
 
     -- DEMAND 2 of the call: each destination field holds its reading
     pub destination : let l = listOf xs n in (r : ℕ) → r < n .routes
         → field new (l .route r .start) (l .signal (l .route r .signal) .width) ≡ readingAt l store now (l .route r .vehicle) (l .route r .signal) .value
-    destination = rw is at (laws.destination xs store now bus _ marshal-tells)
+    destination = rw is at (laws.destination form xs store now bus _ marshal-tells)
 
     -- and every bit outside the routes is as before
     pub other-bit : let l = listOf xs n in (a : ℕ) → ((r : ℕ) → r < n .routes → l .route r .start ≤ a → a < routeEnd (l .signal) (l .route r) → ⊥)
         → bit new a ≡ bit bus a
-    other-bit = rw is at (laws.other-bit xs store now bus _ marshal-tells)
+    other-bit = rw is at (laws.other-bit form xs store now bus _ marshal-tells)
 
     -- the count is the number of routes that are live, each exactly as the paper's `counted-exactly` says
     pub lives-counted : k ≡ count (paper.live (listOf xs n) store now) (n .routes)

@@ -138,10 +138,10 @@ fn marshal_under(list: &[u8], n: Counts, store: &[u8], clock: u32, bus: &mut [u8
 }
 
 // Writes each route's value at `clock` into its field of `bus`. Refused: 1 to 4, then 5 and 12, and `bus` stays as it was.
-pub fn marshal(list: &[u8], store: &[u8], clock: u32, bus: &mut [u8]) -> Marshalled
-    ensures { λ m. ⌜ Delivered (marshalling (now (list .entry)) (now (store .entry)) clock (now (bus .entry))) (now (bus .entry)) m (now (bus .exit)) ⌝ }
+pub fn marshal(list: &[u8], form: u8, store: &[u8], clock: u32, bus: &mut [u8]) -> Marshalled
+    ensures { λ m. ⌜ Delivered (marshalling form (now (list .entry)) (now (store .entry)) clock (now (bus .entry))) (now (bus .entry)) m (now (bus .exit)) ⌝ }
 {
-    let judged = lists::judge(list);
+    let judged = lists::judge(list, form);
     match judged {
         Judged::Refused(f) => Marshalled::Refused(f),
         Judged::Accepted(n) => marshal_under(list, n, store, clock, bus),

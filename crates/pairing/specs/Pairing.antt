@@ -25,5 +25,5 @@ pairingAnswer (FirstRefused f) = firstRefused (numberOf f) (carriedOf f)
 pairingAnswer (SecondRefused f) = secondRefused (numberOf f) (carriedOf f)
 
 -- what is answered once the first list is accepted
-abbrev pub pairingUnder : SignalList → List ℕ → ℕ → OfTwo (Sought PaperPair)
-pairingUnder a ys from = ofTwo (judge ys) secondRefused (λ n. ofBoth (nextPair a (listOf ys n) from))
+abbrev pub pairingUnder : SignalList → ℕ → List ℕ → ℕ → OfTwo (Sought PaperPair)
+pairingUnder a form ys from = ofTwo (judge form ys) secondRefused (λ n. ofBoth (nextPair a (listOf ys n) from))

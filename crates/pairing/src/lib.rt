@@ -63,11 +63,11 @@ fn answered(next: NextPair) -> Pairing
 }
 
 // An accepted list a, and b yet to be judged.
-fn pair_accepted(a: &[u8], m: Counts, b: &[u8], from: usize) -> Pairing
+fn pair_accepted(a: &[u8], m: Counts, b: &[u8], other: u8, from: usize) -> Pairing
     requires { ⌜ Laid (now a) (countsOf m) ⌝ }
-    ensures { λ r. ⌜ pairingAnswer r ≡ pairingUnder (listOf (now (a .entry)) (countsOf m)) (now (b .entry)) from ⌝ }
+    ensures { λ r. ⌜ pairingAnswer r ≡ pairingUnder (listOf (now (a .entry)) (countsOf m)) other (now (b .entry)) from ⌝ }
 {
-    let judged = lists::judge(b);
+    let judged = lists::judge(b, other);
     match judged {
         Judged::Refused(f) => Pairing::SecondRefused(f),
         Judged::Accepted(n) => answered(next_pair(a, m, b, n, from)),
@@ -75,12 +75,12 @@ fn pair_accepted(a: &[u8], m: Counts, b: &[u8], from: usize) -> Pairing
 }
 
 // The next pair whose key is `from` or above: a caller that starts at 0 and goes on past each key meets every one. Refused: 1 to 4, of a before b.
-pub fn pair_from(a: &[u8], b: &[u8], from: usize) -> Pairing
-    ensures { λ r. ⌜ pairingAnswer r ≡ pairing (now (a .entry)) (now (b .entry)) from ⌝ }
+pub fn pair_from(a: &[u8], form: u8, b: &[u8], other: u8, from: usize) -> Pairing
+    ensures { λ r. ⌜ pairingAnswer r ≡ pairing form (now (a .entry)) other (now (b .entry)) from ⌝ }
 {
-    let judged = lists::judge(a);
+    let judged = lists::judge(a, form);
     match judged {
         Judged::Refused(f) => Pairing::FirstRefused(f),
-        Judged::Accepted(m) => pair_accepted(a, m, b, from),
+        Judged::Accepted(m) => pair_accepted(a, m, b, other, from),
     }
 }

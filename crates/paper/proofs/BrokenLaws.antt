@@ -188,9 +188,9 @@ module _ (base signals : ℕ) (signal : ℕ → Signal) (xs : List ℕ) where
   ends n at counts true = refl
   ends n at counts false = refl
 
-  routes-at : (checks codes : ℕ) → refusedThree (shift base (fromRoutes signals signal checks codes xs)) ≡ faultAt (faultFromRoutes base signals signal xs)
+  routes-at : (size checks codes : ℕ) → refusedThree (shift base (fromRoutes size signals signal checks codes xs)) ≡ faultAt (faultFromRoutes base signals signal xs)
   unfolding fromRoutes faultFromRoutes ending
-  routes-at checks codes = section-at _ _ _ _ _ _ _ routes-say _ _ (λ n. ends n _ _ _)
+  routes-at size checks codes = section-at _ _ _ _ _ _ _ routes-say _ _ (λ n. ends n _ _ _)
 
   routes-named : (f : Fault) → faultFromRoutes base signals signal xs ≡ found f → 1 ≤ f .rule
   unfolding faultFromRoutes
@@ -204,43 +204,44 @@ further : {A : Type 0} (a b : ℕ) (x : Answer A) {y : Sought ℕ} → refusedTh
 further a b x e = ap refusedThree (shift-twice a b x) ∙ e
 
 module _ (base signals : ℕ) (signal : ℕ → Signal) (xs : List ℕ) where
-  codes-at : (checks : ℕ) → refusedThree (shift base (fromCodes signals signal checks xs)) ≡ faultAt (faultFromCodes base signals signal xs)
+  codes-at : (size checks : ℕ) → refusedThree (shift base (fromCodes size signals signal checks xs)) ≡ faultAt (faultFromCodes base signals signal xs)
   unfolding fromCodes faultFromCodes
-  codes-at checks =
+  codes-at size checks =
       section-at _ _ _ _ _ _ _ (codes-say base signals signal xs) _ _
-      (λ n. further base (entry codeSize n) (fromRoutes signals signal checks n (rest codeSize n xs)) (routes-at _ _ _ _ checks n))
+      (λ n. further base (entry codeSize n) (fromRoutes size signals signal checks n (rest codeSize n xs)) (routes-at _ _ _ _ size checks n))
 
   codes-named : (f : Fault) → faultFromCodes base signals signal xs ≡ found f → 1 ≤ f .rule
   unfolding faultFromCodes
   codes-named = section-named _ _ _ _ _ _ _ (codes-say base signals signal xs) _ (λ n. routes-named _ _ _ _)
 
-module _ (base checks : ℕ) (check : ℕ → ℕ) (xs : List ℕ) where
-  signals-say : Says (signalRule checks check (signalAt xs)) (signalTests checks check (signalAt xs)) signalSize base (signalFault base checks check (signalAt xs))
-  signals-say = record { asks = signal-tests checks check (signalAt xs); rule-is = λ k. refl; at-is = λ k. refl }
+module _ (size base checks : ℕ) (check : ℕ → ℕ) (xs : List ℕ) where
+  signals-say : Says (signalRule checks check (signalAt size xs)) (signalTests checks check (signalAt size xs)) size base
+      (signalFault size base checks check (signalAt size xs))
+  signals-say = record { asks = signal-tests checks check (signalAt size xs); rule-is = λ k. refl; at-is = λ k. refl }
 
-  signals-at : refusedThree (shift base (fromSignals checks check xs)) ≡ faultAt (faultFromSignals base checks check xs)
+  signals-at : refusedThree (shift base (fromSignals size checks check xs)) ≡ faultAt (faultFromSignals size base checks check xs)
   unfolding fromSignalsTo faultFromSignals
   signals-at =
       section-at _ _ _ _ _ _ _ signals-say _ _
-      (λ n. further base (entry signalSize n) (fromCodes n (signalAt xs) checks (rest signalSize n xs)) (codes-at _ _ _ _ checks))
+      (λ n. further base (entry size n) (fromCodes size n (signalAt size xs) checks (rest size n xs)) (codes-at _ _ _ _ size checks))
 
-  signals-named : (f : Fault) → faultFromSignals base checks check xs ≡ found f → 1 ≤ f .rule
+  signals-named : (f : Fault) → faultFromSignals size base checks check xs ≡ found f → 1 ≤ f .rule
   unfolding faultFromSignals
   signals-named = section-named _ _ _ _ _ _ _ signals-say _ (λ n. codes-named _ _ _ _)
 
-module _ (xs : List ℕ) where
+module _ (form : ℕ) (xs : List ℕ) where
   checks-say : Says (checkRule (checkAt xs)) (checkTests (checkAt xs)) checkSize 0 (checkFault (checkAt xs))
   checks-say = record { asks = check-tests (checkAt xs); rule-is = λ k. refl; at-is = λ k. omega arith }
 
   -- an entry is at fault exactly where judging refuses with 3, and at that offset
-  pub fault-exactly : refusedThree (judge xs) ≡ faultAt (faultOf xs)
+  pub fault-exactly : refusedThree (judge form xs) ≡ faultAt (faultOf form xs)
   unfolding judgeTo faultOf
   fault-exactly =
-      ap refusedThree (sym (shift-none (judge xs)))
+      ap refusedThree (sym (shift-none (judge form xs)))
       ∙ section-at _ _ _ _ _ _ _ checks-say _ _
-      (λ n. ap refusedThree (shift-none (shift (entry checkSize n) (fromSignals n (checkAt xs) (rest checkSize n xs)))) ∙ signals-at (entry checkSize n) _ _ _)
+      (λ n. ap refusedThree (shift-none (shift (entry checkSize n) (fromSignals (signalSize form) n (checkAt xs) (rest checkSize n xs)))) ∙ signals-at _ (entry checkSize n) _ _ _)
 
   -- and a rule of it is named, which it breaks: the rules count from 1
-  pub rule-named : (f : Fault) → faultOf xs ≡ found f → 1 ≤ f .rule
+  pub rule-named : (f : Fault) → faultOf form xs ≡ found f → 1 ≤ f .rule
   unfolding faultOf
-  rule-named = section-named _ _ _ _ _ _ _ checks-say _ (λ n. signals-named _ _ _ _)
+  rule-named = section-named _ _ _ _ _ _ _ checks-say _ (λ n. signals-named _ _ _ _ _)

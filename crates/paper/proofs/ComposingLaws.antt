@@ -43,11 +43,11 @@ module _ (l : SignalList) where
 
 -- ---- what composing tests
 
-pub composes : (xs : List ℕ) (type : ℕ) (values marks : List ℕ) (room : ℕ) (telegram : List ℕ) → composing xs type values marks room ≡ gives telegram
-    → Composes xs type values marks telegram
+pub composes : (form : ℕ) (xs : List ℕ) (type : ℕ) (values marks : List ℕ) (room : ℕ) (telegram : List ℕ) → composing form xs type values marks room ≡ gives telegram
+    → Composes form xs type values marks telegram
 unfolding composing markFits valueFits
-composes xs type values marks room telegram e =
-    let o = and-then (judge xs) _ telegram e in
+composes form xs type values marks room telegram e =
+    let o = and-then (judge form xs) _ telegram e in
     let l = listOf xs (o .0) in
     let a = not-refused _ _ _ _ _ (o .1 .1) in
     let b = not-refused _ _ _ _ _ (a .1) in
@@ -79,10 +79,10 @@ where-written true fits h = h refl
 where-written false fits h = refl
 
 -- and what passes the tests is composed, where the room is the type's length
-pub composes-it : (xs : List ℕ) (n : Counts) (type : ℕ) (values marks : List ℕ) (room : ℕ) → judge xs ≡ gives n → Fitting (listOf xs n) type values marks
-    → room ≡ typeLength type → composing xs type values marks room ≡ gives (composed (listOf xs n) type values marks)
+pub composes-it : (form : ℕ) (xs : List ℕ) (n : Counts) (type : ℕ) (values marks : List ℕ) (room : ℕ) → judge form xs ≡ gives n → Fitting (listOf xs n) type values marks
+    → room ≡ typeLength type → composing form xs type values marks room ≡ gives (composed (listOf xs n) type values marks)
 unfolding composing refuseIf markFits valueFits
-composes-it xs n type values marks room e fit long =
+composes-it form xs n type values marks room e fit long =
     let l = listOf xs n in
     let marksFit : firstBad (markFits l type marks) (l .checks) ≡ l .checks =
     first-none (markFits l type marks) (l .checks)

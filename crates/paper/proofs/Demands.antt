@@ -169,12 +169,12 @@ module _ (w : SignalList) (hw : Kept w) (type : ℕ) (values marks : List ℕ) (
 -- ---- a signal's reading, as a call gives it
 
 -- a composed telegram is always taken in: no store of the right length refuses it for a vehicle of the 63
-pub composed-taken : (xs : List ℕ) (type : ℕ) (values marks : List ℕ) (room : ℕ) (telegram : List ℕ) → composing xs type values marks room ≡ gives telegram
+pub composed-taken : (form : ℕ) (xs : List ℕ) (type : ℕ) (values marks : List ℕ) (room : ℕ) (telegram : List ℕ) → composing form xs type values marks room ≡ gives telegram
     → (store : List ℕ) (v now : ℕ) → length store ≡ storeOctets → 1 ≤ v → v ≤ vehicles → taking store v now telegram ≡ gives (taken store v now telegram)
-composed-taken xs type values marks room telegram sent store v now whole first last =
-    let c = composes xs type values marks room telegram sent in
+composed-taken form xs type values marks room telegram sent store v now whole first last =
+    let c = composes form xs type values marks room telegram sent in
     let l = listOf xs (c .counts) in
-    let h = kept xs (c .counts) (c .accepted) in
+    let h = kept form xs (c .counts) (c .accepted) in
     let is-type : telegramType telegram ≡ type = rw (← c .is) (composed-type l h type values marks (c .fitting)) in
     takes-it store v now telegram
     (record {
@@ -186,14 +186,14 @@ composed-taken xs type values marks room telegram sent store v now whole first l
       long = rw is-type (rw (← c .is) (length-composed l h type values marks (c .fitting)));
     })
 
-module _ (xs : List ℕ) (type : ℕ) (values marks : List ℕ) (room : ℕ) (telegram : List ℕ) (sent : composing xs type values marks room ≡ gives telegram)
-    (m : Counts) (writer : judge xs ≡ gives m) where
-  made : Composes xs type values marks telegram
-  made = composes xs type values marks room telegram sent
+module _ (form : ℕ) (xs : List ℕ) (type : ℕ) (values marks : List ℕ) (room : ℕ) (telegram : List ℕ) (sent : composing form xs type values marks room ≡ gives telegram)
+    (m : Counts) (writer : judge form xs ≡ gives m) where
+  made : Composes form xs type values marks telegram
+  made = composes form xs type values marks room telegram sent
 
   -- the writer's list is the one that was judged
   same-list : made .counts ≡ m
-  same-list = gives-one (judge xs) (made .counts) m (made .accepted) writer
+  same-list = gives-one (judge form xs) (made .counts) m (made .accepted) writer
 
   fitted : Fitting (listOf xs m) type values marks
   fitted = rw same-list at (made .fitting)
@@ -201,42 +201,42 @@ module _ (xs : List ℕ) (type : ℕ) (values marks : List ℕ) (room : ℕ) (te
   is-composed : composed (listOf xs m) type values marks ≡ telegram
   is-composed = rw same-list at (made .is)
 
-  module _ (ys : List ℕ) (n : Counts) (reader : judge ys ≡ gives n) (v stamp now j : ℕ) (store : List ℕ) (hj : j < n .signals)
+  module _ (form′ : ℕ) (ys : List ℕ) (n : Counts) (reader : judge form′ ys ≡ gives n) (v stamp now j : ℕ) (store : List ℕ) (hj : j < n .signals)
       (stands : Standing v stamp now (listOf ys n .signal j .limit) telegram store) where
     arrived : (given : Reading)
         → readingOf (listOf ys n) (record { heard = 1; stamp = stamp; telegram = padded (composed (listOf xs m) type values marks) }) now j ≡ given
-        → reading ys store now v j ≡ gives given
+        → reading form′ ys store now v j ≡ gives given
     arrived given e =
         let t = stood v stamp now _ telegram store stands in
-        reads-it ys store now v j n reader (standing-whole v stamp now _ telegram store stands) (t .first) (t .last) hj
+        reads-it form′ ys store now v j n reader (standing-whole v stamp now _ telegram store stands) (t .first) (t .last) hj
         ∙ ap gives (ap (λ (s : Slot). readingOf (listOf ys n) s now j) (standing-slot v stamp now _ telegram store stands) ∙ rw (← is-composed) e)
 
     -- DEMAND 3, a signal that both lists have and the type carries: the written value with its mark, or the reader's own replacement
     -- with 6 or 7 exactly when the mark is error or undefined, or with 8 exactly when it is neither and the code is unknown to the reader
     pub both-have : Related (listOf xs m) (listOf ys n) → (i : ℕ) → i < m .signals → same (listOf xs m .signal i) (listOf ys n .signal j) ≡ true
         → carries type (listOf ys n .signal j .type) ≡ true
-        → reading ys store now v j ≡ gives (delivered (listOf ys n) j (givenMark marks (listOf xs m .signal i)) (getD values i 0))
+        → reading form′ ys store now v j ≡ gives (delivered (listOf ys n) j (givenMark marks (listOf xs m .signal i)) (getD values i 0))
     both-have related i hi one carried =
         let w = listOf xs m in
         let r = listOf ys n in
         let p = same-of (w .signal i) (r .signal j) one in
-        let a = agree w r (kept xs m writer) (kept ys n reader) related i j hi hj (p .0) (p .1) in
-        arrived _ (sent-delivered w (kept xs m writer) type values marks fitted r stamp now j (stands .within) i hi a carried (kept ys n reader) hj)
+        let a = agree w r (kept form xs m writer) (kept form′ ys n reader) related i j hi hj (p .0) (p .1) in
+        arrived _ (sent-delivered w (kept form xs m writer) type values marks fitted r stamp now j (stands .within) i hi a carried (kept form′ ys n reader) hj)
 
     -- DEMAND 3, a signal that only the reader's list has, or that the type doesn't carry: its replacement, with 4 or 5
     pub only-reader : Related (listOf xs m) (listOf ys n)
         → (carries type (listOf ys n .signal j .type) ≡ false) ⊎ ((i : ℕ) → i < m .signals → same (listOf xs m .signal i) (listOf ys n .signal j) ≡ true → ⊥)
-        → reading ys store now v j ≡ gives (withheld (listOf ys n) type j)
+        → reading form′ ys store now v j ≡ gives (withheld (listOf ys n) type j)
     only-reader related d =
         let w = listOf xs m in
         let r = listOf ys n in
         arrived _
-        (sent-withheld w (kept xs m writer) type values marks fitted r stamp now j (stands .within)
+        (sent-withheld w (kept form xs m writer) type values marks fitted r stamp now j (stands .within)
         (⊎-elim (λ a. inl a) (λ a. inr (only-newer w r related j hj a)) d))
 
     -- DEMAND 3, whole: of every signal of its list the reader is given one of the readings that the demand names. Never another value
     pub never-another : Related (listOf xs m) (listOf ys n)
-        → (given : Reading) × ((Named (listOf xs m) (listOf ys n) type values marks j given) × (reading ys store now v j ≡ gives given))
+        → (given : Reading) × ((Named (listOf xs m) (listOf ys n) type values marks j given) × (reading form′ ys store now v j ≡ gives given))
     never-another related = by (carries type (r .signal j .type)) refl (some (λ i. same (w .signal i) (r .signal j)) (w .signals)) refl
       where
         w : SignalList
@@ -245,12 +245,12 @@ module _ (xs : List ℕ) (type : ℕ) (values marks : List ℕ) (room : ℕ) (te
         r : SignalList
         r = listOf ys n
 
-        replaced : (b : Bool) → carries type (r .signal j .type) ≡ b → reading ys store now v j ≡ gives (withheld r type j)
-            → reading ys store now v j ≡ gives (record { value = r .signal j .replacement; reason = cond b 5 4 })
+        replaced : (b : Bool) → carries type (r .signal j .type) ≡ b → reading form′ ys store now v j ≡ gives (withheld r type j)
+            → reading form′ ys store now v j ≡ gives (record { value = r .signal j .replacement; reason = cond b 5 4 })
         replaced b e q = q ∙ ap (λ (x : Bool). gives (record { value = r .signal j .replacement; reason = cond x 5 4 })) e
 
         by : (b : Bool) → carries type (r .signal j .type) ≡ b → (c : Bool) → some (λ i. same (w .signal i) (r .signal j)) (w .signals) ≡ c
-            → (given : Reading) × ((Named w r type values marks j given) × (reading ys store now v j ≡ gives given))
+            → (given : Reading) × ((Named w r type values marks j given) × (reading form′ ys store now v j ≡ gives given))
         by false e c q = (record { value = r .signal j .replacement; reason = 4 }, (not-carried e, replaced false e (only-reader related (inl e))))
         by true e false q =
             let none : (i : ℕ) → i < w .signals → same (w .signal i) (r .signal j) ≡ true → ⊥ =
@@ -260,8 +260,8 @@ module _ (xs : List ℕ) (type : ℕ) (values marks : List ℕ) (room : ℕ) (te
             let t = some-at (λ i. same (w .signal i) (r .signal j)) (w .signals) q in
             let i = t .0 in
             let p = same-of (w .signal i) (r .signal j) (t .1 .1) in
-            let a = agree w r (kept xs m writer) (kept ys n reader) related i j (t .1 .0) hj (p .0) (p .1) in
-            let mark = sent-mark w (kept xs m writer) type values marks fitted r stamp now j (stands .within) i (t .1 .0) a e (kept ys n reader) hj in
+            let a = agree w r (kept form xs m writer) (kept form′ ys n reader) related i j (t .1 .0) hj (p .0) (p .1) in
+            let mark = sent-mark w (kept form xs m writer) type values marks fitted r stamp now j (stands .within) i (t .1 .0) a e (kept form′ ys n reader) hj in
             let small = rw mark at (mark-lt r (r .signal j) (padded (composed w type values marks))) in (
               delivered r j (givenMark marks (w .signal i)) (getD values i 0),
               (
@@ -274,10 +274,10 @@ module _ (xs : List ℕ) (type : ℕ) (values marks : List ℕ) (room : ℕ) (te
   pub read-back : (v stamp now k : ℕ) (store : List ℕ) → k < m .signals → carries type (listOf xs m .signal k .type) ≡ true
       → (givenMark marks (listOf xs m .signal k) ≡ ok) ⊎ (givenMark marks (listOf xs m .signal k) ≡ forced)
       → Standing v stamp now (listOf xs m .signal k .limit) telegram store
-      → reading xs store now v k ≡ gives (record { value = getD values k 0; reason = cond (eqb (givenMark marks (listOf xs m .signal k)) forced) 1 0 })
+      → reading form xs store now v k ≡ gives (record { value = getD values k 0; reason = cond (eqb (givenMark marks (listOf xs m .signal k)) forced) 1 0 })
   read-back v stamp now k store hk carried mark stands =
       let l = listOf xs m in
-      let h = kept xs m writer in
-      arrived xs m writer v stamp now k store hk stands _
+      let h = kept form xs m writer in
+      arrived form xs m writer v stamp now k store hk stands _
       (sent-delivered l h type values marks fitted l stamp now k (stands .within) k hk (agree-itself l k) carried h hk
       ∙ as-given l k (givenMark marks (l .signal k)) (getD values k 0) mark (fitted .value k hk carried .1))

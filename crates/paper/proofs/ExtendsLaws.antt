@@ -91,27 +91,27 @@ only-newer a b (inr e) j hj none =
 -- ---- what the answer of a call on two lists tells
 
 -- a yes: both lists are accepted, and the second extends the first
-pub record ExtendsYes (xs ys : List ℕ) : Type 0 where
+pub record ExtendsYes (form : ℕ) (xs : List ℕ) (form′ : ℕ) (ys : List ℕ) : Type 0 where
   pub first : Counts
   pub second : Counts
-  pub first-accepted : judge xs ≡ gives first
-  pub second-accepted : judge ys ≡ gives second
+  pub first-accepted : judge form xs ≡ gives first
+  pub second-accepted : judge form′ ys ≡ gives second
   pub yes : extends (listOf xs first) (listOf ys second) ≡ true
 
-pub extends-yes : (xs ys : List ℕ) → extendsLists xs ys ≡ ofBoth true → ExtendsYes xs ys
+pub extends-yes : (form : ℕ) (xs : List ℕ) (form′ : ℕ) (ys : List ℕ) → extendsLists form xs form′ ys ≡ ofBoth true → ExtendsYes form xs form′ ys
 unfolding extendsLists
-extends-yes xs ys e =
-    let a = by-both (judge xs) firstRefused _ true (λ n at q. let z : _≡_ {A = ℕ} 0 1 = cc in omega arith) e in
-    let b = by-both (judge ys) secondRefused _ true (λ n at q. let z : _≡_ {A = ℕ} 0 1 = cc in omega arith) (a .1 .1) in
+extends-yes form xs form′ ys e =
+    let a = by-both (judge form xs) firstRefused _ true (λ n at q. let z : _≡_ {A = ℕ} 0 1 = cc in omega arith) e in
+    let b = by-both (judge form′ ys) secondRefused _ true (λ n at q. let z : _≡_ {A = ℕ} 0 1 = cc in omega arith) (a .1 .1) in
     record { first = a .0; second = b .0; first-accepted = a .1 .0; second-accepted = b .1 .0; yes = cc (b .1 .1) }
 
 -- so whichever of the two writes and whichever reads, they are related
-pub yes-related : (xs ys : List ℕ) → extendsLists xs ys ≡ ofBoth true → (m n : Counts) → judge xs ≡ gives m → judge ys ≡ gives n
+pub yes-related : (form : ℕ) (xs : List ℕ) (form′ : ℕ) (ys : List ℕ) → extendsLists form xs form′ ys ≡ ofBoth true → (m n : Counts) → judge form xs ≡ gives m → judge form′ ys ≡ gives n
     → (Related (listOf xs m) (listOf ys n)) × (Related (listOf ys n) (listOf xs m))
-yes-related xs ys e m n first second =
-    let h = extends-yes xs ys e in
-    let p : h .first ≡ m = gives-one (judge xs) (h .first) m (h .first-accepted) first in
-    let q : h .second ≡ n = gives-one (judge ys) (h .second) n (h .second-accepted) second in
+yes-related form xs form′ ys e m n first second =
+    let h = extends-yes form xs form′ ys e in
+    let p : h .first ≡ m = gives-one (judge form xs) (h .first) m (h .first-accepted) first in
+    let q : h .second ≡ n = gives-one (judge form′ ys) (h .second) n (h .second-accepted) second in
     let y : extends (listOf xs m) (listOf ys n) ≡ true = rw (p, q) at (h .yes) in
     (inl y, inr y)
 

@@ -1,10 +1,11 @@
 -- The laws of searching: how a loop shows what it found, and what a caller learns of the indices passed. Assumes nothing.
 use Prim.Native.Nat.{ℕ, zero, suc, _+_, _≤_, _<_, max}
-use mathlib.Core.Path.{_≡_, refl, sym, ap, _∙_}
+use mathlib.Core.Path.{_≡_, refl, sym, ap, ap₂, _∙_}
 use mathlib.Core.Logic.{_⊎_, inl, inr, _↔_}
 use mathlib.Core.Bool.{Bool, true, false, not, cond, false≢true}
 use mathlib.Core.List.{List, [], _∷_, _++_}
 use lib.ListN.{length}
+use lib.Dec.{eqb}
 use borrow.Author.Tests.{eq-eqb, ne-eqb, eqb-true, eqb-false, not-true, not-false}
 use native.Mathlib.Nat.{eq-or-lt-of-le, lt-irrefl}
 use native.Mathlib.Numerals.{add-one}
@@ -200,6 +201,23 @@ module _ (ok : ℕ → Bool) (n m : ℕ) (e : m ≡ count ok n) where
   pub count-more : m + cond (ok n) 1 0 ≡ count ok (n + 1)
   unfolding count
   count-more = rw (add-one, e)
+
+-- tests that agree, each as soon as those before are passed, fail first at one index
+pub first-same : (p q : ℕ → Bool) (n : ℕ) → ((k : ℕ) → k < n → ((j : ℕ) → j < k → q j ≡ true) → p k ≡ q k) → firstBad p n ≡ firstBad q n
+first-same p q n e =
+    is-first p n (firstBad q n) (first-most q n)
+    (λ k h. e k (omega (arith, first-most q n)) (λ j l. first-passed q n j (omega arith)) ∙ first-passed q n k h)
+    (λ lt. e (firstBad q n) lt (λ j l. first-passed q n j l) ∙ first-fails q n lt)
+
+pub all-same : (p q : ℕ → Bool) (n : ℕ) → ((k : ℕ) → k < n → p k ≡ q k) → all p n ≡ all q n
+unfolding all
+all-same p q n e = ap (λ (x : ℕ). eqb x n) (first-same p q n (λ k h _. e k h))
+
+-- the greatest of two tables that agree
+pub greatest-same : (least : ℕ) (f g : ℕ → ℕ) (n : ℕ) → ((k : ℕ) → k < n → f k ≡ g k) → greatest least f n ≡ greatest least g n
+unfolding greatest
+greatest-same least f g zero e = refl
+greatest-same least f g (suc n) e = ap₂ max (greatest-same least f g n (λ k h. e k (omega arith))) (e n (omega arith))
 
 module _ (least : ℕ) (f : ℕ → ℕ) where
   pub greatest-least : (n : ℕ) → least ≤ greatest least f n

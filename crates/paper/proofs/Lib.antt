@@ -14,6 +14,10 @@ pub mod ReadingLaws
 pub mod MarshallingLaws
 pub mod ComposingLaws
 pub mod ExtendsLaws
+pub mod FormLaws
+pub mod MoveLaws
+pub mod SerialLaws
+pub mod SameLaws
 pub mod WidthLaws
 pub mod PairLaws
 pub mod RefusalLaws

@@ -1,24 +1,24 @@
 -- What an accepted list keeps: one law per section, in numbers and orders, that what keeps it is accepted, and what follows for two
 -- entries. Assumes nothing.
 use Prim.Native.Nat.{ℕ, zero, suc, _+_, _-_, _*_, _≤_, _<_, zero-le}
-use mathlib.Core.Path.{_≡_, refl, sym, ap}
+use mathlib.Core.Path.{_≡_, refl, sym, ap, _∙_, subst, fun-ext}
 use mathlib.Core.Logic.{_⊎_, inl, inr, ⊎-elim}
-use mathlib.Core.Bool.{Bool, true, false, not, _&&_, _||_}
+use mathlib.Core.Bool.{Bool, true, false, not, cond, _&&_, _||_}
 use mathlib.Core.List.{List}
 use native.Mathlib.Nat.{lt-irrefl, le-refl, le-of-lt, mul-le-mul-left, add-zero, add-suc}
 use native.Mathlib.Decide.{decLt, ℕ-discrete}
 use native.Mathlib.Omega.{arith}
 use lib.ListN.{length, length-drop}
 use lib.Dec.{ltb, leb, eqb}
-use borrow.Author.Tests.{ltb-true, ltb-false, leb-true, eqb-true, eqb-false, le-ltb, ne-eqb, not-true}
+use borrow.Author.Tests.{ltb-true, ltb-false, leb-true, eqb-true, eqb-false, le-ltb, lt-ltb, ne-eqb, not-true}
 use Rattle.paper.specs.Octets.{number}
 use Rattle.paper.specs.Answer.{Answer, gives, refused, refuseIf, andThen, shift}
 use Rattle.paper.specs.First.{firstBad}
-use Rattle.paper.specs.SignalList.{Signal, Code, Route, fieldEnd, routeEnd, entry, rest, checkSize, signalSize, codeSize, routeSize, mostChecks, mostSignals, mostCodes, mostRoutes, checkAt, signalAt, codeAt, routeAt, checkRule, placeRule, namedRule, orderRule, apart, signalRule, signalRuleTo, codeRule, routeRule, opening, judgeEntries, judgeSection, greatestSince, Counts, ending, fromRoutes, fromCodes, fromSignals, fromSignalsTo, judge, judgeTo, SignalList, listOf, signalsPart, codesPart, routesPart}
-use Rattle.paper.specs.Accepted.{Opened, Holds, CheckKept, Placed, CheckNamed, Follows, SignalKept, CodeKept, RouteKept, Kept, Laid, RefusedWithin}
+use Rattle.paper.specs.SignalList.{Signal, Code, Route, fieldEnd, routeEnd, entry, rest, checkSize, signalSize, codeSize, routeSize, mostChecks, mostSignals, mostCodes, mostRoutes, checkAt, signalAt, codeAt, routeAt, checkRule, placeRule, namedRule, orderRule, apart, signalRule, signalRuleTo, codeRule, routeRule, opening, judgeEntries, judgeSection, greatestSince, Counts, ending, fromRoutes, fromCodes, fromSignals, fromSignalsTo, judge, judgeTo, judgeSized, among, noSignal, SignalList, version, listOf, signalsPart, codesPart, routesPart}
+use Rattle.paper.specs.Accepted.{Opened, Holds, CheckKept, Placed, CheckNamed, Follows, SignalKept, CodeKept, RouteKept, Kept, Sized, signalsAt, Laid, RefusedWithin}
 use Rattle.bools.proofs.Tests.{both, either, other}
 use Rattle.paper.proofs.AnswerLaws.{not-refused, and-then, not-shifted, gives-one}
-use Rattle.paper.proofs.FirstLaws.{first-passed, first-none, all-at}
+use Rattle.paper.proofs.FirstLaws.{first-passed, first-none, all-at, greatest-same}
 
 -- ---- a section
 
@@ -54,6 +54,10 @@ opens-it limit size xs n h =
 section-it : (limit size : ℕ) (rule : ℕ → Bool) (xs : List ℕ) (n : ℕ) → Holds limit size rule xs n → judgeSection limit size rule xs ≡ gives n
 unfolding judgeSection judgeEntries refuseIf
 section-it limit size rule xs n h = rw (opens-it limit size xs n (h .opens), first-none rule n (h .entries), le-ltb n n (le-refl n))
+
+-- an entry of n that are present
+pub entry-in : (size k n : ℕ) {most : ℕ} → k < n → entry size n ≤ most → entry size (k + 1) ≤ most
+entry-in size k n h le = omega (arith, mul-le-mul-left {m = k + 1} {n = n} size (omega arith))
 
 -- ---- the rule of an entry, as facts on numbers; stated over the tables, for any layout of the octets
 
@@ -178,61 +182,131 @@ route-kept signals signal route k e =
       follows = λ h. leb-true _ _ (other _ _ (p .1) (positive k h));
     }
 
+-- ---- tables that agree where an entry looks keep the same
+
+check-kept-same : (check check′ : ℕ → ℕ) (k : ℕ) → check′ k ≡ check k → (0 < k → check′ (k - 1) ≡ check (k - 1)) → CheckKept check k → CheckKept check′ k
+check-kept-same check check′ k e p h = record { even = rw e (h .even); low = rw e (h .low); high = rw e (h .high); rises = λ pos. rw (e, p pos) (h .rises pos) }
+
+module _ (checks : ℕ) (check check′ : ℕ → ℕ) (same : (j : ℕ) → j < checks → check′ j ≡ check j) where
+  named-same : (s : Signal) → CheckNamed checks check s → CheckNamed checks check′ s
+  named-same s h = record {
+    exists = h .exists;
+    common = λ z pos. rw (same (s .check - 1) (omega (arith, h .exists))) (h .common z pos);
+    own = λ z pos. rw (same (s .check - 1) (omega (arith, h .exists))) (h .own z pos);
+  }
+
+  signal-kept-same : (signal signal′ : ℕ → Signal) (k : ℕ) → signal′ k ≡ signal k → (0 < k → signal′ (k - 1) ≡ signal (k - 1))
+      → SignalKept checks check signal k → SignalKept checks check′ signal′ k
+  signal-kept-same signal signal′ k e p h = record {
+    some = rw e (h .some);
+    wide = rw e (h .wide);
+    typed = rw e (h .typed);
+    placed = rw e (h .placed);
+    named = rw e (named-same (signal k) (h .named));
+    since = rw e (h .since);
+    octet = rw e (h .octet);
+    limited = rw e (h .limited);
+    fits = rw e (h .fits);
+    follows = λ pos. rw (e, p pos) (h .follows pos);
+    clear = λ j lt. rw (e, same j lt) (h .clear j lt);
+  }
+
+module _ (signals : ℕ) (signal signal′ : ℕ → Signal) (same : (k : ℕ) → k < signals → signal′ k ≡ signal k) where
+  code-kept-same : (code : ℕ → Code) (k : ℕ) → CodeKept signals signal code k → CodeKept signals signal′ code k
+  code-kept-same code k h = record {
+    exists = h .exists;
+    narrow = rw (same (code k .signal) (h .exists)) (h .narrow);
+    range = h .range;
+    fits = rw (same (code k .signal) (h .exists)) (h .fits);
+    follows = h .follows;
+  }
+
+  route-kept-same : (route : ℕ → Route) (k : ℕ) → RouteKept signals signal route k → (0 < k → route (k - 1) .signal < signals) → RouteKept signals signal′ route k
+  route-kept-same route k h before = record {
+    exists = h .exists;
+    first = h .first;
+    last = h .last;
+    null = h .null;
+    ends = rw (same (route k .signal) (h .exists)) (h .ends);
+    follows = λ pos. rw (same (route (k - 1) .signal) (before pos)) (h .follows pos);
+  }
+
+  pub since-same : greatestSince signals signal′ ≡ greatestSince signals signal
+  unfolding greatestSince
+  since-same = greatest-same 1 (λ k. signal′ k .since) (λ k. signal k .since) signals (λ k lt. ap (λ (s : Signal). s .since) (same k lt))
+
 -- ---- the whole list
 
 -- each section in turn: what its part keeps, and what the rest gives, at the counts that the whole reports
-module _ (signals : ℕ) (signal : ℕ → Signal) (checks : ℕ) (n : Counts) where
-  from-routes : (codes : ℕ) (xs : List ℕ) → fromRoutes signals signal checks codes xs ≡ gives n
+module _ (size signals : ℕ) (signal : ℕ → Signal) (checks : ℕ) (n : Counts) where
+  from-routes : (codes : ℕ) (xs : List ℕ) → fromRoutes size signals signal checks codes xs ≡ gives n
       → (r : ℕ) × ((Holds mostRoutes routeSize (routeRule signals signal (routeAt xs)) xs r) × ((length xs ≤ entry routeSize r)
-      × (_≡_ {A = Counts} (record { checks = checks; signals = signals; codes = codes; routes = r; version = greatestSince signals signal }) n)))
+      × (_≡_ {A = Counts} (record { checks = checks; signals = signals; codes = codes; routes = r; version = greatestSince signals signal; size = size }) n)))
   unfolding fromRoutes ending
   from-routes codes xs e =
-      let d = and-then (judgeSection mostRoutes routeSize (routeRule signals signal (routeAt xs)) xs) (ending signals signal checks codes xs) n e in
+      let d = and-then (judgeSection mostRoutes routeSize (routeRule signals signal (routeAt xs)) xs) (ending size signals signal checks codes xs) n e in
       let z = not-refused _ _ _ _ n (d .1 .1) in
       (d .0, (holds-of _ _ _ _ _ (d .1 .0), (ltb-false _ _ (z .0), sym (gives-one _ _ _ (z .1) refl))))
 
-  from-codes : (xs : List ℕ) → fromCodes signals signal checks xs ≡ gives n
+  from-codes : (xs : List ℕ) → fromCodes size signals signal checks xs ≡ gives n
       → (Holds mostCodes codeSize (codeRule signals signal (codeAt xs)) xs (n .codes))
-      × (fromRoutes signals signal checks (n .codes) (rest codeSize (n .codes) xs) ≡ gives n)
+      × (fromRoutes size signals signal checks (n .codes) (rest codeSize (n .codes) xs) ≡ gives n)
   unfolding fromCodes
   from-codes xs e =
       let c = and-then (judgeSection mostCodes codeSize (codeRule signals signal (codeAt xs)) xs)
-      (λ codes. shift (entry codeSize codes) (fromRoutes signals signal checks codes (rest codeSize codes xs))) n e in
+      (λ codes. shift (entry codeSize codes) (fromRoutes size signals signal checks codes (rest codeSize codes xs))) n e in
       let f = not-shifted _ _ n (c .1 .1) in
       let q : c .0 ≡ n .codes = ap (λ (m : Counts). m .codes) (from-routes (c .0) _ f .1 .1 .1) in
       (holds-of _ _ _ _ _ (rw q at (c .1 .0)), rw q at f)
 
-from-signals : (checks : ℕ) (check : ℕ → ℕ) (n : Counts) (xs : List ℕ) → fromSignals checks check xs ≡ gives n
-    → (Holds mostSignals signalSize (signalRule checks check (signalAt xs)) xs (n .signals))
-    × (fromCodes (n .signals) (signalAt xs) checks (rest signalSize (n .signals) xs) ≡ gives n)
+from-signals : (size checks : ℕ) (check : ℕ → ℕ) (n : Counts) (xs : List ℕ) → fromSignals size checks check xs ≡ gives n
+    → (Holds mostSignals size (signalRule checks check (signalAt size xs)) xs (n .signals))
+    × (fromCodes size (n .signals) (signalAt size xs) checks (rest size (n .signals) xs) ≡ gives n)
 unfolding fromSignalsTo
-from-signals checks check n xs e =
-    let b = and-then (judgeSection mostSignals signalSize (signalRule checks check (signalAt xs)) xs)
-    (λ signals. shift (entry signalSize signals) (fromCodes signals (signalAt xs) checks (rest signalSize signals xs))) n e in
+from-signals size checks check n xs e =
+    let b = and-then (judgeSection mostSignals size (signalRule checks check (signalAt size xs)) xs)
+    (λ signals. shift (entry size signals) (fromCodes size signals (signalAt size xs) checks (rest size signals xs))) n e in
     let f = not-shifted _ _ n (b .1 .1) in
-    let g = from-codes (b .0) (signalAt xs) checks n _ f in
-    let q : b .0 ≡ n .signals = ap (λ (m : Counts). m .signals) (from-routes (b .0) (signalAt xs) checks n (n .codes) _ (g .1) .1 .1 .1) in
+    let g = from-codes size (b .0) (signalAt size xs) checks n _ f in
+    let q : b .0 ≡ n .signals = ap (λ (m : Counts). m .signals) (from-routes size (b .0) (signalAt size xs) checks n (n .codes) _ (g .1) .1 .1 .1) in
     (holds-of _ _ _ _ _ (rw q at (b .1 .0)), rw q at f)
 
-from-checks : (n : Counts) (xs : List ℕ) → judge xs ≡ gives n
-    → (Holds mostChecks checkSize (checkRule (checkAt xs)) xs (n .checks)) × (fromSignals (n .checks) (checkAt xs) (rest checkSize (n .checks) xs) ≡ gives n)
+from-checks : (size : ℕ) (n : Counts) (xs : List ℕ) → judgeSized size xs ≡ gives n
+    → (Holds mostChecks checkSize (checkRule (checkAt xs)) xs (n .checks)) × (fromSignals size (n .checks) (checkAt xs) (rest checkSize (n .checks) xs) ≡ gives n)
 unfolding judgeTo
-from-checks n xs e =
+from-checks size n xs e =
     let a = and-then (judgeSection mostChecks checkSize (checkRule (checkAt xs)) xs)
-    (λ checks. shift (entry checkSize checks) (fromSignals checks (checkAt xs) (rest checkSize checks xs))) n e in
+    (λ checks. shift (entry checkSize checks) (fromSignals size checks (checkAt xs) (rest checkSize checks xs))) n e in
     let f = not-shifted _ _ n (a .1 .1) in
     let ys = rest checkSize (a .0) xs in
-    let g = from-signals (a .0) (checkAt xs) n ys f in
-    let h = from-codes (n .signals) (signalAt ys) (a .0) n _ (g .1) in
-    let q : a .0 ≡ n .checks = ap (λ (m : Counts). m .checks) (from-routes (n .signals) (signalAt ys) (a .0) n (n .codes) _ (h .1) .1 .1 .1) in
+    let g = from-signals size (a .0) (checkAt xs) n ys f in
+    let h = from-codes size (n .signals) (signalAt size ys) (a .0) n _ (g .1) in
+    let q : a .0 ≡ n .checks = ap (λ (m : Counts). m .checks) (from-routes size (n .signals) (signalAt size ys) (a .0) n (n .codes) _ (h .1) .1 .1 .1) in
     (holds-of _ _ _ _ _ (rw q at (a .1 .0)), rw q at f)
 
-pub laid : (xs : List ℕ) (n : Counts) → judge xs ≡ gives n → Laid xs n
-laid xs n e =
-    let a = from-checks n xs e in
-    let b = from-signals (n .checks) (checkAt xs) n (signalsPart xs n) (a .1) in
-    let c = from-codes (n .signals) (signalAt (signalsPart xs n)) (n .checks) n (codesPart xs n) (b .1) in
-    let d = from-routes (n .signals) (signalAt (signalsPart xs n)) (n .checks) n (n .codes) (routesPart xs n) (c .1) in
+-- what is accepted is reported with the size of its entries
+pub sized-as : (size : ℕ) (xs : List ℕ) (n : Counts) → judgeSized size xs ≡ gives n → size ≡ n .size
+sized-as size xs n e =
+    let ys = signalsPart xs n in
+    let a = from-checks size n xs e in
+    let b = from-signals size (n .checks) (checkAt xs) n ys (a .1) in
+    let c = from-codes size (n .signals) (signalAt size ys) (n .checks) n _ (b .1) in
+    ap (λ (m : Counts). m .size) (from-routes size (n .signals) (signalAt size ys) (n .checks) n (n .codes) _ (c .1) .1 .1 .1)
+
+pub form-sized : (form : ℕ) → Sized (signalSize form)
+unfolding signalSize
+form-sized form = by (eqb form 2)
+  where
+    by : (b : Bool) → Sized (cond b 18 16)
+    by true = record { least = omega arith; most = omega arith }
+    by false = record { least = omega arith; most = omega arith }
+
+laid-sized : (xs : List ℕ) (n : Counts) → Sized (n .size) → judgeSized (n .size) xs ≡ gives n → Laid xs n
+laid-sized xs n sized e =
+    let a = from-checks (n .size) n xs e in
+    let b = from-signals (n .size) (n .checks) (checkAt xs) n (signalsPart xs n) (a .1) in
+    let c = from-codes (n .size) (n .signals) (signalsAt xs n) (n .checks) n (codesPart xs n) (b .1) in
+    let d = from-routes (n .size) (n .signals) (signalsAt xs n) (n .checks) n (n .codes) (routesPart xs n) (c .1) in
     let q : d .0 ≡ n .routes = ap (λ (m : Counts). m .routes) (d .1 .1 .1) in
     record {
       checks = a .0;
@@ -241,10 +315,16 @@ laid xs n e =
       routes = rw q at (d .1 .0);
       ends = rw q at (d .1 .1 .0);
       version = sym (ap (λ (m : Counts). m .version) (d .1 .1 .1));
+      sized = sized;
     }
 
+pub laid : (form : ℕ) (xs : List ℕ) (n : Counts) → judge form xs ≡ gives n → Laid xs n
+laid form xs n e =
+    let q = sized-as (signalSize form) xs n e in
+    laid-sized xs n (subst Sized q (form-sized form)) (subst (λ (s : ℕ). judgeSized s xs ≡ gives n) q e)
+
 -- and a list that is laid out so is accepted: 1-4 are given exactly when some rule is broken
-pub accepts-it : (xs : List ℕ) (n : Counts) → Laid xs n → judge xs ≡ gives n
+pub accepts-it : (xs : List ℕ) (n : Counts) → Laid xs n → judgeSized (n .size) xs ≡ gives n
 unfolding judgeTo fromSignalsTo fromCodes fromRoutes ending refuseIf
 accepts-it xs n h =
     rw (
@@ -256,11 +336,21 @@ accepts-it xs n h =
       ← h .version,
     )
 
--- "The longest list has 10,376 octets."
-pub longest : (xs : List ℕ) (n : Counts) → judge xs ≡ gives n → length xs ≤ 10376
-longest xs n e =
-    let h = laid xs n e in
-    omega (
+pub accepts-in : (form : ℕ) (xs : List ℕ) (n : Counts) → n .size ≡ signalSize form → Laid xs n → judge form xs ≡ gives n
+accepts-in form xs n size h = rw (← size) (accepts-it xs n h)
+
+-- any number but 2 says form 1
+pub other-form : (form : ℕ) → (form ≡ 2 → ⊥) → signalSize form ≡ 16
+unfolding signalSize
+other-form form ne = rw (ne-eqb form 2 ne)
+
+-- "The longest list has 10,376 octets"; in form 2 it has 10,888
+pub longest : (form : ℕ) (xs : List ℕ) (n : Counts) → judge form xs ≡ gives n → length xs ≤ 6280 + signalSize form * mostSignals
+longest form xs n e =
+    let h = laid form xs n e in
+    let q = sized-as (signalSize form) xs n e in
+    let most : n .size * n .signals ≤ n .size * mostSignals = mul-le-mul-left (n .size) (h .signals .opens .within) in
+    rw q (omega (
       arith,
       h .checks .opens .within,
       h .signals .opens .within,
@@ -268,9 +358,46 @@ longest xs n e =
       h .routes .opens .within,
       h .ends,
       length-drop (entry checkSize (n .checks)) xs,
-      length-drop (entry signalSize (n .signals)) (signalsPart xs n),
+      length-drop (entry (n .size) (n .signals)) (signalsPart xs n),
       length-drop (entry codeSize (n .codes)) (codesPart xs n),
-    )
+    ))
+
+pub longest-in-form-1 : (xs : List ℕ) (n : Counts) → judge 1 xs ≡ gives n → length xs ≤ 10376
+unfolding signalSize
+longest-in-form-1 xs n e = longest 1 xs n e
+
+pub longest-in-form-2 : (xs : List ℕ) (n : Counts) → judge 2 xs ≡ gives n → length xs ≤ 10888
+unfolding signalSize
+longest-in-form-2 xs n e = longest 2 xs n e
+
+-- ---- the tables, which end with their counts
+
+pub among-at : {A : Type 0} (n : ℕ) (table : ℕ → A) (other : A) (k : ℕ) → k < n → among n table other k ≡ table k
+unfolding among
+among-at n table other k lt = rw (lt-ltb k n lt)
+
+pub among-past : {A : Type 0} (n : ℕ) (table : ℕ → A) (other : A) (k : ℕ) → n ≤ k → among n table other k ≡ other
+unfolding among
+among-past n table other k le = rw (le-ltb k n le)
+
+-- two tables that agree up to their end are one
+pub among-same : {A : Type 0} (n : ℕ) (table table′ : ℕ → A) (other : A) → ((k : ℕ) → k < n → table k ≡ table′ k) → among n table other ≡ among n table′ other
+among-same n table table′ other same = fun-ext (λ k. elim (decLt k n) [
+  | yes lt ↦ among-at n table other k lt ∙ same k lt ∙ sym (among-at n table′ other k lt)
+  | no far ↦ among-past n table other k (omega arith) ∙ sym (among-past n table′ other k (omega arith))
+])
+
+module _ (xs : List ℕ) (n : Counts) where
+  pub check-here : (k : ℕ) → k < n .checks → listOf xs n .check k ≡ checkAt xs k
+  check-here k lt = among-at (n .checks) (checkAt xs) 0 k lt
+
+  pub signal-here : (k : ℕ) → k < n .signals → listOf xs n .signal k ≡ signalsAt xs n k
+  signal-here k lt = among-at (n .signals) (signalsAt xs n) noSignal k lt
+
+  -- the version that a list is reported with
+  pub version-here : Laid xs n → n .version ≡ version (listOf xs n)
+  unfolding version
+  version-here h = h .version ∙ sym (since-same (n .signals) (signalsAt xs n) (listOf xs n .signal) signal-here)
 
 pub kept-of : (xs : List ℕ) (n : Counts) → Laid xs n → Kept (listOf xs n)
 kept-of xs n h = record {
@@ -278,15 +405,19 @@ kept-of xs n h = record {
   few-signals = h .signals .opens .within;
   few-codes = h .codes .opens .within;
   few-routes = h .routes .opens .within;
-  check = λ k lt. check-kept _ k (h .checks .entries k lt);
-  signal = λ k lt. signal-kept _ _ _ k (h .signals .entries k lt);
-  code = λ k lt. code-kept _ _ _ k (h .codes .entries k lt);
-  route = λ k lt. route-kept _ _ _ k (h .routes .entries k lt);
+  check = λ k lt. check-kept-same _ _ k (check-here xs n k lt) (λ pos. check-here xs n (k - 1) (omega arith)) (check-kept _ k (h .checks .entries k lt));
+  signal = λ k lt.
+      signal-kept-same (n .checks) _ _ (check-here xs n) _ _ k (signal-here xs n k lt) (λ pos. signal-here xs n (k - 1) (omega arith))
+      (signal-kept _ _ _ k (h .signals .entries k lt));
+  code = λ k lt. code-kept-same (n .signals) _ _ (signal-here xs n) _ k (code-kept _ _ _ k (h .codes .entries k lt));
+  route = λ k lt.
+      route-kept-same (n .signals) _ _ (signal-here xs n) _ k (route-kept _ _ _ k (h .routes .entries k lt))
+      (λ pos. route-kept _ _ _ (k - 1) (h .routes .entries (k - 1) (omega arith)) .exists);
 }
 
 -- accepted → each entry keeps its rule
-pub kept : (xs : List ℕ) (n : Counts) → judge xs ≡ gives n → Kept (listOf xs n)
-kept xs n e = kept-of xs n (laid xs n e)
+pub kept : (form : ℕ) (xs : List ℕ) (n : Counts) → judge form xs ≡ gives n → Kept (listOf xs n)
+kept form xs n e = kept-of xs n (laid form xs n e)
 
 -- ---- where a refusal's offset lies: within the part that was judged
 
@@ -322,30 +453,30 @@ section-within limit size rule xs =
     (λ n e. last-within _ 3 _ _ n
     (λ t. let le : size * firstBad rule n ≤ size * n = mul-le-mul-left size (le-of-lt (ltb-true _ _ t)) in omega (arith, opened-of limit size xs n e .present)))
 
-module _ (signals : ℕ) (signal : ℕ → Signal) (checks : ℕ) where
-  pub routes-within : (codes : ℕ) (xs : List ℕ) → RefusedWithin (length xs) (fromRoutes signals signal checks codes xs)
+module _ (size signals : ℕ) (signal : ℕ → Signal) (checks : ℕ) where
+  pub routes-within : (codes : ℕ) (xs : List ℕ) → RefusedWithin (length xs) (fromRoutes size signals signal checks codes xs)
   unfolding fromRoutes ending
   routes-within codes xs =
-      within-then (length xs) (judgeSection mostRoutes routeSize (routeRule signals signal (routeAt xs)) xs) (ending signals signal checks codes xs)
+      within-then (length xs) (judgeSection mostRoutes routeSize (routeRule signals signal (routeAt xs)) xs) (ending size signals signal checks codes xs)
       (section-within _ _ _ xs) (λ n e. last-within (ltb (entry routeSize n) (length xs)) 4 (entry routeSize n) (length xs) _ (λ t. le-of-lt (ltb-true _ _ t)))
 
-  pub codes-within : (xs : List ℕ) → RefusedWithin (length xs) (fromCodes signals signal checks xs)
+  pub codes-within : (xs : List ℕ) → RefusedWithin (length xs) (fromCodes size signals signal checks xs)
   unfolding fromCodes
   codes-within xs =
       within-then (length xs) (judgeSection mostCodes codeSize (codeRule signals signal (codeAt xs)) xs) _
       (section-within _ _ _ xs)
       (λ n e.
-      within-rest codeSize n xs (length xs) (fromRoutes signals signal checks n (rest codeSize n xs)) (holds-of _ _ _ _ _ e .opens .present) (le-refl _)
+      within-rest codeSize n xs (length xs) (fromRoutes size signals signal checks n (rest codeSize n xs)) (holds-of _ _ _ _ _ e .opens .present) (le-refl _)
       (routes-within n (rest codeSize n xs)))
 
-pub signals-within : (checks : ℕ) (check : ℕ → ℕ) (xs : List ℕ) → RefusedWithin (length xs) (fromSignals checks check xs)
+pub signals-within : (size checks : ℕ) (check : ℕ → ℕ) (xs : List ℕ) → RefusedWithin (length xs) (fromSignals size checks check xs)
 unfolding fromSignalsTo
-signals-within checks check xs =
-    within-then (length xs) (judgeSection mostSignals signalSize (signalRule checks check (signalAt xs)) xs) _
+signals-within size checks check xs =
+    within-then (length xs) (judgeSection mostSignals size (signalRule checks check (signalAt size xs)) xs) _
     (section-within _ _ _ xs)
     (λ n e.
-    within-rest signalSize n xs (length xs) (fromCodes n (signalAt xs) checks (rest signalSize n xs)) (holds-of _ _ _ _ _ e .opens .present) (le-refl _)
-    (codes-within n (signalAt xs) checks (rest signalSize n xs)))
+    within-rest size n xs (length xs) (fromCodes size n (signalAt size xs) checks (rest size n xs)) (holds-of _ _ _ _ _ e .opens .present) (le-refl _)
+    (codes-within size n (signalAt size xs) checks (rest size n xs)))
 
 -- ---- two entries of an accepted list
 

@@ -49,10 +49,10 @@ module _ (l : SignalList) (h : Kept l) (store : List ℕ) (now : ℕ) (bus : Lis
       (reading-fits l h (slotOf store (l .route r .vehicle)) now (l .route r .signal) (h .route r lt .exists))
       (λ j a b _. inr (routes-apart l h r j a b))
 
-pub marshals : (xs store : List ℕ) (now : ℕ) (bus : List ℕ) (m : Marshalled) → marshalling xs store now bus ≡ gives m → Marshals xs store now bus m
+pub marshals : (form : ℕ) (xs store : List ℕ) (now : ℕ) (bus : List ℕ) (m : Marshalled) → marshalling form xs store now bus ≡ gives m → Marshals form xs store now bus m
 unfolding marshalling
-marshals xs store now bus m e =
-    let o = and-then (judge xs) _ m e in
+marshals form xs store now bus m e =
+    let o = and-then (judge form xs) _ m e in
     let l = listOf xs (o .0) in
     let a = not-refused _ _ _ _ _ (o .1 .1) in
     let b = not-refused _ _ _ _ _ (a .1) in
@@ -67,12 +67,12 @@ marshals xs store now bus m e =
     }
 
 -- and what meets that is marshalled
-pub marshals-it : (xs store : List ℕ) (now : ℕ) (bus : List ℕ) (n : Counts) → judge xs ≡ gives n → length store ≡ storeOctets
+pub marshals-it : (form : ℕ) (xs store : List ℕ) (now : ℕ) (bus : List ℕ) (n : Counts) → judge form xs ≡ gives n → length store ≡ storeOctets
     → ((r : ℕ) → r < n .routes → routeEnd (listOf xs n .signal) (listOf xs n .route r) ≤ 8 * length bus)
-    → let l = listOf xs n in marshalling xs store now bus
+    → let l = listOf xs n in marshalling form xs store now bus
     ≡ gives (record { octets = marshalled l store now bus (n .routes); lives = count (live l store now) (n .routes) })
 unfolding marshalling refuseIf
-marshals-it xs store now bus n accepted whole room =
+marshals-it form xs store now bus n accepted whole room =
     let l = listOf xs n in
     rw (
       accepted,
@@ -89,21 +89,21 @@ counted-exactly l store now r =
     (λ e. x .0 (leb-true _ _ e), λ h. le-leb _ _ (x .1 h))
 
 -- DEMAND 2 for marshalling: of every accepted call, each destination field holds its reading
-pub destination : (xs store : List ℕ) (now : ℕ) (bus : List ℕ) (m : Marshalled) (h : Marshals xs store now bus m)
+pub destination : (form : ℕ) (xs store : List ℕ) (now : ℕ) (bus : List ℕ) (m : Marshalled) (h : Marshals form xs store now bus m)
     → let l = listOf xs (h .counts) in (r : ℕ) → r < l .routes
     → field (m .octets) (l .route r .start) (l .signal (l .route r .signal) .width) ≡ readingAt l store now (l .route r .vehicle) (l .route r .signal) .value
 unfolding routed
-destination xs store now bus m h r lt =
+destination form xs store now bus m h r lt =
     let l = listOf xs (h .counts) in
-    rw (h .octets) (each-route l (kept xs (h .counts) (h .accepted)) store now bus (h .room) r lt)
+    rw (h .octets) (each-route l (kept form xs (h .counts) (h .accepted)) store now bus (h .room) r lt)
 
 -- and every bit outside the routes is as before
-pub other-bit : (xs store : List ℕ) (now : ℕ) (bus : List ℕ) (m : Marshalled) (h : Marshals xs store now bus m)
+pub other-bit : (form : ℕ) (xs store : List ℕ) (now : ℕ) (bus : List ℕ) (m : Marshalled) (h : Marshals form xs store now bus m)
     → let l = listOf xs (h .counts) in (a : ℕ)
     → ((r : ℕ) → r < l .routes → l .route r .start ≤ a → a < routeEnd (l .signal) (l .route r) → ⊥) → bit (m .octets) a ≡ bit bus a
-other-bit xs store now bus m h a out =
+other-bit form xs store now bus m h a out =
     let l = listOf xs (h .counts) in
-    rw (h .octets) (outside-routes l (kept xs (h .counts) (h .accepted)) store now bus a out)
+    rw (h .octets) (outside-routes l (kept form xs (h .counts) (h .accepted)) store now bus a out)
 
 -- what a route reads, value and reason, depends on no other vehicle's slot
 pub routed-alike : (l : SignalList) (store store′ : List ℕ) (now r : ℕ) → slotOf store (l .route r .vehicle) ≡ slotOf store′ (l .route r .vehicle)
@@ -112,17 +112,17 @@ unfolding routed
 routed-alike l store store′ now r e = isolation l store store′ now (l .route r .vehicle) (l .route r .signal) e
 
 -- "A field routed from one vehicle depends on no other vehicle's slot": of two stores that agree on that slot, whatever data went in
-module _ (xs : List ℕ) (n : Counts) (accepted : judge xs ≡ gives n) (now r : ℕ) (lt : r < n .routes) where
+module _ (form : ℕ) (xs : List ℕ) (n : Counts) (accepted : judge form xs ≡ gives n) (now r : ℕ) (lt : r < n .routes) where
   -- the field of the route's destination, in the data afterwards
-  arrived : (store bus : List ℕ) (m : Marshalled) → marshalling xs store now bus ≡ gives m
+  arrived : (store bus : List ℕ) (m : Marshalled) → marshalling form xs store now bus ≡ gives m
       → let l = listOf xs n in field (m .octets) (l .route r .start) (l .signal (l .route r .signal) .width) ≡ routed l store now r .value
   unfolding routed
   arrived store bus m e =
-      let h = marshals xs store now bus m e in
-      let q : h .counts ≡ n = gives-one (judge xs) _ _ (h .accepted) accepted in
-      rw q at (destination xs store now bus m h r (rw q lt))
+      let h = marshals form xs store now bus m e in
+      let q : h .counts ≡ n = gives-one (judge form xs) _ _ (h .accepted) accepted in
+      rw q at (destination form xs store now bus m h r (rw q lt))
 
-  pub no-other-slot : (store store′ bus bus′ : List ℕ) (m m′ : Marshalled) → marshalling xs store now bus ≡ gives m → marshalling xs store′ now bus′ ≡ gives m′
+  pub no-other-slot : (store store′ bus bus′ : List ℕ) (m m′ : Marshalled) → marshalling form xs store now bus ≡ gives m → marshalling form xs store′ now bus′ ≡ gives m′
       → let l = listOf xs n in slotOf store (l .route r .vehicle) ≡ slotOf store′ (l .route r .vehicle)
       → field (m .octets) (l .route r .start) (l .signal (l .route r .signal) .width) ≡ field (m′ .octets) (l .route r .start) (l .signal (l .route r .signal) .width)
   no-other-slot store store′ bus bus′ m m′ e e′ same =

@@ -234,9 +234,9 @@ module _ (a b : SignalList) where
             (omega (arith, next-least (inEither a b) signalKeys from), omega (arith, ltb-true q signalKeys lt))
         by false lt e = let z : _≡_ {A = ℕ} 0 1 = cc in absurd (omega arith)
 
-pub pairing-within : (xs ys : List ℕ) (from : ℕ) (p : Pair) → pairing xs ys from ≡ ofBoth (found p) → (from ≤ p .key) × (p .key < signalKeys)
+pub pairing-within : (form : ℕ) (xs : List ℕ) (form′ : ℕ) (ys : List ℕ) (from : ℕ) (p : Pair) → pairing form xs form′ ys from ≡ ofBoth (found p) → (from ≤ p .key) × (p .key < signalKeys)
 unfolding pairing
-pairing-within xs ys from p e =
-    let a = by-both (judge xs) firstRefused _ (found p) (λ n at q. let z : _≡_ {A = ℕ} 0 1 = cc in omega arith) e in
-    let b = by-both (judge ys) secondRefused _ (found p) (λ n at q. let z : _≡_ {A = ℕ} 0 1 = cc in omega arith) (a .1 .1) in
+pairing-within form xs form′ ys from p e =
+    let a = by-both (judge form xs) firstRefused _ (found p) (λ n at q. let z : _≡_ {A = ℕ} 0 1 = cc in omega arith) e in
+    let b = by-both (judge form′ ys) secondRefused _ (found p) (λ n at q. let z : _≡_ {A = ℕ} 0 1 = cc in omega arith) (a .1 .1) in
     next-within (listOf xs (a .0)) (listOf ys (b .0)) from p (cc (b .1 .1))

@@ -187,10 +187,10 @@ isolation l store store′ now v k e = ap (λ (s : Slot). readingOf l s now k) e
 
 -- ---- a reading as a call gives it
 
-pub reads : (xs store : List ℕ) (now v k : ℕ) (r : Reading) → reading xs store now v k ≡ gives r → Reads xs store now v k r
+pub reads : (form : ℕ) (xs store : List ℕ) (now v k : ℕ) (r : Reading) → reading form xs store now v k ≡ gives r → Reads form xs store now v k r
 unfolding reading readingAt
-reads xs store now v k r e =
-    let o = and-then (judge xs) _ r e in
+reads form xs store now v k r e =
+    let o = and-then (judge form xs) _ r e in
     let a = not-refused _ _ _ _ _ (o .1 .1) in
     let b = not-refused _ _ _ _ _ (a .1) in
     let c = not-refused _ _ _ _ _ (b .1) in
@@ -206,8 +206,8 @@ reads xs store now v k r e =
     }
 
 -- and what meets that is read
-pub reads-it : (xs store : List ℕ) (now v k : ℕ) (n : Counts) → judge xs ≡ gives n → length store ≡ storeOctets → 1 ≤ v → v ≤ vehicles → k < n .signals
-    → reading xs store now v k ≡ gives (readingOf (listOf xs n) (slotOf store v) now k)
+pub reads-it : (form : ℕ) (xs store : List ℕ) (now v k : ℕ) (n : Counts) → judge form xs ≡ gives n → length store ≡ storeOctets → 1 ≤ v → v ≤ vehicles → k < n .signals
+    → reading form xs store now v k ≡ gives (readingOf (listOf xs n) (slotOf store v) now k)
 unfolding reading readingAt refuseIf
-reads-it xs store now v k n accepted whole first last there =
+reads-it form xs store now v k n accepted whole first last there =
     rw (accepted, eq-eqb _ _ whole, le-leb _ _ first, le-leb _ _ last, lt-ltb _ _ there)

@@ -9,6 +9,7 @@ use Rattle.paper.specs.Answer.{Answer, gives, refused, refuseIf, andThen
 use Rattle.paper.specs.Telegrams.{Row, covers, rows, placeIn, checkPlace}
 use Rattle.paper.specs.SignalList
 use Rattle.paper.specs.SignalList.{Counts, judge, judgeTo, OfTwo, ofTwo, firstRefused, secondRefused, NumberedTwo}
+use Rattle.paper.specs.Forms.{serialOf, toForm2, toForm1}
 use Rattle.paper.specs.Pairs.{entryOf, finding}
 use Rattle.paper.specs.Store.{taking, sweeping}
 use Rattle.paper.specs.Reading.{reading}
@@ -67,16 +68,16 @@ numbered-section limit size rule xs =
     (numbered-if _ 1 _ _ (omega arith) (numbered-if _ 2 _ _ (omega arith) (numbered-if _ 1 _ _ (omega arith) (numbered-gives _))))
     (λ n. numbered-if _ 3 _ _ (omega arith) (numbered-gives _))
 
-pub numbered-judge : (xs : List ℕ) → Numbered (judge xs)
+pub numbered-judge : (form : ℕ) (xs : List ℕ) → Numbered (judge form xs)
 unfolding judgeTo SignalList.fromSignalsTo SignalList.fromCodes SignalList.fromRoutes SignalList.ending
-numbered-judge xs =
+numbered-judge form xs =
     numbered-then _ _ (numbered-section _ _ _ _) (λ checks. numbered-shift _ _
     (numbered-then _ _ (numbered-section _ _ _ _) (λ signals. numbered-shift _ _
     (numbered-then _ _ (numbered-section _ _ _ _) (λ codes. numbered-shift _ _
     (numbered-then _ _ (numbered-section _ _ _ _) (λ routes. numbered-if _ 4 _ _ (omega arith) (numbered-gives _))))))))
 
-numbered-under : {A : Type 0} (xs : List ℕ) (call : Counts → Answer A) → ((n : Counts) → Numbered (call n)) → Numbered (andThen (judge xs) call)
-numbered-under xs call h = numbered-then (judge xs) call (numbered-judge xs) h
+numbered-under : {A : Type 0} (form : ℕ) (xs : List ℕ) (call : Counts → Answer A) → ((n : Counts) → Numbered (call n)) → Numbered (andThen (judge form xs) call)
+numbered-under form xs call h = numbered-then (judge form xs) call (numbered-judge form xs) h
 
 -- ---- the calls
 
@@ -92,13 +93,26 @@ numbered-in (r ∷ rs) b = by (covers r b) (numbered-in rs b)
 pub numbered-place : (b : ℕ) → Numbered (checkPlace b)
 numbered-place b = numbered-in rows b
 
-pub numbered-entry : (xs : List ℕ) (k : ℕ) → Numbered (entryOf xs k)
+pub numbered-entry : (form : ℕ) (xs : List ℕ) (k : ℕ) → Numbered (entryOf form xs k)
 unfolding entryOf
-numbered-entry xs k = numbered-under xs _ (λ n. numbered-if _ 11 _ _ (omega arith) (numbered-gives _))
+numbered-entry form xs k = numbered-under form xs _ (λ n. numbered-if _ 11 _ _ (omega arith) (numbered-gives _))
 
-pub numbered-finding : (xs : List ℕ) (type start : ℕ) → Numbered (finding xs type start)
+pub numbered-finding : (form : ℕ) (xs : List ℕ) (type start : ℕ) → Numbered (finding form xs type start)
 unfolding finding
-numbered-finding xs type start = numbered-under xs _ (λ n. numbered-if _ 11 _ _ (omega arith) (numbered-gives _))
+numbered-finding form xs type start = numbered-under form xs _ (λ n. numbered-if _ 11 _ _ (omega arith) (numbered-gives _))
+
+pub numbered-serial : (form : ℕ) (xs : List ℕ) (k : ℕ) → Numbered (serialOf form xs k)
+unfolding serialOf
+numbered-serial form xs k = numbered-under form xs _ (λ n. numbered-if _ 11 _ _ (omega arith) (numbered-gives _))
+
+pub numbered-toForm2 : (xs : List ℕ) (room : ℕ) → Numbered (toForm2 xs room)
+unfolding toForm2
+numbered-toForm2 xs room = numbered-under 1 xs _ (λ n. numbered-if _ 33 _ _ (omega arith) (numbered-gives _))
+
+pub numbered-toForm1 : (xs : List ℕ) (room : ℕ) → Numbered (toForm1 xs room)
+unfolding toForm1
+numbered-toForm1 xs room =
+    numbered-under 2 xs _ (λ n. numbered-if _ 32 _ _ (omega arith) (numbered-if _ 33 _ _ (omega arith) (numbered-gives _)))
 
 pub numbered-taking : (store : List ℕ) (v now : ℕ) (telegram : List ℕ) → Numbered (taking store v now telegram)
 unfolding taking
@@ -110,20 +124,20 @@ pub numbered-sweeping : (store : List ℕ) (now : ℕ) → Numbered (sweeping st
 unfolding sweeping
 numbered-sweeping store now = numbered-if _ 5 _ _ (omega arith) (numbered-gives _)
 
-pub numbered-reading : (xs store : List ℕ) (now v k : ℕ) → Numbered (reading xs store now v k)
+pub numbered-reading : (form : ℕ) (xs store : List ℕ) (now v k : ℕ) → Numbered (reading form xs store now v k)
 unfolding reading
-numbered-reading xs store now v k =
-    numbered-under xs _ (λ n. numbered-if _ 5 _ _ (omega arith) (numbered-if _ 6 _ _ (omega arith) (numbered-if _ 11 _ _ (omega arith) (numbered-gives _))))
+numbered-reading form xs store now v k =
+    numbered-under form xs _ (λ n. numbered-if _ 5 _ _ (omega arith) (numbered-if _ 6 _ _ (omega arith) (numbered-if _ 11 _ _ (omega arith) (numbered-gives _))))
 
-pub numbered-marshalling : (xs store : List ℕ) (now : ℕ) (bus : List ℕ) → Numbered (marshalling xs store now bus)
+pub numbered-marshalling : (form : ℕ) (xs store : List ℕ) (now : ℕ) (bus : List ℕ) → Numbered (marshalling form xs store now bus)
 unfolding marshalling
-numbered-marshalling xs store now bus =
-    numbered-under xs _ (λ n. numbered-if _ 5 _ _ (omega arith) (numbered-if _ 12 _ _ (omega arith) (numbered-gives _)))
+numbered-marshalling form xs store now bus =
+    numbered-under form xs _ (λ n. numbered-if _ 5 _ _ (omega arith) (numbered-if _ 12 _ _ (omega arith) (numbered-gives _)))
 
-pub numbered-composing : (xs : List ℕ) (type : ℕ) (values marks : List ℕ) (room : ℕ) → Numbered (composing xs type values marks room)
+pub numbered-composing : (form : ℕ) (xs : List ℕ) (type : ℕ) (values marks : List ℕ) (room : ℕ) → Numbered (composing form xs type values marks room)
 unfolding composing
-numbered-composing xs type values marks room =
-    numbered-under xs _ (λ n.
+numbered-composing form xs type values marks room =
+    numbered-under form xs _ (λ n.
     numbered-if _ 9 _ _ (omega arith) (numbered-if _ 13 _ _ (omega arith) (numbered-if _ 14 _ _ (omega arith)
     (numbered-if _ 15 _ _ (omega arith) (numbered-if _ 16 _ _ (omega arith) (numbered-gives _))))))
 
@@ -153,8 +167,8 @@ unfolding Numbered NumberedTwo
 numbered-two (gives a) refusal next h r k = k a
 numbered-two (refused n at) refusal next h r k = r n at h
 
-pub numbered-extends : (xs ys : List ℕ) → NumberedTwo (extendsLists xs ys)
+pub numbered-extends : (form : ℕ) (xs : List ℕ) (form′ : ℕ) (ys : List ℕ) → NumberedTwo (extendsLists form xs form′ ys)
 unfolding extendsLists NumberedTwo
-numbered-extends xs ys =
-    numbered-two (judge xs) firstRefused _ (numbered-judge xs) (λ n at h. h)
-    (λ m. numbered-two (judge ys) secondRefused _ (numbered-judge ys) (λ n at h. h) (λ n. tt))
+numbered-extends form xs form′ ys =
+    numbered-two (judge form xs) firstRefused _ (numbered-judge form xs) (λ n at h. h)
+    (λ m. numbered-two (judge form′ ys) secondRefused _ (numbered-judge form′ ys) (λ n at h. h) (λ n. tt))

@@ -196,12 +196,12 @@ module _ (t now late limit : ℕ) (telegram : List ℕ) (s : Slot) (k : Keeps t 
 
 -- of any start, slots heard or expired or not: that none is, is not needed of a vehicle that was taken from
 pub last-age : (start : List ℕ) (begun : ℕ) (steps : List Step) (now : ℕ) → Orderly begun begun steps now
-    → (v t : ℕ) → LastTaken v t start steps → (xs : List ℕ) (n : Counts) → judge xs ≡ gives n
+    → (v t : ℕ) → LastTaken v t start steps → (form : ℕ) (xs : List ℕ) (n : Counts) → judge form xs ≡ gives n
     → (k : ℕ) → k < n .signals → 1 ≤ listOf xs n .signal k .limit
     → let store = run start (map onClock steps) in
-    (given : Reading) × ((reading xs store (now % turn) v k ≡ gives given) × ((given .reason ≡ 3) ↔ (listOf xs n .signal k .limit < now - t)))
+    (given : Reading) × ((reading form xs store (now % turn) v k ≡ gives given) × ((given .reason ≡ 3) ↔ (listOf xs n .signal k .limit < now - t)))
 unfolding readingOf
-last-age start begun steps now timed v t h xs n accepted k lt limited =
+last-age start begun steps now timed v t h form xs n accepted k lt limited =
     let g = last-takes start begun steps now timed v t h in
     let q = last-kept start begun steps now timed v t h in
     let head = good-head (h .telegram) (g .application) (g .typed) (omega (arith, g .long, type-least (telegramType (h .telegram)))) in
@@ -209,19 +209,19 @@ last-age start begun steps now timed v t h xs n accepted k lt limited =
     let store = run start (map onClock steps) in (
       readingOf l (slotOf store v) (now % turn) k,
       (
-        reads-it xs store (now % turn) v k n accepted (last-whole start begun steps now timed v t h) (g .first) (g .last) lt,
+        reads-it form xs store (now % turn) v k n accepted (last-whole start begun steps now timed v t h) (g .first) (g .last) lt,
         reason-true t now (q .0) (l .signal k .limit) _ (slotOf store v) (q .1 .1) (q .1 .0) limited
-            (kept xs n accepted .signal k lt .limited) l k refl (head .0) (head .1),
+            (kept form xs n accepted .signal k lt .limited) l k refl (head .0) (head .1),
       ),
     )
 
 -- THE TRUE CLOCK. C-12: "A read given the true clock .. of a vehicle taken from and a signal with a limit, gives reason 3 exactly when the true age
 -- is above the limit", the true age being the true time of the read less that of the last telegram taken from the vehicle
 pub true-age : (start : List ℕ) (begun : ℕ) (steps : List Step) (now : ℕ) → TrueClock start begun steps now
-    → (v t : ℕ) → LastTaken v t start steps → (xs : List ℕ) (n : Counts) → judge xs ≡ gives n
+    → (v t : ℕ) → LastTaken v t start steps → (form : ℕ) (xs : List ℕ) (n : Counts) → judge form xs ≡ gives n
     → (k : ℕ) → k < n .signals → 1 ≤ listOf xs n .signal k .limit
     → let store = run start (map onClock steps) in
-    (given : Reading) × ((reading xs store (now % turn) v k ≡ gives given) × ((given .reason ≡ 3) ↔ (listOf xs n .signal k .limit < now - t)))
+    (given : Reading) × ((reading form xs store (now % turn) v k ≡ gives given) × ((given .reason ≡ 3) ↔ (listOf xs n .signal k .limit < now - t)))
 true-age start begun steps now c = last-age start begun steps now (c .timed)
 
 -- ---- a vehicle that was not taken from
@@ -242,10 +242,10 @@ spared v (sweep now ∷ ss) store a b ne n =
 -- reason 2, with a limit or none: it was neither heard nor expired at the start, and nothing was taken since
 pub untaken : (start : List ℕ) (begun : ℕ) (steps : List Step) (now : ℕ) → TrueClock start begun steps now
     → (v : ℕ) → NoneLater v start (map onClock steps)
-    → (xs : List ℕ) (k : ℕ) (given : Reading) → reading xs (run start (map onClock steps)) (now % turn) v k ≡ gives given → given .reason ≡ 2
+    → (form : ℕ) (xs : List ℕ) (k : ℕ) (given : Reading) → reading form xs (run start (map onClock steps)) (now % turn) v k ≡ gives given → given .reason ≡ 2
 unfolding readingOf reasonOf hindrances heard
-untaken start begun steps now c v none xs k given e =
-    let r = reads xs (run start (map onClock steps)) (now % turn) v k given e in
+untaken start begun steps now c v none form xs k given e =
+    let r = reads form xs (run start (map onClock steps)) (now % turn) v k given e in
     let f = c .fresh v (r .first) (r .last) in
     let x = spared v (map onClock steps) start (r .first) (r .last) (f .0) none in
     let same = run-other v start (map onClock steps) (r .first) (r .last) none x in
@@ -321,10 +321,10 @@ last-sent =
 -- so the telegram that `come-round` reads live without a sweep is too old
 pub swept-round :
     let store = run silent (map onClock watched) in
-    (given : Reading) × ((reading listL store ((turn + 1000) % turn) 1 0 ≡ gives given) × (given .reason ≡ 3))
-unfolding listL number SignalList.signalAt
+    (given : Reading) × ((reading 1 listL store ((turn + 1000) % turn) 1 0 ≡ gives given) × (given .reason ≡ 3))
+unfolding listL number SignalList.signalAt SignalList.among
 swept-round =
-    let t = true-age silent 0 watched (turn + 1000) met 1 0 last-sent listL countsL (judged .0) 0 (lit< tt) (lit≤ tt) in
+    let t = true-age silent 0 watched (turn + 1000) met 1 0 last-sent 1 listL countsL (judged .0) 0 (lit< tt) (lit≤ tt) in
     (t .0, (t .1 .0, t .1 .1 .1 (lit< tt)))
 
 -- sweeps a turn apart see the age 0 each time: "old door signals as live", after two turns too
@@ -336,7 +336,7 @@ silent-length : length silent ≡ storeOctets
 unfolding silent
 silent-length = length-replicate {A = ℕ} storeOctets 0
 
-pub swept-seldom : reading listL (run silent (map onClock seldom)) ((turn + turn + 1000) % turn) 1 0 ≡ gives (record { value = 4; reason = 0 })
+pub swept-seldom : reading 1 listL (run silent (map onClock seldom)) ((turn + turn + 1000) % turn) 1 0 ≡ gives (record { value = 4; reason = 0 })
 unfolding NoneLater NoneExpired run
 swept-seldom =
     let heard = run silent (map onClock (sent 0 ∷ [])) in
@@ -344,7 +344,7 @@ swept-seldom =
     let one : slotOf (step heard (sweep 0)) 1 ≡ slotOf heard 1 = step-other 1 heard (sweep 0) (lit≤ tt) (lit≤ tt) tt young in
     let two : slotOf (run heard (sweep 0 ∷ sweep 0 ∷ [])) 1 ≡ slotOf heard 1 =
     run-other 1 heard (sweep 0 ∷ sweep 0 ∷ []) (lit≤ tt) (lit≤ tt) (tt, (tt, tt)) (young, (rw one young, tt)) in
-    reads-it listL _ 1000 1 0 countsL (judged .0) (length-run heard (sweep 0 ∷ sweep 0 ∷ []) ∙ whole) (lit≤ tt) (lit≤ tt) (lit< tt)
+    reads-it 1 listL _ 1000 1 0 countsL (judged .0) (length-run heard (sweep 0 ∷ sweep 0 ∷ []) ∙ whole) (lit≤ tt) (lit≤ tt) (lit< tt)
     ∙ ap (λ (s : Slot). gives (readingOf (listOf listL countsL) s 1000 0)) two
-    ∙ sym (reads-it listL heard 1000 1 0 countsL (judged .0) whole (lit≤ tt) (lit≤ tt) (lit< tt))
+    ∙ sym (reads-it 1 listL heard 1000 1 0 countsL (judged .0) whole (lit≤ tt) (lit≤ tt) (lit< tt))
     ∙ come-round

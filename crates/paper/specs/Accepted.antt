@@ -7,7 +7,7 @@ use mathlib.Core.List.{List}
 use lib.ListN.{length}
 use Rattle.paper.specs.Octets.{number}
 use Rattle.paper.specs.Answer.{Answer, gives, refused}
-use Rattle.paper.specs.SignalList.{Signal, Code, Route, fieldEnd, routeEnd, entry, checkSize, signalSize, codeSize, routeSize, mostChecks, mostSignals, mostCodes, mostRoutes, widest, longestLimit, checkAt, signalAt, codeAt, routeAt, checkRule, signalRule, codeRule, routeRule, greatestSince, Counts, SignalList, signalsPart, codesPart, routesPart}
+use Rattle.paper.specs.SignalList.{Signal, Code, Route, fieldEnd, routeEnd, entry, checkSize, codeSize, routeSize, mostChecks, mostSignals, mostCodes, mostRoutes, widest, longestLimit, checkAt, signalAt, codeAt, routeAt, checkRule, signalRule, codeRule, routeRule, greatestSince, Counts, SignalList, signalsPart, codesPart, routesPart}
 
 -- ---- A section
 
@@ -90,14 +90,24 @@ pub record Kept (l : SignalList) : Type 0 where
   pub code : (k : ℕ) → k < l .codes → CodeKept (l .signals) (l .signal) (l .code) k
   pub route : (k : ℕ) → k < l .routes → RouteKept (l .signals) (l .signal) (l .route) k
 
+-- the sizes that a signal entry has, in either form
+pub record Sized (size : ℕ) : Type 0 where
+  pub least : 16 ≤ size
+  pub most : size ≤ 18
+
+-- the signals' entries as they stand in the octets
+abbrev pub signalsAt : List ℕ → Counts → ℕ → Signal
+signalsAt xs n = signalAt (n .size) (signalsPart xs n)
+
 -- and how they are laid out: each section's entries are present, and the list ends with the last
 pub record Laid (xs : List ℕ) (n : Counts) : Type 0 where
   pub checks : Holds mostChecks checkSize (checkRule (checkAt xs)) xs (n .checks)
-  pub signals : Holds mostSignals signalSize (signalRule (n .checks) (checkAt xs) (signalAt (signalsPart xs n))) (signalsPart xs n) (n .signals)
-  pub codes : Holds mostCodes codeSize (codeRule (n .signals) (signalAt (signalsPart xs n)) (codeAt (codesPart xs n))) (codesPart xs n) (n .codes)
-  pub routes : Holds mostRoutes routeSize (routeRule (n .signals) (signalAt (signalsPart xs n)) (routeAt (routesPart xs n))) (routesPart xs n) (n .routes)
+  pub signals : Holds mostSignals (n .size) (signalRule (n .checks) (checkAt xs) (signalsAt xs n)) (signalsPart xs n) (n .signals)
+  pub codes : Holds mostCodes codeSize (codeRule (n .signals) (signalsAt xs n) (codeAt (codesPart xs n))) (codesPart xs n) (n .codes)
+  pub routes : Holds mostRoutes routeSize (routeRule (n .signals) (signalsAt xs n) (routeAt (routesPart xs n))) (routesPart xs n) (n .routes)
   pub ends : length (routesPart xs n) ≤ entry routeSize (n .routes)
-  pub version : n .version ≡ greatestSince (n .signals) (signalAt (signalsPart xs n))
+  pub version : n .version ≡ greatestSince (n .signals) (signalsAt xs n)
+  pub sized : Sized (n .size)
 
 -- ---- Refused
 

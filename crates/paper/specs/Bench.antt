@@ -2,8 +2,8 @@
 use Prim.Native.Nat.{ℕ}
 use mathlib.Core.Path.{_≡_, refl}
 use mathlib.Core.List.{List, [], _∷_, _++_}
-use lib.ListN.{take}
-use Rattle.paper.specs.Octets.{number}
+use lib.ListN.{take, drop}
+use Rattle.paper.specs.Octets.{number, octetsOf}
 use Rattle.paper.specs.Answer.{gives, refused, refuseIf}
 use Rattle.paper.specs.First.{firstFrom, firstBad, all, some, greatest}
 use Rattle.paper.specs.SignalList
@@ -17,11 +17,15 @@ listL =
     ∷ 0x00 ∷ 0x02 ∷ 0x00 ∷ 0x00 ∷ 0x00 ∷ 0x00 ∷ 0x00 ∷ 0x06 ∷ 0x00 ∷ 0x00 ∷ 0x00 ∷ 0x0F ∷ 0x00 ∷ 0x0F
     ∷ 0x00 ∷ 0x01 ∷ 0x00 ∷ 0x00 ∷ 0x01 ∷ 0x00 ∷ 0x00 ∷ 0x00 ∷ []
 
+-- C-18: L in form 2, its signal with this serial number
+unfoldable pub listL2 : ℕ → List ℕ
+listL2 serial = take 22 listL ++ (octetsOf 2 serial ++ drop 22 listL)
+
 -- "list ok checks=1 signals=1 codes=2 routes=1 version=1"
 abbrev pub countsL : Counts
-countsL = record { checks = 1; signals = 1; codes = 2; routes = 1; version = 1 }
+countsL = record { checks = 1; signals = 1; codes = 2; routes = 1; version = 1; size = 16 }
 
 -- L; "L less its last octet: refusal 1 at 36; L with an octet more: 4 at 44; empty list: 1 at 0"
-pub judged : (judge listL ≡ gives countsL) × (judge (take 43 listL) ≡ refused 1 36) × (judge (listL ++ (0 ∷ [])) ≡ refused 4 44) × (judge [] ≡ refused 1 0)
-unfolding listL number refuseIf firstFrom firstBad all some greatest SignalList.checkAt SignalList.signalAt SignalList.codeAt SignalList.routeAt SignalList.checkRule SignalList.signalRuleTo SignalList.codeRule SignalList.routeRule SignalList.opening SignalList.judgeEntries SignalList.judgeSection SignalList.greatestSince SignalList.ending SignalList.fromRoutes SignalList.fromCodes SignalList.fromSignalsTo judgeTo
+pub judged : (judge 1 listL ≡ gives countsL) × (judge 1 (take 43 listL) ≡ refused 1 36) × (judge 1 (listL ++ (0 ∷ [])) ≡ refused 4 44) × (judge 1 [] ≡ refused 1 0)
+unfolding listL number refuseIf firstFrom firstBad all some greatest SignalList.checkAt SignalList.signalSize SignalList.signalAt SignalList.among SignalList.codeAt SignalList.routeAt SignalList.checkRule SignalList.signalRuleTo SignalList.codeRule SignalList.routeRule SignalList.opening SignalList.judgeEntries SignalList.judgeSection SignalList.greatestSince SignalList.ending SignalList.fromRoutes SignalList.fromCodes SignalList.fromSignalsTo judgeTo
 judged = (refl, refl, refl, refl)

@@ -67,7 +67,7 @@ table =
 
 -- the one computed test: the table with its answers worked out is the table
 pub each-rule : map (λ b. record { list = b .list; said = ask (faults (b .list)) }) table ≡ table
-unfolding table joined made ask number octetsOf refuseIf firstFrom firstBad all SignalList.checkAt SignalList.signalAt SignalList.codeAt SignalList.routeAt
+unfolding table joined made ask number octetsOf refuseIf firstFrom firstBad all SignalList.checkAt SignalList.signalSize SignalList.signalAt SignalList.among SignalList.codeAt SignalList.routeAt
     SignalList.checkRule SignalList.signalRuleTo SignalList.codeRule SignalList.routeRule SignalList.opening faultIn faultFromRoutes faultFromCodes
     faultFromSignals faultOf
 each-rule = refl

@@ -6,7 +6,7 @@ use lib.Dec.{ltb, leb, eqb}
 use Rattle.paper.specs.Octets.{fits}
 use Rattle.paper.specs.Answer.{Answer, gives, refused, Sought, found, nothing}
 use Rattle.paper.specs.First.{stop, firstBad}
-use Rattle.paper.specs.SignalList.{Signal, Code, Route, fieldEnd, routeEnd, entry, rest, checkSize, signalSize, codeSize, routeSize, mostChecks, mostSignals, mostCodes, mostRoutes, checkAt, signalAt, codeAt, routeAt, checkRule, longestLimit, widthRule, typeRule, placeRule, namedRule, clearRule, signalRule, codeRule, routeRule, opening}
+use Rattle.paper.specs.SignalList.{Signal, Code, Route, fieldEnd, routeEnd, entry, rest, checkSize, signalSize, codeSize, routeSize, mostChecks, mostSignals, mostCodes, mostRoutes, checkAt, signalAt, codeAt, routeAt, checkRule, longestLimit, widthRule, typeRule, placeRule, namedRule, clearRule, signalRule, codeRule, routeRule, opening, noSignal}
 
 -- ---- The rules of an entry, one by one
 
@@ -67,9 +67,9 @@ abbrev pub checkFault : (ℕ → ℕ) → ℕ → Fault
 checkFault check k =
     record { section = 1; index = k; rule = broken (checkTests check k); signal = 0; type = 0; start = check k; width = 2; at = entry checkSize k }
 
--- of a section that starts `base` octets on
-abbrev pub signalFault : ℕ → ℕ → (ℕ → ℕ) → (ℕ → Signal) → ℕ → Fault
-signalFault base checks check signal k =
+-- of a section that starts `base` octets on, in entries of `size` octets
+abbrev pub signalFault : ℕ → ℕ → ℕ → (ℕ → ℕ) → (ℕ → Signal) → ℕ → Fault
+signalFault size base checks check signal k =
     record {
       section = 2;
       index = k;
@@ -78,13 +78,10 @@ signalFault base checks check signal k =
       type = signal k .type;
       start = signal k .start;
       width = signal k .width;
-      at = base + entry signalSize k;
+      at = base + entry size k;
     }
 
 -- the signal j that an entry names; all 0 where there is none
-abbrev pub noSignal : Signal
-noSignal = record { start = 0; width = 0; type = 0; check = 0; since = 0; limit = 0; replacement = 0 }
-
 abbrev pub named : ℕ → (ℕ → Signal) → ℕ → Signal
 named signals signal j = cond (ltb j signals) (signal j) noSignal
 
@@ -135,16 +132,16 @@ faultFromCodes base signals signal xs =
     faultIn mostCodes codeSize (codeRule signals signal (codeAt xs)) xs (codeFault base signals signal (codeAt xs))
     (λ n. faultFromRoutes (base + entry codeSize n) signals signal (rest codeSize n xs))
 
-unfoldable pub faultFromSignals : ℕ → ℕ → (ℕ → ℕ) → List ℕ → Sought Fault
-faultFromSignals base checks check xs =
-    faultIn mostSignals signalSize (signalRule checks check (signalAt xs)) xs (signalFault base checks check (signalAt xs))
-    (λ n. faultFromCodes (base + entry signalSize n) n (signalAt xs) (rest signalSize n xs))
+unfoldable pub faultFromSignals : ℕ → ℕ → ℕ → (ℕ → ℕ) → List ℕ → Sought Fault
+faultFromSignals size base checks check xs =
+    faultIn mostSignals size (signalRule checks check (signalAt size xs)) xs (signalFault size base checks check (signalAt size xs))
+    (λ n. faultFromCodes (base + entry size n) n (signalAt size xs) (rest size n xs))
 
 -- the entry that judging refuses with 3; nothing where a list is accepted, or refused with another number
-unfoldable pub faultOf : List ℕ → Sought Fault
-faultOf xs =
+unfoldable pub faultOf : ℕ → List ℕ → Sought Fault
+faultOf form xs =
     faultIn mostChecks checkSize (checkRule (checkAt xs)) xs (checkFault (checkAt xs))
-    (λ n. faultFromSignals (entry checkSize n) n (checkAt xs) (rest checkSize n xs))
+    (λ n. faultFromSignals (signalSize form) (entry checkSize n) n (checkAt xs) (rest checkSize n xs))
 
 -- ---- What is said of it
 

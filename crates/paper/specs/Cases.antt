@@ -9,6 +9,7 @@ use Rattle.paper.specs.Answer.{Answer, gives, refused, after, mapAnswer,
 use Rattle.paper.specs.Telegrams.{checkPlace}
 use Rattle.paper.specs.SignalList.{Signal, Code, Route, Counts, OfTwo, ofBoth, firstRefused, secondRefused, judge}
 use Rattle.paper.specs.Broken.{Fault, faultOf}
+use Rattle.paper.specs.Forms.{serialOf, toForm2, toForm1}
 use Rattle.paper.specs.Extends.{extendsLists}
 use Rattle.paper.specs.Pairs.{Entry, Pair, entryOf, routeEntry, finding, pairing}
 use Rattle.paper.specs.Store.{taking, sweeping}
@@ -44,6 +45,14 @@ unfoldable pub made : List ℕ → List Signal → List Code → List Route → 
 made checks signals codes routes =
     section (octetsOf 2) checks ++ section signalOctets signals ++ section codeOctets codes ++ section routeOctets routes
 
+-- the same in form 2, each signal with its serial number
+abbrev pub numberedOctets : Signal × ℕ → List ℕ
+numberedOctets s = signalOctets (s .0) ++ octetsOf 2 (s .1)
+
+unfoldable pub made2 : List ℕ → List (Signal × ℕ) → List Code → List Route → List ℕ
+made2 checks signals codes routes =
+    section (octetsOf 2) checks ++ section numberedOctets signals ++ section codeOctets codes ++ section routeOctets routes
+
 -- start, width, type, check, since-version, time limit, replacement
 abbrev pub signal : ℕ → ℕ → ℕ → ℕ → ℕ → ℕ → ℕ → Signal
 signal start width type check since limit replacement =
@@ -60,15 +69,19 @@ route signal vehicle start = record { signal = signal; vehicle = vehicle; null =
 -- ---- Questions
 
 pub data Question : Type 0 where
-  -- a list
-  judges faults : List ℕ → Question
+  -- a form and a list, here and below wherever a list stands
+  judgesIn faultsIn : ℕ → List ℕ → Question
   -- two lists
-  extends : List ℕ → List ℕ → Question
+  extendsIn : ℕ → List ℕ → ℕ → List ℕ → Question
   -- a list and a signal; a list and a route; a list, a type and a start
-  signalEntries routeEntries : List ℕ → ℕ → Question
-  finds : List ℕ → ℕ → ℕ → Question
+  signalEntriesIn routeEntriesIn : ℕ → List ℕ → ℕ → Question
+  findsIn : ℕ → List ℕ → ℕ → ℕ → Question
+  -- a list and a signal, whose serial number is asked for
+  serialsIn : ℕ → List ℕ → ℕ → Question
+  -- a list and an output
+  movesTo2 movesTo1 : List ℕ → List ℕ → Question
   -- two lists and a key
-  pairs : List ℕ → List ℕ → ℕ → Question
+  pairsIn : ℕ → List ℕ → ℕ → List ℕ → ℕ → Question
   -- a bit
   places : ℕ → Question
   -- a store, a vehicle, the clock and a telegram; the elements of the store that are looked at afterwards
@@ -78,11 +91,11 @@ pub data Question : Type 0 where
   -- a store, the clock and a vehicle
   holds : List ℕ → ℕ → ℕ → Question
   -- a list, a store, the clock, a vehicle and a signal
-  reads : List ℕ → List ℕ → ℕ → ℕ → ℕ → Question
+  readsIn : ℕ → List ℕ → List ℕ → ℕ → ℕ → ℕ → Question
   -- a list, a store, the clock and vehicle bus data
-  marshals : List ℕ → List ℕ → ℕ → List ℕ → Question
+  marshalsIn : ℕ → List ℕ → List ℕ → ℕ → List ℕ → Question
   -- a list, a type, values, marks and an output; the elements of the output that are looked at afterwards
-  composes : List ℕ → ℕ → List ℕ → List ℕ → List ℕ → List ℕ → Question
+  composesIn : ℕ → List ℕ → ℕ → List ℕ → List ℕ → List ℕ → List ℕ → Question
   -- a kind, a width and a raw value
   shows : Kind → ℕ → ℕ → Question
   -- a consist and an address
@@ -91,6 +104,37 @@ pub data Question : Type 0 where
   eReads : List ℕ → Question
   -- an E-telegram, a head, a status and an output
   eAnswers : List ℕ → List ℕ → ℕ → List ℕ → Question
+
+-- the same in form 1
+abbrev pub judges : List ℕ → Question
+judges xs = judgesIn 1 xs
+
+abbrev pub faults : List ℕ → Question
+faults xs = faultsIn 1 xs
+
+abbrev pub extends : List ℕ → List ℕ → Question
+extends xs ys = extendsIn 1 xs 1 ys
+
+abbrev pub signalEntries : List ℕ → ℕ → Question
+signalEntries xs k = signalEntriesIn 1 xs k
+
+abbrev pub routeEntries : List ℕ → ℕ → Question
+routeEntries xs r = routeEntriesIn 1 xs r
+
+abbrev pub finds : List ℕ → ℕ → ℕ → Question
+finds xs type start = findsIn 1 xs type start
+
+abbrev pub pairs : List ℕ → List ℕ → ℕ → Question
+pairs xs ys from = pairsIn 1 xs 1 ys from
+
+abbrev pub reads : List ℕ → List ℕ → ℕ → ℕ → ℕ → Question
+reads xs store now v k = readsIn 1 xs store now v k
+
+abbrev pub marshals : List ℕ → List ℕ → ℕ → List ℕ → Question
+marshals xs store now bus = marshalsIn 1 xs store now bus
+
+abbrev pub composes : List ℕ → ℕ → List ℕ → List ℕ → List ℕ → List ℕ → Question
+composes xs type values marks out at = composesIn 1 xs type values marks out at
 
 -- ---- Answers as numbers
 
@@ -160,26 +204,30 @@ seen at xs = map (λ i. getD xs i 0) at
 abbrev pub wrote : List ℕ → Answer (List ℕ) → List ℕ → List ℕ
 wrote old a at = said (λ new. []) a ++ seen at (after old a)
 
+abbrev pub wroteAll : List ℕ → Answer (List ℕ) → List ℕ
+wroteAll old a = said (λ new. []) a ++ after old a
+
 unfoldable pub ask : Question → List ℕ
-ask (judges xs) = said ofCounts (judge xs)
-ask (faults xs) = gave (ofSought ofFault (faultOf xs))
-ask (extends xs ys) = saidOfTwo (λ b. yes-no b ∷ []) (extendsLists xs ys)
-ask (signalEntries xs k) = said ofEntry (entryOf xs k)
-ask (routeEntries xs r) = said (ofSought routeOctets) (routeEntry xs r)
-ask (finds xs type start) = said (λ k. k ∷ []) (finding xs type start)
-ask (pairs xs ys from) = saidOfTwo (ofSought ofPair) (pairing xs ys from)
+ask (judgesIn form xs) = said ofCounts (judge form xs)
+ask (faultsIn form xs) = gave (ofSought ofFault (faultOf form xs))
+ask (extendsIn form xs form′ ys) = saidOfTwo (λ b. yes-no b ∷ []) (extendsLists form xs form′ ys)
+ask (signalEntriesIn form xs k) = said ofEntry (entryOf form xs k)
+ask (routeEntriesIn form xs r) = said (ofSought routeOctets) (routeEntry form xs r)
+ask (findsIn form xs type start) = said (λ k. k ∷ []) (finding form xs type start)
+ask (serialsIn form xs k) = said (λ s. s ∷ []) (serialOf form xs k)
+ask (movesTo2 xs out) = wroteAll out (toForm2 xs (length out))
+ask (movesTo1 xs out) = wroteAll out (toForm1 xs (length out))
+ask (pairsIn form xs form′ ys from) = saidOfTwo (ofSought ofPair) (pairing form xs form′ ys from)
 ask (places b) = said (λ p. p ∷ []) (checkPlace b)
 ask (takes store v now telegram at) = wrote store (taking store v now telegram) at
 ask (sweeps store now at) = wrote store (sweeping store now) at
 ask (holds store now v) = said ofHeld (holding store now v)
-ask (reads xs store now v k) = said ofReading (reading xs store now v k)
-ask (marshals xs store now bus) =
-    let a = marshalling xs store now bus in
+ask (readsIn form xs store now v k) = said ofReading (reading form xs store now v k)
+ask (marshalsIn form xs store now bus) =
+    let a = marshalling form xs store now bus in
     said (λ m. m .lives ∷ []) a ++ after bus (mapAnswer (λ m. m .octets) a)
-ask (composes xs type values marks out at) = wrote out (composing xs type values marks (length out)) at
+ask (composesIn form xs type values marks out at) = wrote out (composing form xs type values marks (length out)) at
 ask (shows kind width raw) = said ofShown (showing kind width raw)
 ask (resolves train a) = said ofMembers (resolving train a)
 ask (eReads telegram) = said ofERead (eReading telegram)
-ask (eAnswers telegram head status out) =
-    let a = answering telegram head status out in
-    said (λ new. []) a ++ after out a
+ask (eAnswers telegram head status out) = wroteAll out (answering telegram head status out)

@@ -51,8 +51,8 @@ composingBy type values marks room l =
     (refuseIf (not (eqb room (typeLength type))) 16 0
     (gives (composed l type values marks))))))
 
-unfoldable pub composing : List ℕ → ℕ → List ℕ → List ℕ → ℕ → Answer (List ℕ)
-composing xs type values marks room = underList xs (composingBy type values marks room)
+unfoldable pub composing : ℕ → List ℕ → ℕ → List ℕ → List ℕ → ℕ → Answer (List ℕ)
+composing form xs type values marks room = underList form xs (composingBy type values marks room)
 
 -- what passes the tests
 pub record Fitting (l : SignalList) (type : ℕ) (values marks : List ℕ) : Type 0 where
@@ -63,8 +63,8 @@ pub record Fitting (l : SignalList) (type : ℕ) (values marks : List ℕ) : Typ
   pub mark : (j : ℕ) → j < l .checks → writesCheck l type j ≡ true → getD marks j 0 < 4
 
 -- what a telegram that was composed tells: the list was accepted, the tests passed, and it is what the definition says
-pub record Composes (xs : List ℕ) (type : ℕ) (values marks telegram : List ℕ) : Type 0 where
+pub record Composes (form : ℕ) (xs : List ℕ) (type : ℕ) (values marks telegram : List ℕ) : Type 0 where
   pub counts : Counts
-  pub accepted : judge xs ≡ gives counts
+  pub accepted : judge form xs ≡ gives counts
   pub fitting : Fitting (listOf xs counts) type values marks
   pub is : composed (listOf xs counts) type values marks ≡ telegram

@@ -1,4 +1,4 @@
--- Each limit that document 01 names, at its edge: what is answered at it, and past it. One table, one computed test.
+-- Each limit that document 01 or request C-18 names, at its edge: what is answered at it, and past it. One table, one computed test.
 use Prim.Native.Nat.{ℕ, zero, suc, _+_, _*_}
 use mathlib.Core.Path.{_≡_, refl}
 use mathlib.Core.List.{List, [], _∷_, _++_, map}
@@ -10,6 +10,7 @@ use Rattle.paper.specs.First.{firstFrom, firstBad, all, some, count, gre
 use Rattle.paper.specs.Telegrams.{applicationType, telegramType, versionOf, rows, placeIn}
 use Rattle.paper.specs.SignalList
 use Rattle.paper.specs.SignalList.{Signal, judgeTo, version, hasCodes, inRange, knownIn, knows, placeOf}
+use Rattle.paper.specs.Forms.{serialAt, serialOf, narrowed, droppedFrom, dropped, spread, widenedFrom, widened, toForm2, toForm1}
 use Rattle.paper.specs.Store.{slotOf, taken, taking, age, stale, sweptOne, sweptTo, sweeping}
 use Rattle.paper.specs.Reading.{heard, markOf, codeOf, hindrances, reasonOf, readingOf, readingAt, reading}
 use Rattle.paper.specs.Marshalling.{routed, marshalled, live, marshalling}
@@ -17,9 +18,9 @@ use Rattle.paper.specs.Composing.{headed, composed, markFits, valueFits,
 use Rattle.paper.specs.Shown.{speed, showing}
 use Rattle.paper.specs.Train.{noVehicle, consistRule, meets, member, setTo, membersOf, resolving}
 use Rattle.paper.specs.ETelegrams.{requests, isRequest, isReport, eReading, answerTo, answering}
-use Rattle.paper.specs.Bench.{listL}
+use Rattle.paper.specs.Bench.{listL, listL2}
 use Rattle.paper.specs.Marked.{telegram, silent, heardAt}
-use Rattle.paper.specs.Cases.{joined, made, signal, code, route, Question, judges, places, takes, sweeps, reads, marshals, composes, shows, resolves, eReads, gave, refuses, ask}
+use Rattle.paper.specs.Cases.{joined, made, made2, signal, code, route, Question, judges, judgesIn, serialsIn, movesTo2, movesTo1, places, takes, sweeps, reads, marshals, composes, shows, resolves, eReads, gave, refuses, ask}
 
 pub record Edge : Type 0 where
   pub at : Question
@@ -80,6 +81,13 @@ oneRoute signal-number vehicle start = judges (made [] (signal 320 8 1 0 1 0 0 �
 
 abbrev twoRoutes : ℕ → Question
 twoRoutes start = judges (made [] (signal 320 8 1 0 1 0 0 ∷ []) [] (route 0 1 0 ∷ route 0 1 start ∷ []))
+
+-- a list with no entry; one with no check and one signal, of width 0, that ends inside its serial number
+abbrev none : List ℕ
+none = made [] [] [] []
+
+abbrev cutSerial : List ℕ
+cutSerial = take 21 (made2 [] ((signal 320 0 1 0 1 0 0, 0) ∷ []) [] [])
 
 -- a telegram of this head with n octets behind it
 abbrev long : ℕ → ℕ → List ℕ
@@ -151,6 +159,33 @@ edges =
     ∷ edge (judges (take 44 listL)) (counted 1 1 2 1) (judges (take 37 listL)) (refuses 1 36)
     ∷ edge (judges (take 44 listL)) (counted 1 1 2 1) (judges (take 21 listL)) (refuses 1 4)
     ∷ edge (judges listL) (counted 1 1 2 1) (judges (listL ++ (0 ∷ []))) (refuses 4 44)
+    -- C-18: a signal entry of 18 octets, cut inside its serial number and inside the rest
+    ∷ between (λ n. judgesIn 2 (take n (listL2 7))) 46 (counted 1 1 2 1) 45 (refuses 1 38)
+    ∷ between (λ n. judgesIn 2 (take n (listL2 7))) 24 (refuses 1 24) 23 (refuses 1 4)
+    ∷ between (λ n. judgesIn 2 (take n (listL2 7))) 24 (refuses 1 24) 21 (refuses 1 4)
+    ∷ edge (judgesIn 2 (listL2 7)) (counted 1 1 2 1) (judgesIn 2 (listL2 7 ++ (0 ∷ []))) (refuses 4 46)
+    -- a list that ends inside a serial number is 1 at the signals' count, whatever it is without it: here 3 at the entry
+    ∷ edge (judgesIn 2 cutSerial) (refuses 1 2) (judgesIn 1 (dropped cutSerial)) (refuses 3 4)
+    -- a list that ends as form 1 has it and too early for form 2; one that ends as form 2 has it and too late for form 1; by its form, which is 1
+    -- unless the caller says 2
+    ∷ between (λ form. judgesIn form (made [] (signal 320 8 1 0 1 0 0 ∷ []) [] [])) 1 (counted 0 1 0 0) 2 (refuses 1 24)
+    ∷ between (λ form. judgesIn form (made2 [] ((signal 320 8 1 0 1 0 0, 0) ∷ []) [] [])) 2 (counted 0 1 0 0) 1 (refuses 4 24)
+    ∷ between (λ form. judgesIn form (made2 [] ((signal 320 8 1 0 1 0 0, 0) ∷ []) [] [])) 2 (counted 0 1 0 0) 3 (refuses 4 24)
+    ∷ between (λ form. judgesIn form (made [] (signal 320 8 1 0 1 0 0 ∷ []) [] [])) 0 (counted 0 1 0 0) 2 (refuses 1 24)
+    -- "Moving to form 2 writes 0s; moving back needs every serial number 0"; 33 "output not of the needed length"
+    ∷ between (λ n. movesTo2 listL (replicate n 0xEE)) 46 (gave (listL2 0)) 45 (refuses 33 0 ++ replicate 45 0xEE)
+    ∷ between (λ n. movesTo2 listL (replicate n 0xEE)) 46 (gave (listL2 0)) 47 (refuses 33 0 ++ replicate 47 0xEE)
+    ∷ between (λ n. movesTo1 (listL2 0) (replicate n 0xEE)) 44 (gave listL) 43 (refuses 33 0 ++ replicate 43 0xEE)
+    ∷ between (λ n. movesTo1 (listL2 0) (replicate n 0xEE)) 44 (gave listL) 45 (refuses 33 0 ++ replicate 45 0xEE)
+    ∷ between (λ serial. movesTo1 (listL2 serial) (replicate 44 0xEE)) 0 (gave listL) 1 (refuses 32 0 ++ replicate 44 0xEE)
+    ∷ between (λ serial. movesTo1 (listL2 serial) (replicate 44 0xEE)) 0 (gave listL) 0x8000 (refuses 32 0 ++ replicate 44 0xEE)
+    ∷ edge (movesTo2 none (replicate 8 0xEE)) (gave none) (movesTo2 none []) (refuses 33 0)
+    ∷ edge (movesTo1 none (replicate 8 0xEE)) (gave none) (movesTo1 none []) (refuses 33 0)
+    -- of two faults the first is told: 1-4, then 32, then 33
+    ∷ edge (movesTo1 (listL2 7) []) (refuses 32 0) (movesTo1 (listL2 7 ++ (0 ∷ [])) []) (refuses 4 46)
+    ∷ edge (movesTo2 listL []) (refuses 33 0) (movesTo2 (take 43 listL) []) (refuses 1 36)
+    -- the serial number of a signal: 16 bits, of a signal that is there
+    ∷ between (serialsIn 2 (listL2 0xFFFF)) 0 (gave (0xFFFF ∷ [])) 1 (refuses 11 0)
     -- the store, its vehicles, and telegrams
     ∷ edge (offered 1 (telegram 0 0)) (gave []) (takes (0 ∷ silent) 1 0 (telegram 0 0) []) (refuses 5 0)
     ∷ between (λ v. offered v (telegram 0 0)) 1 (gave []) 0 (refuses 6 0)
@@ -197,8 +232,8 @@ edges =
 
 -- the one computed test: the table with its answers worked out is the table
 pub at-each-edge : map (λ e. edge (e .at) (ask (e .at)) (e .past) (ask (e .past))) edges ≡ edges
-unfolding edges evens joined made ask listL telegram silent heardAt bit field withBit setBit put puts number octetsOf over refuseIf firstFrom firstBad all
-    some count greatest applicationType telegramType versionOf rows placeIn SignalList.checkAt SignalList.signalAt SignalList.codeAt SignalList.routeAt
+unfolding edges evens joined made made2 ask listL listL2 serialAt serialOf narrowed droppedFrom dropped spread widenedFrom widened toForm2 toForm1 telegram silent heardAt bit field withBit setBit put puts number octetsOf over refuseIf firstFrom firstBad all
+    some count greatest applicationType telegramType versionOf rows placeIn SignalList.checkAt SignalList.signalSize SignalList.signalAt SignalList.among SignalList.codeAt SignalList.routeAt
     SignalList.checkRule SignalList.signalRuleTo SignalList.codeRule SignalList.routeRule SignalList.opening SignalList.judgeEntries SignalList.judgeSection
     SignalList.greatestSince SignalList.ending SignalList.fromRoutes SignalList.fromCodes SignalList.fromSignalsTo judgeTo hasCodes inRange knownIn knows
     placeOf version slotOf taken taking age stale sweptOne sweptTo sweeping heard markOf codeOf hindrances reasonOf readingOf readingAt reading routed marshalled live marshalling headed

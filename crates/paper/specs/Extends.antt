@@ -37,8 +37,8 @@ unfoldable pub extends : SignalList → SignalList → Bool
 extends a b = all (stands a b) (a .signals) && all (newer a b) (b .signals)
 
 -- a call on two lists: whether the second extends the first
-unfoldable pub extendsLists : List ℕ → List ℕ → OfTwo Bool
-extendsLists xs ys = underLists xs ys extends
+unfoldable pub extendsLists : ℕ → List ℕ → ℕ → List ℕ → OfTwo Bool
+extendsLists form xs form′ ys = underLists form xs form′ ys extends
 
 -- ---- What extending says
 

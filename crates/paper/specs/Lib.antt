@@ -6,6 +6,8 @@ pub mod Telegrams
 pub mod SignalList
 pub mod Broken
 pub mod Accepted
+pub mod Forms
+pub mod Serials
 pub mod Extends
 pub mod Pairs
 pub mod Store

@@ -49,10 +49,10 @@ pub data Response : Type 0 where
   shownIs : Answer Shown → Response
 
 abbrev pub response : Question → Response
-response (reads o41 o54 stamp now) = readingIs (reading listL (heardAt o41 o54 stamp) now 1 0)
+response (reads o41 o54 stamp now) = readingIs (reading 1 listL (heardAt o41 o54 stamp) now 1 0)
 response (ages stamp now) = ageIs (age now stamp)
-response (marshals o41 o54 stamp now before) = octetsAre (marshalling listL (heardAt o41 o54 stamp) now (before ∷ []))
-response (unheard before) = octetsAre (marshalling listL silent 0 (before ∷ []))
+response (marshals o41 o54 stamp now before) = octetsAre (marshalling 1 listL (heardAt o41 o54 stamp) now (before ∷ []))
+response (unheard before) = octetsAre (marshalling 1 listL silent 0 (before ∷ []))
 response (speeds raw) = shownIs (showing speed 16 raw)
 
 pub record Row : Type 0 where
@@ -90,7 +90,7 @@ table =
 
 -- the one computed test: every row's answer is the expected one
 pub marked : map (λ r. response (r .asked)) table ≡ map (λ r. r .expected) table
-unfolding table telegram silent heardAt listL bit field withBit setBit put puts number octetsOf over refuseIf firstFrom firstBad all some count greatest applicationType telegramType versionOf SignalList.checkAt SignalList.signalAt SignalList.codeAt SignalList.routeAt SignalList.checkRule SignalList.signalRuleTo SignalList.codeRule SignalList.routeRule SignalList.opening SignalList.judgeEntries SignalList.judgeSection SignalList.greatestSince SignalList.ending SignalList.fromRoutes SignalList.fromCodes SignalList.fromSignalsTo judgeTo hasCodes inRange knownIn knows placeOf slotOf taken taking age heard markOf codeOf hindrances reasonOf readingOf readingAt reading routed marshalled live marshalling showing ofBits round
+unfolding table telegram silent heardAt listL bit field withBit setBit put puts number octetsOf over refuseIf firstFrom firstBad all some count greatest applicationType telegramType versionOf SignalList.checkAt SignalList.signalSize SignalList.signalAt SignalList.among SignalList.codeAt SignalList.routeAt SignalList.checkRule SignalList.signalRuleTo SignalList.codeRule SignalList.routeRule SignalList.opening SignalList.judgeEntries SignalList.judgeSection SignalList.greatestSince SignalList.ending SignalList.fromRoutes SignalList.fromCodes SignalList.fromSignalsTo judgeTo hasCodes inRange knownIn knows placeOf slotOf taken taking age heard markOf codeOf hindrances reasonOf readingOf readingAt reading routed marshalled live marshalling showing ofBits round
 marked = refl
 
 -- so each row holds by its place
@@ -101,6 +101,6 @@ marked-at i d e =
     ∙ List·getD-map (λ (r : Row). r .expected) table i d
 
 -- the other way: an R1 composed under L with the value 4 and the mark ok is the telegram of (a)
-pub composed-a : composing listL 1 (4 ∷ []) (ok ∷ []) 128 ≡ gives (telegram 0x10 0x40)
-unfolding telegram listL withBit setBit put puts number refuseIf firstFrom firstBad all some greatest SignalList.checkAt SignalList.signalAt SignalList.codeAt SignalList.routeAt SignalList.checkRule SignalList.signalRuleTo SignalList.codeRule SignalList.routeRule SignalList.opening SignalList.judgeEntries SignalList.judgeSection SignalList.greatestSince SignalList.ending SignalList.fromRoutes SignalList.fromCodes SignalList.fromSignalsTo judgeTo hasCodes inRange knownIn knows version headed composed markFits valueFits composing
+pub composed-a : composing 1 listL 1 (4 ∷ []) (ok ∷ []) 128 ≡ gives (telegram 0x10 0x40)
+unfolding telegram listL withBit setBit put puts number refuseIf firstFrom firstBad all some greatest SignalList.checkAt SignalList.signalSize SignalList.signalAt SignalList.among SignalList.codeAt SignalList.routeAt SignalList.checkRule SignalList.signalRuleTo SignalList.codeRule SignalList.routeRule SignalList.opening SignalList.judgeEntries SignalList.judgeSection SignalList.greatestSince SignalList.ending SignalList.fromRoutes SignalList.fromCodes SignalList.fromSignalsTo judgeTo hasCodes inRange knownIn knows version headed composed markFits valueFits composing
 composed-a = refl

@@ -39,13 +39,13 @@ marshallingBy store now bus l =
     (refuseIf (some (λ r. ltb (8 * length bus) (routeEnd (l .signal) (l .route r))) (l .routes)) 12 0
     (gives (record { octets = marshalled l store now bus (l .routes); lives = count (live l store now) (l .routes) })))
 
-unfoldable pub marshalling : List ℕ → List ℕ → ℕ → List ℕ → Answer Marshalled
-marshalling xs store now bus = underList xs (marshallingBy store now bus)
+unfoldable pub marshalling : ℕ → List ℕ → List ℕ → ℕ → List ℕ → Answer Marshalled
+marshalling form xs store now bus = underList form xs (marshallingBy store now bus)
 
 -- what marshalling that is not refused tells
-pub record Marshals (xs store : List ℕ) (now : ℕ) (bus : List ℕ) (m : Marshalled) : Type 0 where
+pub record Marshals (form : ℕ) (xs store : List ℕ) (now : ℕ) (bus : List ℕ) (m : Marshalled) : Type 0 where
   pub counts : Counts
-  pub accepted : judge xs ≡ gives counts
+  pub accepted : judge form xs ≡ gives counts
   pub whole : length store ≡ storeOctets
   pub room : (r : ℕ) → r < counts .routes → routeEnd (listOf xs counts .signal) (listOf xs counts .route r) ≤ 8 * length bus
   pub octets : m .octets ≡ marshalled (listOf xs counts) store now bus (counts .routes)

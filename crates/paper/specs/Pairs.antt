@@ -17,21 +17,29 @@ pub record Entry : Type 0 where
   pub place : ℕ
 
 -- 1-4, then 11: the entry of signal k
-unfoldable pub entryOf : List ℕ → ℕ → Answer Entry
-entryOf xs k =
-    underList xs (λ l. refuseIf (not (ltb k (l .signals))) 11 0 (gives (record { signal = l .signal k; place = placeOf l (l .signal k) })))
+abbrev pub entryBy : ℕ → SignalList → Answer Entry
+entryBy k l = refuseIf (not (ltb k (l .signals))) 11 0 (gives (record { signal = l .signal k; place = placeOf l (l .signal k) }))
+
+unfoldable pub entryOf : ℕ → List ℕ → ℕ → Answer Entry
+entryOf form xs k = underList form xs (entryBy k)
 
 -- 1-4: the entry of route r; no number refuses one that is not there
-unfoldable pub routeEntry : List ℕ → ℕ → Answer (Sought Route)
-routeEntry xs r = underList xs (λ l. gives (cond (ltb r (l .routes)) (found (l .route r)) nothing))
+abbrev pub routeEntryBy : ℕ → SignalList → Answer (Sought Route)
+routeEntryBy r l = gives (cond (ltb r (l .routes)) (found (l .route r)) nothing)
+
+unfoldable pub routeEntry : ℕ → List ℕ → ℕ → Answer (Sought Route)
+routeEntry form xs r = underList form xs (routeEntryBy r)
 
 -- the signal of a type at a start; the number of signals where there is none
 unfoldable pub signalFound : SignalList → ℕ → ℕ → ℕ
 signalFound l type start = firstBad (λ k. not (eqb (l .signal k .type) type && eqb (l .signal k .start) start)) (l .signals)
 
 -- 1-4, then 11: its number
-unfoldable pub finding : List ℕ → ℕ → ℕ → Answer ℕ
-finding xs type start = underList xs (λ l. let k = signalFound l type start in refuseIf (not (ltb k (l .signals))) 11 0 (gives k))
+abbrev pub findingBy : ℕ → ℕ → SignalList → Answer ℕ
+findingBy type start l = let k = signalFound l type start in refuseIf (not (ltb k (l .signals))) 11 0 (gives k)
+
+unfoldable pub finding : ℕ → List ℕ → ℕ → ℕ → Answer ℕ
+finding form xs type start = underList form xs (findingBy type start)
 
 -- ---- Two lists
 
@@ -80,8 +88,8 @@ unfoldable pub nextPair : SignalList → SignalList → ℕ → Sought Pair
 nextPair a b from = let q = next (inEither a b) signalKeys from in cond (ltb q signalKeys) (found (pairAt a b q)) nothing
 
 -- 1-4 of the first list, then of the second
-unfoldable pub pairing : List ℕ → List ℕ → ℕ → OfTwo (Sought Pair)
-pairing xs ys from = underLists xs ys (λ a b. nextPair a b from)
+unfoldable pub pairing : ℕ → List ℕ → ℕ → List ℕ → ℕ → OfTwo (Sought Pair)
+pairing form xs form′ ys from = underLists form xs form′ ys (λ a b. nextPair a b from)
 
 -- ---- What is said of them
 

@@ -21,9 +21,9 @@ sent t = offer 1 t (telegram 0x10 0x40)
 -- the complaint: with no sweep, at an age of 49.7 days and 1 s (4,294,967,296 ms and 1,000), it reads live
 pub come-round :
     let store = run silent (map onClock (sent 0 ∷ [])) in
-    reading listL store ((turn + 1000) % turn) 1 0 ≡ gives (record { value = 4; reason = 0 })
+    reading 1 listL store ((turn + 1000) % turn) 1 0 ≡ gives (record { value = 4; reason = 0 })
 unfolding run telegram silent listL bit field number octetsOf over refuseIf firstFrom firstBad all some greatest applicationType telegramType versionOf
-    SignalList.checkAt SignalList.signalAt SignalList.codeAt SignalList.routeAt SignalList.checkRule SignalList.signalRuleTo SignalList.codeRule
+    SignalList.checkAt SignalList.signalSize SignalList.signalAt SignalList.among SignalList.codeAt SignalList.routeAt SignalList.checkRule SignalList.signalRuleTo SignalList.codeRule
     SignalList.routeRule SignalList.opening SignalList.judgeEntries SignalList.judgeSection SignalList.greatestSince SignalList.ending
     SignalList.fromRoutes SignalList.fromCodes SignalList.fromSignalsTo judgeTo hasCodes inRange knownIn knows placeOf slotOf taken taking age heard markOf
     codeOf hindrances reasonOf readingOf readingAt reading

@@ -94,8 +94,8 @@ readingBy store now v k l =
     (refuseIf (not (ltb k (l .signals))) 11 0
     (gives (readingAt l store now v k))))
 
-unfoldable pub reading : List ℕ → List ℕ → ℕ → ℕ → ℕ → Answer Reading
-reading xs store now v k = underList xs (readingBy store now v k)
+unfoldable pub reading : ℕ → List ℕ → List ℕ → ℕ → ℕ → ℕ → Answer Reading
+reading form xs store now v k = underList form xs (readingBy store now v k)
 
 -- ---- What is said of readings
 
@@ -110,9 +110,9 @@ pub record Live (l : SignalList) (slot : Slot) (now k : ℕ) : Type 0 where
   pub known : knows l k (codeOf (l .signal k) (slot .telegram)) ≡ true
 
 -- what a reading that is not refused tells
-pub record Reads (xs store : List ℕ) (now v k : ℕ) (r : Reading) : Type 0 where
+pub record Reads (form : ℕ) (xs store : List ℕ) (now v k : ℕ) (r : Reading) : Type 0 where
   pub counts : Counts
-  pub accepted : judge xs ≡ gives counts
+  pub accepted : judge form xs ≡ gives counts
   pub whole : length store ≡ storeOctets
   pub first : 1 ≤ v
   pub last : v ≤ vehicles

@@ -42,8 +42,10 @@ fieldEnd s = s .start + s .width
 abbrev pub checkSize : ℕ
 checkSize = 2
 
-abbrev pub signalSize : ℕ
-signalSize = 16
+-- C-18: "In form 2 a signal entry has 18 octets, the last two that number packed by us .. all else is as in form 1. The caller says which form
+-- comes in": a number, of which 2 says form 2 and any other form 1
+unfoldable pub signalSize : ℕ → ℕ
+signalSize form = cond (eqb form 2) 18 16
 
 abbrev pub codeSize : ℕ
 codeSize = 6
@@ -70,9 +72,10 @@ entry size k = 2 + size * k
 unfoldable pub checkAt : List ℕ → ℕ → ℕ
 checkAt xs k = number xs (entry checkSize k) 2
 
-unfoldable pub signalAt : List ℕ → ℕ → Signal
-signalAt xs k =
-    let at = entry signalSize k in
+-- of entries of `size` octets, of which those past the sixteenth are not read
+unfoldable pub signalAt : ℕ → List ℕ → ℕ → Signal
+signalAt size xs k =
+    let at = entry size k in
     record {
       start = number xs at 2;
       width = getD xs (at + 2) 0;
@@ -208,39 +211,44 @@ pub record Counts : Type 0 where
   pub codes : ℕ
   pub routes : ℕ
   pub version : ℕ
+  -- the octets of a signal entry
+  pub size : ℕ
 
 -- "the list ends with the last"; 4 "octets after the routes"
-unfoldable pub ending : ℕ → (ℕ → Signal) → ℕ → ℕ → List ℕ → ℕ → Answer Counts
-ending signals signal checks codes xs routes =
+unfoldable pub ending : ℕ → ℕ → (ℕ → Signal) → ℕ → ℕ → List ℕ → ℕ → Answer Counts
+ending size signals signal checks codes xs routes =
     refuseIf (ltb (entry routeSize routes) (length xs)) 4 (entry routeSize routes)
-    (gives (record { checks = checks; signals = signals; codes = codes; routes = routes; version = greatestSince signals signal }))
+    (gives (record { checks = checks; signals = signals; codes = codes; routes = routes; version = greatestSince signals signal; size = size }))
 
 -- the sections from each one on: its own judging, then the rest of the list, whose offsets lie that much further on
-unfoldable pub fromRoutes : ℕ → (ℕ → Signal) → ℕ → ℕ → List ℕ → Answer Counts
-fromRoutes signals signal checks codes xs =
-    andThen (judgeSection mostRoutes routeSize (routeRule signals signal (routeAt xs)) xs) (ending signals signal checks codes xs)
+unfoldable pub fromRoutes : ℕ → ℕ → (ℕ → Signal) → ℕ → ℕ → List ℕ → Answer Counts
+fromRoutes size signals signal checks codes xs =
+    andThen (judgeSection mostRoutes routeSize (routeRule signals signal (routeAt xs)) xs) (ending size signals signal checks codes xs)
 
-unfoldable pub fromCodes : ℕ → (ℕ → Signal) → ℕ → List ℕ → Answer Counts
-fromCodes signals signal checks xs =
+unfoldable pub fromCodes : ℕ → ℕ → (ℕ → Signal) → ℕ → List ℕ → Answer Counts
+fromCodes size signals signal checks xs =
     andThen (judgeSection mostCodes codeSize (codeRule signals signal (codeAt xs)) xs)
-    (λ codes. shift (entry codeSize codes) (fromRoutes signals signal checks codes (rest codeSize codes xs)))
+    (λ codes. shift (entry codeSize codes) (fromRoutes size signals signal checks codes (rest codeSize codes xs)))
 
-unfoldable pub fromSignalsTo : ℕ → ℕ → (ℕ → ℕ) → List ℕ → Answer Counts
-fromSignalsTo most checks check xs =
-    andThen (judgeSection mostSignals signalSize (signalRuleTo most checks check (signalAt xs)) xs)
-    (λ signals. shift (entry signalSize signals) (fromCodes signals (signalAt xs) checks (rest signalSize signals xs)))
+unfoldable pub fromSignalsTo : ℕ → ℕ → ℕ → (ℕ → ℕ) → List ℕ → Answer Counts
+fromSignalsTo most size checks check xs =
+    andThen (judgeSection mostSignals size (signalRuleTo most checks check (signalAt size xs)) xs)
+    (λ signals. shift (entry size signals) (fromCodes size signals (signalAt size xs) checks (rest size signals xs)))
 
-abbrev pub fromSignals : ℕ → (ℕ → ℕ) → List ℕ → Answer Counts
-fromSignals checks check xs = fromSignalsTo widest checks check xs
+abbrev pub fromSignals : ℕ → ℕ → (ℕ → ℕ) → List ℕ → Answer Counts
+fromSignals size checks check xs = fromSignalsTo widest size checks check xs
 
--- "Judging goes section by section"
-unfoldable pub judgeTo : ℕ → List ℕ → Answer Counts
-judgeTo most xs =
+-- "Judging goes section by section", of a list whose signal entries have `size` octets; then of a list in the form that the caller says
+unfoldable pub judgeTo : ℕ → ℕ → List ℕ → Answer Counts
+judgeTo most size xs =
     andThen (judgeSection mostChecks checkSize (checkRule (checkAt xs)) xs)
-    (λ checks. shift (entry checkSize checks) (fromSignalsTo most checks (checkAt xs) (rest checkSize checks xs)))
+    (λ checks. shift (entry checkSize checks) (fromSignalsTo most size checks (checkAt xs) (rest checkSize checks xs)))
 
-abbrev pub judge : List ℕ → Answer Counts
-judge xs = judgeTo widest xs
+abbrev pub judgeSized : ℕ → List ℕ → Answer Counts
+judgeSized size xs = judgeTo widest size xs
+
+abbrev pub judge : ℕ → List ℕ → Answer Counts
+judge form xs = judgeSized (signalSize form) xs
 
 -- ---- A list, apart from how its octets are laid out: what reading, marshalling, composing and extending go by
 
@@ -254,12 +262,20 @@ pub record SignalList : Type 0 where
   pub routes : ℕ
   pub route : ℕ → Route
 
+-- entry k of a table of n; past it no octet of the list says anything
+unfoldable pub among : {A : Type 0} → ℕ → (ℕ → A) → A → ℕ → A
+among n table other k = cond (ltb k n) (table k) other
+
+-- no signal
+abbrev pub noSignal : Signal
+noSignal = record { start = 0; width = 0; type = 0; check = 0; since = 0; limit = 0; replacement = 0 }
+
 -- the octets of a list with these counts
 abbrev pub signalsPart : List ℕ → Counts → List ℕ
 signalsPart xs n = rest checkSize (n .checks) xs
 
 abbrev pub codesPart : List ℕ → Counts → List ℕ
-codesPart xs n = rest signalSize (n .signals) (signalsPart xs n)
+codesPart xs n = rest (n .size) (n .signals) (signalsPart xs n)
 
 abbrev pub routesPart : List ℕ → Counts → List ℕ
 routesPart xs n = rest codeSize (n .codes) (codesPart xs n)
@@ -267,9 +283,9 @@ routesPart xs n = rest codeSize (n .codes) (codesPart xs n)
 abbrev pub listOf : List ℕ → Counts → SignalList
 listOf xs n = record {
   checks = n .checks;
-  check = checkAt xs;
+  check = among (n .checks) (checkAt xs) 0;
   signals = n .signals;
-  signal = signalAt (signalsPart xs n);
+  signal = among (n .signals) (signalAt (n .size) (signalsPart xs n)) noSignal;
   codes = n .codes;
   code = codeAt (codesPart xs n);
   routes = n .routes;
@@ -303,11 +319,11 @@ placeOf l s = cond (eqb (s .check) 0) 0 (l .check (s .check - 1))
 -- ---- Calls that go by lists
 
 -- "1-4 come first as judging meets them": a call that goes by a list judges it, and goes on with what is accepted
-abbrev pub underListTo : {A : Type 0} → ℕ → List ℕ → (SignalList → Answer A) → Answer A
-underListTo most xs call = andThen (judgeTo most xs) (λ n. call (listOf xs n))
+abbrev pub underListTo : {A : Type 0} → ℕ → ℕ → List ℕ → (SignalList → Answer A) → Answer A
+underListTo most form xs call = andThen (judgeTo most (signalSize form) xs) (λ n. call (listOf xs n))
 
-abbrev pub underList : {A : Type 0} → List ℕ → (SignalList → Answer A) → Answer A
-underList xs call = underListTo widest xs call
+abbrev pub underList : {A : Type 0} → ℕ → List ℕ → (SignalList → Answer A) → Answer A
+underList form xs call = underListTo widest form xs call
 
 -- what a call on two lists answers: a value, or the refusal of the first that is refused, and which that is
 pub data OfTwo (A : Type 0) : Type 0 where
@@ -329,5 +345,6 @@ ofTwo (gives n) refusal call = call n
 ofTwo (refused m at) refusal call = refusal m at
 
 -- "of two lists, the first is judged first"
-abbrev pub underLists : {A : Type 0} → List ℕ → List ℕ → (SignalList → SignalList → A) → OfTwo A
-underLists xs ys call = ofTwo (judge xs) firstRefused (λ m. ofTwo (judge ys) secondRefused (λ n. ofBoth (call (listOf xs m) (listOf ys n))))
+abbrev pub underLists : {A : Type 0} → ℕ → List ℕ → ℕ → List ℕ → (SignalList → SignalList → A) → OfTwo A
+underLists form xs form′ ys call =
+    ofTwo (judge form xs) firstRefused (λ m. ofTwo (judge form′ ys) secondRefused (λ n. ofBoth (call (listOf xs m) (listOf ys n))))

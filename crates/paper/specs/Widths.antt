@@ -5,7 +5,8 @@ use mathlib.Core.Logic.{_⊎_}
 use mathlib.Core.List.{List}
 use Rattle.paper.specs.Octets.{number}
 use Rattle.paper.specs.Answer.{Answer}
-use Rattle.paper.specs.SignalList.{SignalList, OfTwo, firstRefused, secondRefused, ofBoth, ofTwo, checkSize, rest, signalAt, judgeTo, listOf, underListTo}
+use Rattle.paper.specs.SignalList.{SignalList, OfTwo, firstRefused, secondRefused, ofBoth, ofTwo, signalSize, signalAt, judgeTo, listOf, underListTo}
+use Rattle.paper.specs.Forms.{signalsFrom}
 use Rattle.paper.specs.Reading.{Reading, readingBy}
 use Rattle.paper.specs.Marshalling.{Marshalled, marshallingBy}
 use Rattle.paper.specs.Composing.{composingBy}
@@ -15,24 +16,21 @@ abbrev pub widestBefore : ℕ
 widestBefore = 48
 
 -- the calls under that judging
-abbrev pub readingTo : ℕ → List ℕ → List ℕ → ℕ → ℕ → ℕ → Answer Reading
-readingTo most xs store now v k = underListTo most xs (readingBy store now v k)
+abbrev pub readingTo : ℕ → ℕ → List ℕ → List ℕ → ℕ → ℕ → ℕ → Answer Reading
+readingTo most form xs store now v k = underListTo most form xs (readingBy store now v k)
 
-abbrev pub marshallingTo : ℕ → List ℕ → List ℕ → ℕ → List ℕ → Answer Marshalled
-marshallingTo most xs store now bus = underListTo most xs (marshallingBy store now bus)
+abbrev pub marshallingTo : ℕ → ℕ → List ℕ → List ℕ → ℕ → List ℕ → Answer Marshalled
+marshallingTo most form xs store now bus = underListTo most form xs (marshallingBy store now bus)
 
-abbrev pub composingTo : ℕ → List ℕ → ℕ → List ℕ → List ℕ → ℕ → Answer (List ℕ)
-composingTo most xs type values marks room = underListTo most xs (composingBy type values marks room)
+abbrev pub composingTo : ℕ → ℕ → List ℕ → ℕ → List ℕ → List ℕ → ℕ → Answer (List ℕ)
+composingTo most form xs type values marks room = underListTo most form xs (composingBy type values marks room)
 
-abbrev pub underListsTo : {A : Type 0} → ℕ → List ℕ → List ℕ → (SignalList → SignalList → A) → OfTwo A
-underListsTo most xs ys call =
-    ofTwo (judgeTo most xs) firstRefused (λ m. ofTwo (judgeTo most ys) secondRefused (λ n. ofBoth (call (listOf xs m) (listOf ys n))))
+abbrev pub underListsTo : {A : Type 0} → ℕ → ℕ → List ℕ → ℕ → List ℕ → (SignalList → SignalList → A) → OfTwo A
+underListsTo most form xs form′ ys call =
+    ofTwo (judgeTo most (signalSize form) xs) firstRefused
+    (λ m. ofTwo (judgeTo most (signalSize form′) ys) secondRefused (λ n. ofBoth (call (listOf xs m) (listOf ys n))))
 
--- the signals as they stand before anything is judged: the count of the checks says where
-abbrev pub signalsFrom : List ℕ → List ℕ
-signalsFrom xs = rest checkSize (number xs 0 2) xs
-
--- no signal's width lies above w and at most at w′
-abbrev pub NoneBetween : ℕ → ℕ → List ℕ → Type 0
-NoneBetween w w′ xs =
-    (k : ℕ) → k < number (signalsFrom xs) 0 2 → (signalAt (signalsFrom xs) k .width ≤ w) ⊎ (w′ < signalAt (signalsFrom xs) k .width)
+-- no signal's width lies above w and at most at w′, in entries of `size` octets
+abbrev pub NoneBetween : ℕ → ℕ → ℕ → List ℕ → Type 0
+NoneBetween w w′ size xs =
+    (k : ℕ) → k < number (signalsFrom xs) 0 2 → (signalAt size (signalsFrom xs) k .width ≤ w) ⊎ (w′ < signalAt size (signalsFrom xs) k .width)

@@ -16,6 +16,7 @@ use Rattle.paper.specs.Telegrams.{applicationType, telegramType, version
 use Rattle.paper.specs.SignalList
 use Rattle.paper.specs.SignalList.{Signal, judgeTo, version, hasCodes, inRange, knownIn, knows, placeOf}
 use Rattle.paper.specs.Broken.{faultIn, faultFromRoutes, faultFromCodes, faultFromSignals, faultOf}
+use Rattle.paper.specs.Forms.{serialAt, serialOf, narrowed, droppedFrom, dropped, spread, widenedFrom, widened, toForm2, toForm1}
 use Rattle.paper.specs.Extends.{codesKept, keeps, stands, newer, extendsLists}
 use Rattle.paper.specs.Extends as Extending
 use Rattle.paper.specs.Pairs.{entryOf, routeEntry, signalFound, finding, has, index, nextPair, pairing}
@@ -26,9 +27,9 @@ use Rattle.paper.specs.Composing.{headed, composed, markFits, valueFits,
 use Rattle.paper.specs.Shown.{speed, percentage, signedPercentage, showing}
 use Rattle.paper.specs.Train.{Vehicle, consistRule, meets, member, setTo, membersOf, resolving}
 use Rattle.paper.specs.ETelegrams.{requests, isRequest, isReport, eReading, answerTo, answering}
-use Rattle.paper.specs.Bench.{listL}
+use Rattle.paper.specs.Bench.{listL, listL2}
 use Rattle.paper.specs.Marked.{telegram, silent, heardAt}
-use Rattle.paper.specs.Cases.{joined, made, signal, code, route, Question, judges, faults, extends, signalEntries, routeEntries, finds, pairs, places, takes, sweeps, holds, reads, marshals, composes, shows, resolves, eReads, eAnswers, gave, refuses, ask}
+use Rattle.paper.specs.Cases.{joined, made, made2, signal, code, route, Question, judges, judgesIn, faults, faultsIn, extends, extendsIn, serialsIn, movesTo2, movesTo1, readsIn, signalEntries, routeEntries, finds, pairs, places, takes, sweeps, holds, reads, marshals, composes, shows, resolves, eReads, eAnswers, gave, refuses, ask}
 
 -- ---- A wrong gateway
 
@@ -134,6 +135,10 @@ two s t = made [] (s ∷ t ∷ []) [] []
 abbrev plain : ℕ → ℕ → ℕ → Signal
 plain start type since = signal start 8 type 0 since 0 0
 
+-- two signals in form 2, with these serial numbers
+abbrev numbered : ℕ → ℕ → List ℕ
+numbered a b = made2 [] ((plain 320 1 1, a) ∷ (plain 328 1 1, b) ∷ []) [] []
+
 -- one of so many bits; an R1 composed with such a one into octets EE: octets 54, 61 and 62
 abbrev wide : ℕ → ℕ → Signal
 wide start width = signal start width 1 0 1 0 0
@@ -204,6 +209,12 @@ table =
     (judges (made [] (plain 320 1 1 ∷ []) [] (route 0 1 2040 ∷ []))) (counts 0 1 0 1)
     ∷ saying "offset-of-its-section" (judges (set listL 41 1)) (refuses 3 38) (refuses 3 2)
     ∷ saying "counts-exchanged" (judges listL) (counts 1 1 2 1) (counts 1 1 1 2)
+    -- C-18, judging in form 2
+    ∷ asked-as "form-1-offset-in-form-2" (judgesIn 2 (set (listL2 7) 43 1)) (refuses 3 40) (judgesIn 1 (set listL 41 1)) (refuses 3 38)
+    ∷ asked-as "codes-at-entry-size-16" (judgesIn 2 (listL2 0)) (counts 1 1 2 1) (judgesIn 1 (listL2 0)) (refuses 3 26)
+    ∷ saying "set-serial-refused" (judgesIn 2 (listL2 7)) (counts 1 1 2 1) (refuses 32 0)
+    ∷ saying "serial-cut-passed" (judgesIn 2 (take 23 (listL2 7))) (refuses 1 4) (refuses 1 24)
+    ∷ asked-as "form-3-is-form-2" (judgesIn 3 listL) (counts 1 1 2 1) (judgesIn 2 listL) (refuses 4 28)
     -- the entry at fault
     ∷ saying "last-rule-named" (faults (one (signal 320 0 3 0 1 0 0))) (at-fault (2 ∷ 0 ∷ 1 ∷ 0 ∷ 3 ∷ 320 ∷ 0 ∷ 4 ∷ [])) (at-fault (2 ∷ 0 ∷ 7 ∷ 0 ∷ 3 ∷ 320 ∷ 0 ∷ 4 ∷ []))
     ∷ asked-as "entry-before-named"
@@ -215,6 +226,9 @@ table =
     (at-fault (3 ∷ 0 ∷ 1 ∷ 1 ∷ 0 ∷ 2 ∷ 0 ∷ 24 ∷ []))
     ∷ asked-as "fault-of-an-accepted-list" (faults listL) no (faults (set listL 41 1)) (at-fault (4 ∷ 0 ∷ 3 ∷ 0 ∷ 1 ∷ 424 ∷ 4 ∷ 38 ∷ []))
     ∷ saying "fault-of-another-refusal" (faults (listL ++ (0 ∷ []))) no (at-fault (4 ∷ 0 ∷ 5 ∷ 0 ∷ 1 ∷ 424 ∷ 4 ∷ 44 ∷ []))
+    ∷ saying "fault-at-form-1-offset"
+    (faultsIn 2 (set (listL2 7) 43 1)) (at-fault (4 ∷ 0 ∷ 3 ∷ 0 ∷ 1 ∷ 424 ∷ 4 ∷ 40 ∷ []))
+    (at-fault (4 ∷ 0 ∷ 3 ∷ 0 ∷ 1 ∷ 424 ∷ 4 ∷ 38 ∷ []))
     -- extending
     ∷ asked-as "signal-by-index"
     (extends (one (plain 320 1 1)) (two (plain 100 0 2) (plain 320 1 1))) yes
@@ -227,6 +241,7 @@ table =
     ∷ asked-as "code-lost" (extends listL (set listL 29 5)) no (extends listL (set listL 29 7)) yes
     ∷ saying "which-list" (extends listL []) (refuses 1 0 ++ (2 ∷ [])) (refuses 1 0 ++ (1 ∷ []))
     ∷ saying "second-judged-first" (extends [] (listL ++ (0 ∷ []))) (refuses 1 0 ++ (1 ∷ [])) (refuses 4 44 ++ (2 ∷ []))
+    ∷ asked-as "one-form-for-both" (extendsIn 1 listL 2 (listL2 7)) yes (extendsIn 1 listL 1 (listL2 7)) (refuses 1 22 ++ (2 ∷ []))
     -- entries of a list, and two lists gone along
     ∷ saying "check-for-its-place"
     (signalEntries listL 0) (gave (1 ∷ 168 ∷ 4 ∷ 1 ∷ 1 ∷ 1 ∷ 0 ∷ 0 ∷ 19 ∷ 136 ∷ 0 ∷ 0 ∷ 0 ∷ 0 ∷ 0 ∷ 0 ∷ 322 ∷ []))
@@ -251,6 +266,43 @@ table =
     ∷ saying "signals-of-the-other-list"
     (pairs (two (plain 320 1 1) (plain 328 1 1)) listL 0) (gave (1 ∷ 1344 ∷ 0 ∷ 1 ∷ []))
     (gave (1 ∷ 1344 ∷ 0 ∷ 2 ∷ []))
+    -- C-18, serial numbers
+    ∷ asked-as "serial-low-first" (serialsIn 2 (listL2 0x1234) 0) (gave (0x1234 ∷ [])) (serialsIn 2 (listL2 0x3412) 0) (gave (0x3412 ∷ []))
+    ∷ saying "serial-in-form-1" (serialsIn 1 listL 0) (gave (0 ∷ [])) (gave (2 ∷ []))
+    ∷ asked-as "serial-past-the-last" (serialsIn 2 (listL2 7) 1) (refuses 11 0) (serialsIn 2 (listL2 7) 0) (gave (7 ∷ []))
+    ∷ asked-as "serial-of-the-next-signal" (serialsIn 2 (numbered 7 9) 0) (gave (7 ∷ [])) (serialsIn 2 (numbered 7 9) 1) (gave (9 ∷ []))
+    ∷ saying "replacement-to-the-entry-s-end" (readsIn 2 (listL2 7) silent 0 1 0) (value 0 2) (value 7 2)
+    -- C-18, moving
+    ∷ asked-as "serial-dropped-silently"
+    (movesTo1 (listL2 7) (replicate 44 0xEE)) (refuses 32 0 ++ replicate 44 0xEE)
+    (movesTo1 (listL2 0) (replicate 44 0xEE)) (gave listL)
+    ∷ asked-as "first-serial-only"
+    (movesTo1 (numbered 0 9) (replicate 40 0xEE)) (refuses 32 0 ++ replicate 40 0xEE)
+    (movesTo1 (numbered 0 0) (replicate 40 0xEE)) (gave (two (plain 320 1 1) (plain 328 1 1)))
+    ∷ asked-as "low-octet-only"
+    (movesTo1 (listL2 0x0700) (replicate 44 0xEE)) (refuses 32 0 ++ replicate 44 0xEE)
+    (movesTo1 (listL2 0) (replicate 44 0xEE)) (gave listL)
+    ∷ saying "thirty-two-names-the-signal"
+    (movesTo1 (numbered 0 9) (replicate 40 0xEE)) (refuses 32 0 ++ replicate 40 0xEE)
+    (refuses 32 1 ++ replicate 40 0xEE)
+    ∷ saying "moved-though-refused" (movesTo1 (listL2 7) (replicate 44 0xEE)) (refuses 32 0 ++ replicate 44 0xEE) (refuses 32 0 ++ listL)
+    ∷ asked-as "needed-length-before-serial"
+    (movesTo1 (listL2 7) (replicate 43 0xEE)) (refuses 32 0 ++ replicate 43 0xEE)
+    (movesTo1 (listL2 0) (replicate 43 0xEE)) (refuses 33 0 ++ replicate 43 0xEE)
+    ∷ saying "serial-before-judging"
+    (movesTo1 (set (listL2 7) 43 1) (replicate 44 0xEE)) (refuses 3 40 ++ replicate 44 0xEE)
+    (refuses 32 0 ++ replicate 44 0xEE)
+    ∷ saying "needed-length-before-judging"
+    (movesTo2 (set listL 41 1) (replicate 45 0xEE)) (refuses 3 38 ++ replicate 45 0xEE)
+    (refuses 33 0 ++ replicate 45 0xEE)
+    ∷ saying "longer-output-filled"
+    (movesTo2 listL (replicate 47 0xEE)) (refuses 33 0 ++ replicate 47 0xEE)
+    (gave (listL2 0 ++ (0xEE ∷ [])))
+    ∷ saying "longer-output-filled-on-moving-back"
+    (movesTo1 (listL2 0) (replicate 45 0xEE)) (refuses 33 0 ++ replicate 45 0xEE)
+    (gave (listL ++ (0xEE ∷ [])))
+    ∷ saying "shorter-output-cut" (movesTo2 listL (replicate 45 0xEE)) (refuses 33 0 ++ replicate 45 0xEE) (gave (take 45 (listL2 0)))
+    ∷ saying "serial-left-as-it-stood" (movesTo2 listL (replicate 46 0xEE)) (gave (listL2 0)) (gave (listL2 0xEEEE))
     -- the grouping
     ∷ asked-as "row-end" (places 491) (gave (328 ∷ [])) (places 492) (gave (330 ∷ []))
     ∷ asked-as "row-shifted" (places 492) (gave (330 ∷ [])) (places 491) (gave (328 ∷ []))
@@ -410,8 +462,8 @@ written r = record { paper-says = r .right; it-says = r .wrong; same = false }
 
 -- the one computed test: of every row both answers are as written, and they differ
 pub wrong : map told table ≡ map written table
-unfolding table answered sameNumbers joined made ask listL telegram silent heardAt bit field withBit setBit put puts number octetsOf over refuseIf
-    firstFrom firstBad all some next count greatest applicationType telegramType versionOf rows placeIn SignalList.checkAt SignalList.signalAt
+unfolding table answered sameNumbers joined made made2 ask listL listL2 serialAt serialOf narrowed droppedFrom dropped spread widenedFrom widened toForm2 toForm1 telegram silent heardAt bit field withBit setBit put puts number octetsOf over refuseIf
+    firstFrom firstBad all some next count greatest applicationType telegramType versionOf rows placeIn SignalList.checkAt SignalList.signalSize SignalList.signalAt SignalList.among
     SignalList.codeAt SignalList.routeAt SignalList.checkRule SignalList.signalRuleTo SignalList.codeRule SignalList.routeRule SignalList.opening
     SignalList.judgeEntries SignalList.judgeSection SignalList.greatestSince SignalList.ending SignalList.fromRoutes SignalList.fromCodes
     SignalList.fromSignalsTo judgeTo faultIn faultFromRoutes faultFromCodes faultFromSignals faultOf hasCodes inRange knownIn knows placeOf version codesKept keeps stands newer Extending.extends extendsLists entryOf

@@ -11,7 +11,7 @@ use borrow.Author.Tests.{le-leb, eq-eqb, ne-eqb}
 use Rattle.paper.specs.Answer.{Answer, gives, refused}
 use Rattle.paper.specs.First.{firstOf}
 use Rattle.paper.specs.Telegrams.{forced}
-use Rattle.paper.specs.SignalList.{Signal, SignalList, Counts, fieldEnd, checkAt, signalAt, signalsPart, listOf, placeOf, knows}
+use Rattle.paper.specs.SignalList.{Signal, SignalList, Counts, fieldEnd, listOf, placeOf, knows}
 use Rattle.paper.specs.Store.{Slot, telegramOctets}
 use Rattle.paper.specs.Reading.{Reading, hindrances, reasonOf, readingOf, markOf, codeOf}
 use Rattle.paper.proofs.FirstLaws.{first-front, first-back, first-low}
@@ -74,17 +74,17 @@ place-within xs n s h le = elim (ℕ-discrete (s .check) 0) [
 ]
 
 module _ (xs : List ℕ) (n : Counts) (k : ℕ) (telegram : List ℕ) (h : Laid xs n) (lt : k < n .signals) (whole : length telegram ≡ telegramOctets) where
-  kept : SignalKept (n .checks) (checkAt xs) (signalAt (signalsPart xs n)) k
+  kept : SignalKept (n .checks) (listOf xs n .check) (listOf xs n .signal) k
   kept = kept-of xs n h .signal k lt
 
-  pub field-there : Within telegram (signalAt (signalsPart xs n) k .start) (signalAt (signalsPart xs n) k .width)
-  field-there = record { some = kept .some; wide = omega (arith, kept .wide); inside = by (ℕ-discrete (signalAt (signalsPart xs n) k .type) 0) }
+  pub field-there : Within telegram (listOf xs n .signal k .start) (listOf xs n .signal k .width)
+  field-there = record { some = kept .some; wide = omega (arith, kept .wide); inside = by (ℕ-discrete (listOf xs n .signal k .type) 0) }
     where
-      by : Dec (signalAt (signalsPart xs n) k .type ≡ 0) → fieldEnd (signalAt (signalsPart xs n) k) ≤ 8 * length telegram
+      by : Dec (listOf xs n .signal k .type ≡ 0) → fieldEnd (listOf xs n .signal k) ≤ 8 * length telegram
       by (yes e) = omega (arith, kept .placed .common e .1)
       by (no e) = omega (arith, kept .placed .own e .1)
 
-  pub check-there : signalAt (signalsPart xs n) k .check ≤ n .checks
+  pub check-there : listOf xs n .signal k .check ≤ n .checks
   check-there = kept .named .exists
 
 -- ---- the contract settles the answer

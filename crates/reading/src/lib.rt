@@ -3,7 +3,7 @@ ghost use mathlib.Core.Path.{_≡_};
 ghost use Prim.Native.Nat.{_≤_, _<_};
 ghost use lib.ListN.{length};
 ghost use Rattle.paper.specs.First.{firstOf};
-ghost use Rattle.paper.specs.SignalList.{signalAt, signalsPart, listOf};
+ghost use Rattle.paper.specs.SignalList.{listOf};
 ghost use Rattle.paper.specs.Store.{vehicles, telegramOctets, slotOctets, storeOctets, slotFrom};
 ghost use Rattle.paper.specs.Reading.{markOf, readingAt, reading};
 ghost use Rattle.paper.specs.Accepted.{Laid};
@@ -82,7 +82,7 @@ fn telegram_reason(mark: usize, known: bool) -> u8
 // Signal k, which is s, out of a telegram that can be read.
 fn read_telegram(list: &[u8], n: Counts, s: Signal, telegram: &[u8], k: usize, own: Span) -> Reading
     requires { ⌜ (Laid (now list) (countsOf n)) × (k < n .signals) × (Entries (listOf (now list) (countsOf n)) k own) ⌝ }
-    requires { ⌜ (signalOf s ≡ signalAt (signalsPart (now list) (countsOf n)) k) × (length (now telegram) ≡ telegramOctets) ⌝ }
+    requires { ⌜ (signalOf s ≡ listOf (now list) (countsOf n) .signal k) × (length (now telegram) ≡ telegramOctets) ⌝ }
     ensures { λ r. ⌜ asReading r ≡ telegramReading (listOf (now (list .entry)) (countsOf n)) (now (telegram .entry)) k ⌝ }
 {
     let code = octets::read_field(telegram, s.start, s.width);
@@ -175,10 +175,17 @@ fn read_under(
 }
 
 // Reads a signal of a vehicle at `clock`: its value and reason. Refused: 1 to 4, then 5, 6 and 11.
-pub fn read(list: &[u8], store: &[u8], clock: u32, vehicle: usize, signal: usize) -> ReadOutcome
-    ensures { λ r. ⌜ readAnswer r ≡ reading (now (list .entry)) (now (store .entry)) clock vehicle signal ⌝ }
+pub fn read(
+    list: &[u8],
+    form: u8,
+    store: &[u8],
+    clock: u32,
+    vehicle: usize,
+    signal: usize,
+) -> ReadOutcome
+    ensures { λ r. ⌜ readAnswer r ≡ reading form (now (list .entry)) (now (store .entry)) clock vehicle signal ⌝ }
 {
-    let judged = lists::judge(list);
+    let judged = lists::judge(list, form);
     match judged {
         Judged::Refused(f) => ReadOutcome::Refused(f),
         Judged::Accepted(n) => read_under(list, n, store, clock, vehicle, signal),

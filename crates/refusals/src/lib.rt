@@ -63,6 +63,10 @@ impl Refusal {
     pub const SCALED_KIND: Refusal = Refusal(26, 0);
 
     pub const NO_CHECK_PLACE: Refusal = Refusal(27, 0);
+
+    pub const SERIAL_SET: Refusal = Refusal(32, 0);
+
+    pub const FORM_OUTPUT: Refusal = Refusal(33, 0);
 }
 
 // The paper's number.

@@ -1,5 +1,6 @@
 // The words that a program was started with.
 ghost use mathlib.Core.Path.{_≡_};
+ghost use Prim.Native.Nat.{_≤_};
 ghost use Rattle.saying.specs.Numbers.{goesOn, numberIn};
 use crate::line::Line;
 use crate::line::empty;
@@ -69,43 +70,31 @@ pub fn is_word(i: usize, expected: &[u8]) -> bool {
     check::same(&word[..n], expected)
 }
 
-// The words that may stand behind all others, `table` and one that is the program's own; and how many words there are without them.
-pub struct Options {
-    pub words: usize,
-    pub table: bool,
-    pub own: bool,
+// Whether a program of n words, its own name among them, was given this one as an option: as argument `from` or behind it.
+pub fn has_option(from: usize, n: usize, word: &[u8]) -> bool {
+    let mut i = from;
+    while i < n {
+        if is_word(i, word) {
+            return true;
+        }
+        i += 1;
+    }
+    false
 }
 
-fn without_last(o: Options, least: usize, own: &[u8]) -> Options {
-    let words = o.words;
-    if words <= least {
-        return o;
-    }
-    if !o.table & is_word(words, b"table") {
-        return Options {
-            words: words - 1,
-            table: true,
-            own: o.own,
-        };
-    }
-    if !o.own & is_word(words, own) {
-        return Options {
-            words: words - 1,
-            table: o.table,
-            own: true,
-        };
-    }
-    o
+pub fn one_if(is_there: bool) -> usize
+    ensures { λ r. ⌜ r ≤ 1 ⌝ }
+{
+    if is_there { 1 } else { 0 }
 }
 
-// Of so many words, of which the first `least` are no options.
-pub fn options_of(words: usize, least: usize, own: &[u8]) -> Options {
-    let none = Options {
-        words,
-        table: false,
-        own: false,
-    };
-    without_last(without_last(none, least, own), least, own)
+// How many words of n, the program's own name among them, stand before so many options: an option that is given twice, or before another word,
+// is taken for that word.
+pub fn words_before(n: usize, options: usize) -> usize {
+    if n <= options {
+        return 0;
+    }
+    n - 1 - options
 }
 
 // Whether a program of n words, its own name among them, is asked what it takes.

@@ -1,7 +1,9 @@
 // Which entry of a refused list breaks which rule, in words. The numbers are those of the paper's sentences, in their order.
+ghost use Prim.Native.Nat.{_<_};
 use crate::said::say_field;
 use crate::said::say_refused;
 use crate::said::say_telegram;
+use crate::serial::say_beside;
 use gateway::Fault;
 use gateway::FaultOutcome;
 use gateway::Refusal;
@@ -10,6 +12,11 @@ use saying::print;
 use saying::put;
 use saying::say;
 use saying::say_number;
+
+// The octets of a signal's entry in form 2, and where in it the serial number stands.
+const SIGNAL_SIZE: usize = 18;
+
+const SERIAL: usize = 16;
 
 fn say_check_rule(line: Line, rule: usize) -> Line {
     match rule {
@@ -99,8 +106,37 @@ fn say_type(line: Line, kind: usize) -> Line {
     say_telegram(line, kind)
 }
 
+fn wide(octet: u8) -> usize
+    ensures { λ r. ⌜ r < 256 ⌝ }
+{
+    octet as usize
+}
+
+// Two octets of a list as a number; 0 where it has not so many.
+fn read(list: &[u8], at: usize) -> usize
+    ensures { λ r. ⌜ r < 65536 ⌝ }
+{
+    if list.len() < 2 {
+        return 0;
+    }
+    if list.len() - 2 < at {
+        return 0;
+    }
+    wide(list[at]) * 256 + wide(list[at + 1])
+}
+
+// The serial number of the signal that the entry is or names, in form 2. It is read where it stands: of a refused list no call tells it.
+fn serial_in(list: &[u8], f: Fault) -> usize {
+    let signal = f.signal;
+    if 65535 < signal {
+        return 0;
+    }
+    let signals = 2 + 2 * read(list, 0) + 2;
+    read(list, signals + SIGNAL_SIZE * signal + SERIAL)
+}
+
 // Where the signal lies: a field of no bits, where it starts; a signal that does not exist, nowhere.
-fn say_where(line: Line, f: Fault) -> Line {
+fn say_where(line: Line, list: &[u8], form: u8, f: Fault) -> Line {
     let section = f.section;
     if section == 1 {
         return say_field(say(line, b", "), f.start, f.width);
@@ -109,24 +145,22 @@ fn say_where(line: Line, f: Fault) -> Line {
         return line;
     }
     let l = put(say_type(say(line, b", "), f.kind), b' ');
-    if f.width == 0 {
-        return say_field(l, f.start, 1);
-    }
-    say_field(l, f.start, f.width)
+    let width = if f.width == 0 { 1 } else { f.width };
+    say_beside(say_field(l, f.start, width), form, serial_in(list, f))
 }
 
-fn say_fault(line: Line, f: Fault) -> Line {
-    let l = say_where(say_entry(say(line, b": "), f), f);
+fn say_fault(line: Line, list: &[u8], form: u8, f: Fault) -> Line {
+    let l = say_where(say_entry(say(line, b": "), f), list, form, f);
     let l = say_number(say(l, b", rule "), f.rule as u64);
     say_rule(say(l, b": "), f.section, f.rule)
 }
 
 // The refusal of a list, with the entry at fault where there is one.
-pub fn print_refused_list(list: &[u8], f: Refusal) {
+pub fn print_refused_list(list: &[u8], form: u8, f: Refusal) {
     let l = say_refused(f, b"");
-    let found = gateway::find_fault(list);
+    let found = gateway::find_fault(list, form);
     match found {
-        FaultOutcome::Entry(x) => print(say_fault(l, x)),
+        FaultOutcome::Entry(x) => print(say_fault(l, list, form, x)),
         FaultOutcome::NoEntry => print(l),
     }
 }

@@ -1,8 +1,8 @@
 // Where values end, so that they stand in one column.
 ghost use Prim.Native.Nat.{_≤_};
-use crate::said::say_place;
+use crate::serial::say_signal;
+use crate::serial::serial_at;
 use gateway::EntryOutcome;
-use gateway::Signal;
 use saying::Line;
 use saying::empty;
 use saying::pad;
@@ -14,31 +14,33 @@ fn digits(width: usize) -> usize
     if 64 < width { 20 } else { width * 3 / 10 + 1 }
 }
 
-fn greater(a: usize, b: usize) -> usize {
+pub fn greater(a: usize, b: usize) -> usize {
     if a < b { b } else { a }
 }
 
-fn say_before(line: Line, s: Signal, is_placed: bool) -> Line {
-    if is_placed {
-        return say_place(line, s.kind, s.start, s.width);
-    }
-    line
+// The column at which a value of so many bits ends behind the line and a space.
+pub fn end_of_value(line: Line, width: usize) -> usize {
+    std::num::wrapping_add_usize(line.at, 1 + digits(width))
 }
 
-fn end_of(list: &[u8], k: usize, from: usize, is_placed: bool) -> usize {
-    let entry = gateway::signal_entry(list, k);
+fn end_of(list: &[u8], form: u8, k: usize, from: usize, is_placed: bool) -> usize {
+    let entry = gateway::signal_entry(list, form, k);
     let EntryOutcome::Entry(e) = entry else {
         return 0;
     };
     let s = e.signal;
-    let l = say_before(pad(empty(), from), s, is_placed);
-    std::num::wrapping_add_usize(l.at, 1 + digits(s.width))
+    let l = pad(empty(), from);
+    if is_placed {
+        return end_of_value(say_signal(l, form, s, serial_at(list, form, k)), s.width);
+    }
+    end_of_value(l, s.width)
 }
 
 // The column at which a list's values end: `least`, or as far right as its longest needs. A value stands behind the column `from`, the
-// place of its signal, where that is said, and a space.
+// place of its signal with its serial number, where that is said, and a space.
 pub fn value_column(
     list: &[u8],
+    form: u8,
     signals: usize,
     from: usize,
     is_placed: bool,
@@ -47,7 +49,7 @@ pub fn value_column(
     let mut column = least;
     let mut k = 0;
     while k < signals {
-        column = greater(column, end_of(list, k, from, is_placed));
+        column = greater(column, end_of(list, form, k, from, is_placed));
         k += 1;
     }
     column

@@ -1,10 +1,11 @@
-// What document 01 names, in a program's words: reasons, refusals and places, what stands in a store and what is read out of it.
+// What document 01 names, in a program's words: reasons, refusals, places and serial numbers, what stands in a store and what is read out of it.
 // No function that a program's input reaches has a `requires`.
 mod believed;
 mod broken;
 mod columns;
 mod replaced;
 mod said;
+mod serial;
 mod vehicles;
 
 pub use believed::Totals;
@@ -16,6 +17,8 @@ pub use believed::print_never;
 pub use believed::print_totals;
 pub use believed::say_head;
 pub use broken::print_refused_list;
+pub use columns::end_of_value;
+pub use columns::greater;
 pub use columns::value_column;
 pub use replaced::Written;
 pub use replaced::may_replace;
@@ -26,6 +29,13 @@ pub use said::say_place;
 pub use said::say_reason;
 pub use said::say_refused;
 pub use said::say_telegram;
+pub use serial::form_of;
+pub use serial::say_beside;
+pub use serial::say_serial;
+pub use serial::say_serial_name;
+pub use serial::say_serial_tab;
+pub use serial::say_signal;
+pub use serial::serial_at;
 pub use vehicles::Vehicles;
 pub use vehicles::no_vehicles;
 pub use vehicles::say_vehicles;

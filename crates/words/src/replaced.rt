@@ -1,5 +1,7 @@
 // What a program may not write over, by the octets that stand there: the part of the guard that needs the library (`files` has the rest).
 // Over a store `take` and `sweep` alone write, and refuse what has not its length, which no list and no telegram has.
+use gateway::FORM_1;
+use gateway::FORM_2;
 use gateway::Judged;
 use gateway::Outcome;
 use gateway::STORE;
@@ -13,12 +15,16 @@ pub enum Written {
 }
 
 // A list without a signal says nothing of any bit: eight zeros are one, and bus data too.
-fn is_list(octets: &[u8]) -> bool {
-    let judged = gateway::judge(octets);
+fn is_list_in(octets: &[u8], form: u8) -> bool {
+    let judged = gateway::judge(octets, form);
     match judged {
         Judged::Refused(_) => false,
         Judged::Accepted(n) => 0 < n.signals,
     }
+}
+
+fn is_list(octets: &[u8]) -> bool {
+    is_list_in(octets, FORM_1) | is_list_in(octets, FORM_2)
 }
 
 // Whether `take` would accept it.

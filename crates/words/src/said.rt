@@ -124,7 +124,7 @@ fn say_taking_refusal(line: Line, number: u8) -> Line {
     }
 }
 
-// No program here meets a number above 16.
+// No program here meets a number from 17 to 31.
 fn say_other_refusal(line: Line, number: u8) -> Line {
     match number {
         11 => say(line, b"no such signal"),
@@ -136,6 +136,8 @@ fn say_other_refusal(line: Line, number: u8) -> Line {
             b"a written value at or above 2^width, or its code not known",
         ),
         16 => say(line, b"output length not the type's"),
+        32 => say(line, b"serial number set"),
+        33 => say(line, b"output not of the needed length"),
         _ => say(line, b"see the table of refusals"),
     }
 }

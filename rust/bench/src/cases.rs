@@ -3,6 +3,7 @@
 use crate::lists::{self, NOW, STAMP};
 use crate::proved::{self, Said};
 use crate::rust;
+use reference::Form;
 use std::fmt::Debug;
 use std::hint::black_box;
 
@@ -77,20 +78,15 @@ pub fn growing(units: usize) -> [Case; 3] {
     let list = leak(lists::list(units, 5_000));
     let other = leak(lists::list(units, 6_000));
     let store = leak(lists::store(&lists::telegram()));
-    let live = reference::marshal(list, store, NOW, &mut [0; 256]);
+    let live = reference::marshal(list, Form::One, store, NOW, &mut [0; 256]);
     assert_eq!(live.ok(), Some(8 * units as u64), "every route is live");
     let cases = [
-        said(
-            "judge",
-            vec![],
-            move |_| proved::judge(black_box(list)),
-            move |_| rust::judge(black_box(list)),
-        ),
+        judge("judge", list, Form::One),
         said(
             "extends",
             vec![],
-            move |_| proved::extends(black_box(list), black_box(other)),
-            move |_| rust::extends(black_box(list), black_box(other)),
+            move |_| proved::extends(black_box(list), one(), black_box(other), one()),
+            move |_| rust::extends(black_box(list), one(), black_box(other), one()),
         ),
         marshal("marshal", list, store),
     ];
@@ -100,12 +96,71 @@ pub fn growing(units: usize) -> [Case; 3] {
     })
 }
 
+/// Form 1, which no side may know before it is called.
+#[inline(always)]
+fn one() -> Form {
+    black_box(Form::One)
+}
+
+fn judge(name: &str, list: &'static [u8], form: Form) -> Case {
+    said(
+        name,
+        vec![],
+        move |_| proved::judge(black_box(list), black_box(form)),
+        move |_| rust::judge(black_box(list), black_box(form)),
+    )
+}
+
+/// The longest list judged in form 2, its last serial number, and the list moved from each form to the other.
+fn forms() -> [Case; 4] {
+    let plain = leak(lists::list(64, 5_000));
+    let wide = leak(lists::list_in_form_2(64, 5_000));
+    let of = |call: &str, list: &[u8]| format!("{call}, list of {} octets", list.len());
+    [
+        judge(&of("judge in form 2", wide), wide, Form::Two),
+        said(
+            "serial number, the last signal of the longest list",
+            vec![],
+            move |_| proved::serial(black_box(wide), black_box(Form::Two), black_box(255)),
+            move |_| rust::serial(black_box(wide), black_box(Form::Two), black_box(255)),
+        ),
+        said(
+            &of("move to form 2", plain),
+            vec![0xA5; wide.len()],
+            move |out| proved::to_form_2(black_box(plain), out),
+            move |out| rust::to_form_2(black_box(plain), out),
+        ),
+        said(
+            &of("move to form 1", wide),
+            vec![0xA5; plain.len()],
+            move |out| proved::to_form_1(black_box(wide), out),
+            move |out| rust::to_form_1(black_box(wide), out),
+        ),
+    ]
+}
+
 fn marshal(name: &str, list: &'static [u8], store: &'static [u8]) -> Case {
     said(
         name,
         vec![0xA5; 256],
-        move |data| proved::marshal(black_box(list), black_box(store), black_box(NOW), data),
-        move |data| rust::marshal(black_box(list), black_box(store), black_box(NOW), data),
+        move |data| {
+            proved::marshal(
+                black_box(list),
+                one(),
+                black_box(store),
+                black_box(NOW),
+                data,
+            )
+        },
+        move |data| {
+            rust::marshal(
+                black_box(list),
+                one(),
+                black_box(store),
+                black_box(NOW),
+                data,
+            )
+        },
     )
 }
 
@@ -117,6 +172,7 @@ fn read(name: &str, list: &'static [u8], store: &'static [u8], signal: u64) -> C
         move |_| {
             proved::read(
                 black_box(list),
+                one(),
                 black_box(store),
                 black_box(NOW),
                 black_box(63),
@@ -126,6 +182,7 @@ fn read(name: &str, list: &'static [u8], store: &'static [u8], signal: u64) -> C
         move |_| {
             rust::read(
                 black_box(list),
+                one(),
                 black_box(store),
                 black_box(NOW),
                 black_box(63),
@@ -146,7 +203,7 @@ fn reads() -> Vec<Case> {
     telegram[50..52].copy_from_slice(&49_950u16.to_be_bytes());
     let heard = leak(lists::store(&telegram));
     assert_eq!(
-        reference::read(coded, heard, NOW, 1, 0).map(|r| r.reason),
+        reference::read(coded, Form::One, heard, NOW, 1, 0).map(|r| r.reason),
         Ok(0)
     );
     vec![
@@ -168,6 +225,7 @@ fn compose(name: &str, list: &'static [u8], values: Vec<u64>, marks: Vec<u8>) ->
         move |out| {
             proved::compose(
                 black_box(list),
+                one(),
                 black_box(1),
                 black_box(values),
                 black_box(marks),
@@ -177,6 +235,7 @@ fn compose(name: &str, list: &'static [u8], values: Vec<u64>, marks: Vec<u8>) ->
         move |out| {
             rust::compose(
                 black_box(list),
+                one(),
                 black_box(1),
                 black_box(values),
                 black_box(marks),
@@ -191,7 +250,7 @@ fn wide() -> [Case; 3] {
     let list = leak(lists::wide());
     let values = lists::wide_values();
     let mut telegram = vec![0; 128];
-    let composed = reference::compose(list, 1, &values, &[], &mut telegram);
+    let composed = reference::compose(list, Form::One, 1, &values, &[], &mut telegram);
     composed.expect("the telegram of wide fields is composed");
     let store = leak(lists::store(&telegram));
     [
@@ -338,21 +397,40 @@ fn write_fields(width: usize) -> Case {
 
 /// The two sides refuse alike, too: a wrong layout of an answer does not go unnoticed.
 pub fn refused_alike() {
-    let list = lists::list(8, 5_000);
+    refused_alike_in(Form::One, lists::list(8, 5_000));
+    refused_alike_in(Form::Two, lists::list_in_form_2(8, 5_000));
+}
+
+fn refused_alike_in(form: Form, list: Vec<u8>) {
     for cut in 0..list.len() {
         let short = &list[..cut];
-        assert_eq!(proved::judge(short).said(), reference::judge(short));
         assert_eq!(
-            proved::extends(&list, short).said(),
-            reference::extends(&list, short)
+            proved::judge(short, form).said(),
+            reference::judge(short, form)
         );
         assert_eq!(
-            proved::read(short, &[], 0, 0, 0).said(),
-            reference::read(short, &[], 0, 0, 0)
+            proved::extends(&list, form, short, form).said(),
+            reference::extends(&list, form, short, form)
         );
         assert_eq!(
-            proved::marshal(short, &[], 0, &mut []).said(),
-            reference::marshal(short, &[], 0, &mut [])
+            proved::read(short, form, &[], 0, 0, 0).said(),
+            reference::read(short, form, &[], 0, 0, 0)
+        );
+        assert_eq!(
+            proved::marshal(short, form, &[], 0, &mut []).said(),
+            reference::marshal(short, form, &[], 0, &mut [])
+        );
+        assert_eq!(
+            proved::serial(short, form, 0).said(),
+            reference::serial(short, form, 0)
+        );
+        assert_eq!(
+            proved::to_form_2(short, &mut []).said(),
+            reference::to_form_2(short, &mut [])
+        );
+        assert_eq!(
+            proved::to_form_1(short, &mut []).said(),
+            reference::to_form_1(short, &mut [])
         );
         assert_eq!(proved::e_read(short).said(), reference::e_read(short));
         assert_eq!(
@@ -396,6 +474,7 @@ pub fn all() -> Vec<Case> {
         resolve("resolve 63 vehicles, all", 66),
     ]);
     cases.push(check_place(583));
+    cases.extend(forms());
     cases.extend(wide());
     for width in [1, 4, 8, 16, 48, 49, 63, 64] {
         cases.extend([read_fields(width), write_fields(width)]);

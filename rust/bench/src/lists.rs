@@ -3,6 +3,8 @@
 //! The bits of a telegram are laid out in units of 14: a check, then signals of 2, 3, 3 and 4 bits that name it. The longest list has 64
 //! units, 21 of them in the octets that every type carries and 43 in those of R1, so that an R1 carries all its 256 signals.
 
+use reference::{Form, SERIAL_SIZE};
+
 /// The stamp of every slot, and the clock at which signals are read: within every time limit.
 pub const STAMP: u32 = 1_000;
 pub const NOW: u32 = 4_000;
@@ -43,6 +45,14 @@ pub fn list(units: usize, limit: u32) -> Vec<u8> {
     put16(&mut list, 8 * units);
     routes(&mut list, units);
     list
+}
+
+/// As [`list`], in form 2 and with no serial number.
+pub fn list_in_form_2(units: usize, limit: u32) -> Vec<u8> {
+    let list = list(units, limit);
+    let mut out = vec![0; list.len() + 4 * units * SERIAL_SIZE];
+    reference::to_form_2(&list, &mut out).expect("the list of the bench is moved");
+    out
 }
 
 fn signal(list: &mut Vec<u8>, units: usize, number: usize, limit: u32) {
@@ -144,7 +154,14 @@ pub fn marks(units: usize) -> Vec<u8> {
 pub fn telegram() -> Vec<u8> {
     let mut out = vec![0; 128];
     let list = list(MOST_UNITS, 5_000);
-    let composed = reference::compose(&list, 1, &values(MOST_UNITS), &marks(MOST_UNITS), &mut out);
+    let composed = reference::compose(
+        &list,
+        Form::One,
+        1,
+        &values(MOST_UNITS),
+        &marks(MOST_UNITS),
+        &mut out,
+    );
     composed.expect("the telegram of the bench is composed");
     out
 }

@@ -6,6 +6,7 @@ use crate::lists::{self, NOW};
 use crate::measure::{self, Times};
 use crate::proved::{self, Said};
 use crate::{head, time};
+use reference::Form;
 use std::hint::black_box;
 
 /// A library of the history: two of its calls, and its lookup under the octets of an accepted list from the codes' count on.
@@ -142,7 +143,7 @@ fn alike(lists: usize, reads: usize) -> (usize, usize) {
     let (mut looked_up, mut read) = (0, 0);
     for _ in 0..lists {
         let list = any(&mut random);
-        let counts = reference::judge(&list.octets);
+        let counts = reference::judge(&list.octets, Form::One);
         assert_eq!(
             counts.as_ref().map(|n| n.codes),
             Ok(list.entries),
@@ -166,7 +167,7 @@ fn alike(lists: usize, reads: usize) -> (usize, usize) {
                 .collect();
             let store = lists::store(&telegram(&codes));
             for signal in 0..list.signals as u64 {
-                let answer = reference::read(&list.octets, &store, NOW, 63, signal);
+                let answer = reference::read(&list.octets, Form::One, &store, NOW, 63, signal);
                 assert_eq!(
                     linear::read(&list.octets, &store, NOW, 63, signal).said(),
                     answer
@@ -176,7 +177,7 @@ fn alike(lists: usize, reads: usize) -> (usize, usize) {
                     answer
                 );
                 assert_eq!(
-                    proved::read(&list.octets, &store, NOW, 63, signal).said(),
+                    proved::read(&list.octets, Form::One, &store, NOW, 63, signal).said(),
                     answer
                 );
                 read += 1;
@@ -192,6 +193,15 @@ fn repeated<T>(call: impl Fn() -> T + 'static) -> Run {
             black_box(call());
         }
     })
+}
+
+/// Today's calls, which are told a form besides.
+fn judge(list: &[u8]) -> proved::Judged {
+    proved::judge(list, black_box(Form::One))
+}
+
+fn read(list: &[u8], store: &[u8], now: u32, vehicle: u64, signal: u64) -> proved::Read {
+    proved::read(list, black_box(Form::One), store, now, vehicle, signal)
 }
 
 fn judging(judge: fn(&[u8]) -> proved::Judged, list: &'static Coded) -> Run {
@@ -247,10 +257,10 @@ fn row(list: &'static Coded, code: u16) -> Row {
         looking_up(halving::known, list, code),
         reading(linear::read, list, store),
         reading(halving::read, list, store),
-        reading(proved::read, list, store),
+        reading(read, list, store),
         judging(linear::judge, list),
         judging(halving::judge, list),
-        judging(proved::judge, list),
+        judging(judge, list),
     ];
     let [l, h, rl, rh, rt, jl, jh, jt] =
         measure::each(sides.each_mut(), 1).map(|of: Times| of.median);

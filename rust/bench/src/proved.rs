@@ -1,7 +1,7 @@
 //! The proved library, as its module lays out the calls: an answer of more than 16 octets is written where the first word points. On
 //! x86-64 that is what C does with such an answer; on other machines it is not, so it is said here.
 
-use reference::{Counts, EReading, Extends, Members, Reading, Refusal};
+use reference::{Counts, EReading, Extends, Form, Members, Reading, Refusal};
 use std::mem::MaybeUninit;
 
 #[repr(C)]
@@ -27,6 +27,13 @@ pub struct Extending {
     which: u32,
     carried: u64,
     extends: u32,
+}
+
+#[repr(C)]
+pub struct Serial {
+    refusal: u32,
+    carried: u64,
+    serial: u64,
 }
 
 #[repr(C)]
@@ -68,13 +75,26 @@ pub struct ERead {
 pub type To<T> = *mut MaybeUninit<T>;
 
 extern "C" {
-    fn df_judge(to: To<Judged>, list: *const u8, list_len: usize);
-    fn df_extends(to: To<Extending>, a: *const u8, a_len: usize, b: *const u8, b_len: usize);
+    fn df_judge(to: To<Judged>, list: *const u8, list_len: usize, form: u8);
+    #[rustfmt::skip]
+    fn df_extends(
+        to: To<Extending>,
+        a: *const u8,
+        a_len: usize,
+        form: u8,
+        b: *const u8,
+        b_len: usize,
+        other: u8,
+    );
+    fn df_serial(to: To<Serial>, list: *const u8, list_len: usize, form: u8, signal: u64);
+    fn df_to_form_2(list: *const u8, list_len: usize, out: *mut u8, out_len: usize) -> Outcome;
+    fn df_to_form_1(list: *const u8, list_len: usize, out: *mut u8, out_len: usize) -> Outcome;
     #[rustfmt::skip]
     fn df_read(
         to: To<Read>,
         list: *const u8,
         list_len: usize,
+        form: u8,
         store: *const u8,
         store_len: usize,
         clock: u32,
@@ -86,6 +106,7 @@ extern "C" {
         to: To<Marshalled>,
         list: *const u8,
         list_len: usize,
+        form: u8,
         store: *const u8,
         store_len: usize,
         clock: u32,
@@ -96,6 +117,7 @@ extern "C" {
     fn df_compose(
         list: *const u8,
         list_len: usize,
+        form: u8,
         kind: u64,
         values: *const u64,
         values_len: usize,
@@ -133,23 +155,40 @@ pub fn answer<T>(call: impl FnOnce(To<T>)) -> T {
 }
 
 #[inline(always)]
-pub fn judge(list: &[u8]) -> Judged {
-    answer(|to| unsafe { df_judge(to, list.as_ptr(), list.len()) })
+pub fn judge(list: &[u8], form: Form) -> Judged {
+    answer(|to| unsafe { df_judge(to, list.as_ptr(), list.len(), form as u8) })
 }
 
 #[inline(always)]
-pub fn extends(a: &[u8], b: &[u8]) -> Extending {
-    answer(|to| unsafe { df_extends(to, a.as_ptr(), a.len(), b.as_ptr(), b.len()) })
+pub fn extends(a: &[u8], form: Form, b: &[u8], other: Form) -> Extending {
+    let (form, other) = (form as u8, other as u8);
+    answer(|to| unsafe { df_extends(to, a.as_ptr(), a.len(), form, b.as_ptr(), b.len(), other) })
 }
 
 #[inline(always)]
-pub fn read(list: &[u8], store: &[u8], now: u32, vehicle: u64, signal: u64) -> Read {
+pub fn serial(list: &[u8], form: Form, signal: u64) -> Serial {
+    answer(|to| unsafe { df_serial(to, list.as_ptr(), list.len(), form as u8, signal) })
+}
+
+#[inline(always)]
+pub fn to_form_2(list: &[u8], out: &mut [u8]) -> Outcome {
+    unsafe { df_to_form_2(list.as_ptr(), list.len(), out.as_mut_ptr(), out.len()) }
+}
+
+#[inline(always)]
+pub fn to_form_1(list: &[u8], out: &mut [u8]) -> Outcome {
+    unsafe { df_to_form_1(list.as_ptr(), list.len(), out.as_mut_ptr(), out.len()) }
+}
+
+#[inline(always)]
+pub fn read(list: &[u8], form: Form, store: &[u8], now: u32, vehicle: u64, signal: u64) -> Read {
     let (octets, slots) = (list.as_ptr(), store.as_ptr());
     answer(|to| unsafe {
         df_read(
             to,
             octets,
             list.len(),
+            form as u8,
             slots,
             store.len(),
             now,
@@ -160,13 +199,14 @@ pub fn read(list: &[u8], store: &[u8], now: u32, vehicle: u64, signal: u64) -> R
 }
 
 #[inline(always)]
-pub fn marshal(list: &[u8], store: &[u8], now: u32, data: &mut [u8]) -> Marshalled {
+pub fn marshal(list: &[u8], form: Form, store: &[u8], now: u32, data: &mut [u8]) -> Marshalled {
     let (octets, slots, fields) = (list.as_ptr(), store.as_ptr(), data.as_mut_ptr());
     answer(|to| unsafe {
         df_marshal(
             to,
             octets,
             list.len(),
+            form as u8,
             slots,
             store.len(),
             now,
@@ -177,11 +217,19 @@ pub fn marshal(list: &[u8], store: &[u8], now: u32, data: &mut [u8]) -> Marshall
 }
 
 #[inline(always)]
-pub fn compose(list: &[u8], kind: u64, values: &[u64], marks: &[u8], out: &mut [u8]) -> Outcome {
+pub fn compose(
+    list: &[u8],
+    form: Form,
+    kind: u64,
+    values: &[u64],
+    marks: &[u8],
+    out: &mut [u8],
+) -> Outcome {
     unsafe {
         df_compose(
             list.as_ptr(),
             list.len(),
+            form as u8,
             kind,
             values.as_ptr(),
             values.len(),
@@ -275,6 +323,13 @@ impl Said for Extending {
             Err(refusal) if self.which == 1 => Extends::First(refusal),
             Err(refusal) => Extends::Second(refusal),
         }
+    }
+}
+
+impl Said for Serial {
+    type As = Result<u16, Refusal>;
+    fn said(self) -> Self::As {
+        unless_refused(self.refusal, self.carried, self.serial as u16)
     }
 }
 

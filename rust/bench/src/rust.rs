@@ -1,42 +1,65 @@
 //! The independent implementation, each function a call as the proved one is, whose archive is never inlined into the bench.
 
-use reference::{Counts, EReading, Extends, Members, Reading, Refusal};
+use reference::{Counts, EReading, Extends, Form, Members, Reading, Refusal};
 
 #[inline(never)]
-pub fn judge(list: &[u8]) -> Result<Counts, Refusal> {
-    reference::judge(list)
+pub fn judge(list: &[u8], form: Form) -> Result<Counts, Refusal> {
+    reference::judge(list, form)
 }
 
 #[inline(never)]
-pub fn extends(a: &[u8], b: &[u8]) -> Extends {
-    reference::extends(a, b)
+pub fn extends(a: &[u8], form: Form, b: &[u8], other: Form) -> Extends {
+    reference::extends(a, form, b, other)
+}
+
+#[inline(never)]
+pub fn serial(list: &[u8], form: Form, signal: u64) -> Result<u16, Refusal> {
+    reference::serial(list, form, signal)
+}
+
+#[inline(never)]
+pub fn to_form_2(list: &[u8], out: &mut [u8]) -> Result<(), Refusal> {
+    reference::to_form_2(list, out)
+}
+
+#[inline(never)]
+pub fn to_form_1(list: &[u8], out: &mut [u8]) -> Result<(), Refusal> {
+    reference::to_form_1(list, out)
 }
 
 #[inline(never)]
 pub fn read(
     list: &[u8],
+    form: Form,
     store: &[u8],
     now: u32,
     vehicle: u64,
     signal: u64,
 ) -> Result<Reading, Refusal> {
-    reference::read(list, store, now, vehicle, signal)
+    reference::read(list, form, store, now, vehicle, signal)
 }
 
 #[inline(never)]
-pub fn marshal(list: &[u8], store: &[u8], now: u32, data: &mut [u8]) -> Result<u64, Refusal> {
-    reference::marshal(list, store, now, data)
+pub fn marshal(
+    list: &[u8],
+    form: Form,
+    store: &[u8],
+    now: u32,
+    data: &mut [u8],
+) -> Result<u64, Refusal> {
+    reference::marshal(list, form, store, now, data)
 }
 
 #[inline(never)]
 pub fn compose(
     list: &[u8],
+    form: Form,
     kind: u64,
     values: &[u64],
     marks: &[u8],
     out: &mut [u8],
 ) -> Result<(), Refusal> {
-    reference::compose(list, kind, values, marks, out)
+    reference::compose(list, form, kind, values, marks, out)
 }
 
 #[inline(never)]

@@ -2,12 +2,17 @@
 
 use std::fmt;
 
+use crate::list::List;
+
 #[derive(Debug, Clone, Copy, PartialEq, Eq, PartialOrd, Ord)]
 pub enum Call {
     Judge,
     Extends,
     SignalEntry,
     FindSignal,
+    Serial,
+    ToForm2,
+    ToForm1,
     CheckPlace,
     Take,
     Sweep,
@@ -21,20 +26,20 @@ pub enum Call {
 }
 
 /// The parameters of a call: its areas of octets in order, which of them is written, and its numbers in order.
-pub struct Form {
+pub struct Parameters {
     pub name: &'static str,
     pub areas: &'static [&'static str],
     pub written: Option<usize>,
     pub numbers: &'static [&'static str],
 }
 
-const fn form(
+const fn takes(
     name: &'static str,
     areas: &'static [&'static str],
     written: Option<usize>,
     numbers: &'static [&'static str],
-) -> Form {
-    Form {
+) -> Parameters {
+    Parameters {
         name,
         areas,
         written,
@@ -43,11 +48,14 @@ const fn form(
 }
 
 impl Call {
-    pub const ALL: [Call; 14] = [
+    pub const ALL: [Call; 17] = [
         Call::Judge,
         Call::Extends,
         Call::SignalEntry,
         Call::FindSignal,
+        Call::Serial,
+        Call::ToForm2,
+        Call::ToForm1,
         Call::CheckPlace,
         Call::Take,
         Call::Sweep,
@@ -61,22 +69,25 @@ impl Call {
     ];
 
     #[rustfmt::skip]
-    pub fn form(self) -> Form {
+    pub fn parameters(self) -> Parameters {
         match self {
-            Call::Judge => form("judge", &["list"], None, &[]),
-            Call::Extends => form("extends", &["list A", "list B"], None, &[]),
-            Call::SignalEntry => form("signal_entry", &["list"], None, &["signal"]),
-            Call::FindSignal => form("find_signal", &["list"], None, &["type", "start"]),
-            Call::CheckPlace => form("check_place", &[], None, &["bit"]),
-            Call::Take => form("take", &["store", "telegram"], Some(0), &["vehicle", "clock"]),
-            Call::Sweep => form("sweep", &["store"], Some(0), &["clock"]),
-            Call::Read => form("read", &["list", "store"], None, &["clock", "vehicle", "signal"]),
-            Call::Marshal => form("marshal", &["list", "store", "data"], Some(2), &["clock"]),
-            Call::Compose => form("compose", &["list", "marks", "out"], Some(2), &["type"]),
-            Call::Show => form("show", &[], None, &["kind", "width", "raw"]),
-            Call::Resolve => form("resolve", &["marks"], None, &["address"]),
-            Call::ERead => form("e_read", &["telegram"], None, &[]),
-            Call::EAnswer => form("e_answer", &["telegram", "head", "out"], Some(2), &["status"]),
+            Call::Judge => takes("judge", &["list"], None, &["form"]),
+            Call::Extends => takes("extends", &["list A", "list B"], None, &["form A", "form B"]),
+            Call::SignalEntry => takes("signal_entry", &["list"], None, &["form", "signal"]),
+            Call::FindSignal => takes("find_signal", &["list"], None, &["form", "type", "start"]),
+            Call::Serial => takes("serial", &["list"], None, &["form", "signal"]),
+            Call::ToForm2 => takes("to_form_2", &["list", "out"], Some(1), &[]),
+            Call::ToForm1 => takes("to_form_1", &["list", "out"], Some(1), &[]),
+            Call::CheckPlace => takes("check_place", &[], None, &["bit"]),
+            Call::Take => takes("take", &["store", "telegram"], Some(0), &["vehicle", "clock"]),
+            Call::Sweep => takes("sweep", &["store"], Some(0), &["clock"]),
+            Call::Read => takes("read", &["list", "store"], None, &["form", "clock", "vehicle", "signal"]),
+            Call::Marshal => takes("marshal", &["list", "store", "data"], Some(2), &["form", "clock"]),
+            Call::Compose => takes("compose", &["list", "marks", "out"], Some(2), &["form", "type"]),
+            Call::Show => takes("show", &[], None, &["kind", "width", "raw"]),
+            Call::Resolve => takes("resolve", &["marks"], None, &["address"]),
+            Call::ERead => takes("e_read", &["telegram"], None, &[]),
+            Call::EAnswer => takes("e_answer", &["telegram", "head", "out"], Some(2), &["status"]),
         }
     }
 }
@@ -84,11 +95,11 @@ impl Call {
 #[derive(Debug, Clone, PartialEq)]
 pub struct Case {
     pub call: Call,
-    /// The areas of octets, in the order of the form.
+    /// The areas of octets, in the order of the parameters.
     pub areas: Vec<Vec<u8>>,
     /// The values to compose; no other call has any.
     pub values: Vec<u64>,
-    /// The numbers, in the order of the form.
+    /// The numbers, in the order of the parameters.
     pub numbers: Vec<u64>,
 }
 
@@ -100,6 +111,23 @@ impl Case {
             values: Vec::new(),
             numbers,
         }
+    }
+
+    /// The number that says the form of the list in an area: the forms of a call's lists are its first numbers.
+    pub fn form_at(&self, area: usize) -> u64 {
+        match self.call {
+            Call::ToForm2 => 1,
+            Call::ToForm1 => 2,
+            _ => self.numbers[area],
+        }
+    }
+
+    /// What stands in an area, if it is a list with all its entries.
+    pub fn list_at(&self, area: usize) -> Option<List> {
+        let is_list = self.call.parameters().areas[area].starts_with("list");
+        is_list
+            .then(|| List::of(&self.areas[area], self.form_at(area)))
+            .flatten()
     }
 
     /// A measure of what there is to look at: lengths, and bits that are set.
@@ -121,15 +149,15 @@ impl Case {
 
 impl fmt::Display for Case {
     fn fmt(&self, f: &mut fmt::Formatter) -> fmt::Result {
-        let form = self.call.form();
-        writeln!(f, "{}", form.name)?;
-        for (name, area) in form.areas.iter().zip(&self.areas) {
+        let takes = self.call.parameters();
+        writeln!(f, "{}", takes.name)?;
+        for (name, area) in takes.areas.iter().zip(&self.areas) {
             writeln!(f, "  {name}, {} octets:{}", area.len(), Hex(area))?;
         }
         if self.call == Call::Compose {
             writeln!(f, "  {} values: {:X?}", self.values.len(), self.values)?;
         }
-        for (name, number) in form.numbers.iter().zip(&self.numbers) {
+        for (name, number) in takes.numbers.iter().zip(&self.numbers) {
             writeln!(f, "  {name} {number}")?;
         }
         Ok(())

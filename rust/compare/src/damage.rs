@@ -1,18 +1,26 @@
 //! Lists that are damaged at one place, cut, extended, or no lists at all. Some of the damage does no harm.
 
-use crate::list::{List, Signal, MOST, SIZE};
+use crate::list::{sizes, List, Signal, MOST};
 use crate::make;
 use crate::random::Random;
 
-/// A list to be judged: good, damaged, or random octets.
-pub fn any_list(r: &Random) -> Vec<u8> {
-    match r.below(16) {
+/// A list to be judged, good, damaged, or random octets, and the form that is said with it.
+pub fn any_list(r: &Random) -> (Vec<u8>, u64) {
+    let list = make::list(r);
+    let form = said_form(r, &list);
+    let octets = match r.below(16) {
         0 => random_list(r),
-        1..=8 => {
-            let list = make::list(r);
-            damaged(r, list)
-        }
-        _ => make::list(r).octets(),
+        1..=8 => damaged(r, list),
+        _ => list.octets(),
+    };
+    (octets, form)
+}
+
+/// The form that is said with a list: mostly its own; at times any, so that a list of one form is taken in the other.
+pub fn said_form(r: &Random, list: &List) -> u64 {
+    match r.below(20) {
+        0 => make::form(r),
+        _ => list.form,
     }
 }
 
@@ -43,7 +51,7 @@ pub fn damaged(r: &Random, mut list: List) -> Vec<u8> {
         1 => damage_count(r, &list),
         2 => {
             let mut octets = list.octets();
-            octets.truncate(r.index(octets.len()));
+            octets.truncate(cut(r, &list, octets.len()));
             octets
         }
         3 => {
@@ -56,6 +64,18 @@ pub fn damaged(r: &Random, mut list: List) -> Vec<u8> {
             damage_entry(r, &mut list);
             list.octets()
         }
+    }
+}
+
+/// Where a list is cut: anywhere, or inside or beside what stands last in a signal entry, in form 2 the serial number.
+fn cut(r: &Random, list: &List, len: usize) -> usize {
+    let size = sizes(list.form)[1];
+    match list.signals.len() {
+        signals if signals > 0 && r.one_in(3) => {
+            let entry = 2 + 2 * list.checks.len() + 2 + size * r.index(signals);
+            entry + size - r.index(4)
+        }
+        _ => r.index(len),
     }
 }
 
@@ -83,7 +103,9 @@ fn damage_count(r: &Random, list: &List) -> Vec<u8> {
         list.routes.len(),
     ];
     let section = r.index(4);
-    let at: usize = (0..section).map(|i| 2 + SIZE[i] * counts[i]).sum();
+    let at: usize = (0..section)
+        .map(|i| 2 + sizes(list.form)[i] * counts[i])
+        .sum();
     let count = counts[section] as u64;
     let most = MOST[section] as u64;
     let count = r.of(&[

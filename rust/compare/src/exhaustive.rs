@@ -1,5 +1,7 @@
 //! Inputs that are few enough to try them all.
 
+use std::ops::Range;
+
 use crate::case::{Call, Case};
 use crate::generate::REQUESTS;
 use crate::list::{List, Route, Signal};
@@ -30,6 +32,9 @@ pub fn each(mut try_one: impl FnMut(Case)) {
     e_telegrams(&mut try_one);
     telegrams(&mut try_one);
     lists(&mut try_one);
+    forms(&mut try_one);
+    wide_lists(&mut try_one);
+    moves(&mut try_one);
     signals(&mut try_one);
     readings(&mut try_one);
     sweeps(&mut try_one);
@@ -124,19 +129,126 @@ fn telegrams(try_one: &mut impl FnMut(Case)) {
 /// The list L with every octet set to every value, and every head of it.
 fn lists(try_one: &mut impl FnMut(Case)) {
     for at in 0..L.len() {
-        try_one(Case::new(Call::Judge, vec![L[..at].to_vec()], vec![]));
+        try_one(Case::new(Call::Judge, vec![L[..at].to_vec()], vec![1]));
         for octet in 0..=255 {
             let mut list = L.to_vec();
             list[at] = octet;
-            try_one(Case::new(Call::Judge, vec![list.clone()], vec![]));
-            try_one(Case::new(Call::Extends, vec![L.to_vec(), list], vec![]));
+            try_one(Case::new(Call::Judge, vec![list.clone()], vec![1]));
+            try_one(Case::new(Call::Extends, vec![L.to_vec(), list], vec![1, 1]));
         }
+    }
+}
+
+/// Where the serial number of L stands in form 2.
+const SERIAL: Range<usize> = 22..24;
+
+/// L in form 2, with a serial number.
+fn wide_l(serial: u16) -> Vec<u8> {
+    let (before, behind) = L.split_at(SERIAL.start);
+    [before, &serial.to_be_bytes(), behind].concat()
+}
+
+/// Every number for a form, said with L in either form, in every call that takes one.
+fn forms(try_one: &mut impl FnMut(Case)) {
+    for form in 0..=255 {
+        for list in [L.to_vec(), wide_l(0x40C0)] {
+            let mut ask = |call, more: Vec<Vec<u8>>, numbers: &[u64]| {
+                let areas = [vec![list.clone()], more].concat();
+                let values = if call == Call::Compose {
+                    vec![4]
+                } else {
+                    vec![]
+                };
+                let numbers = [&[form], numbers].concat();
+                try_one(Case {
+                    values,
+                    ..Case::new(call, areas, numbers)
+                });
+            };
+            let store = vec![0; STORE];
+            ask(Call::Judge, vec![], &[]);
+            ask(Call::SignalEntry, vec![], &[0]);
+            ask(Call::FindSignal, vec![], &[1, 424]);
+            ask(Call::Serial, vec![], &[0]);
+            ask(Call::Extends, vec![L.to_vec()], &[1]);
+            ask(Call::Extends, vec![wide_l(1)], &[2]);
+            ask(Call::Read, vec![store.clone()], &[0, 1, 0]);
+            ask(Call::Marshal, vec![store, vec![0xAB]], &[0]);
+            ask(Call::Compose, vec![vec![1], vec![0xEE; TELEGRAM]], &[1]);
+            let areas = vec![L.to_vec(), list];
+            try_one(Case::new(Call::Extends, areas, vec![1, form]));
+        }
+    }
+}
+
+/// L in form 2 with every octet set to every value, and every head of it.
+fn wide_lists(try_one: &mut impl FnMut(Case)) {
+    let wide = wide_l(0);
+    let mut ask = |list: &[u8]| {
+        let list = list.to_vec();
+        for form in [1, 2] {
+            try_one(Case::new(Call::Judge, vec![list.clone()], vec![form]));
+        }
+        let areas = vec![L.to_vec(), list.clone()];
+        try_one(Case::new(Call::Extends, areas, vec![1, 2]));
+        try_one(Case::new(Call::Serial, vec![list.clone()], vec![2, 0]));
+        let areas = vec![list, vec![0xEE; L.len()]];
+        try_one(Case::new(Call::ToForm1, areas, vec![]));
+    };
+    for at in 0..wide.len() {
+        ask(&wide[..at]);
+        for octet in 0..=255 {
+            let mut list = wide.clone();
+            list[at] = octet;
+            ask(&list);
+        }
+    }
+}
+
+/// Moves of L into outputs of every length, of every octet of it changed, and of most signals with one serial number set.
+fn moves(try_one: &mut impl FnMut(Case)) {
+    let mut ask = |call, list: &[u8], len: usize| {
+        let areas = vec![list.to_vec(), vec![0xEE; len]];
+        try_one(Case::new(call, areas, vec![]));
+    };
+    let wide = L.len() + SERIAL.len();
+    for len in 0..=2 * L.len() {
+        ask(Call::ToForm2, &L, len);
+        ask(Call::ToForm1, &wide_l(0), len);
+        ask(Call::ToForm1, &wide_l(1), len);
+    }
+    for at in 0..L.len() {
+        ask(Call::ToForm2, &L[..at], wide);
+        for octet in 0..=255 {
+            let mut list = L.to_vec();
+            list[at] = octet;
+            ask(Call::ToForm2, &list, wide);
+        }
+    }
+    let mut list = most_signals();
+    let plain = list.octets().len();
+    list.form = 2;
+    let wide = list.octets().len();
+    for len in [plain - 1, plain, plain + 1, wide] {
+        ask(Call::ToForm1, &list.octets(), len);
+    }
+    for at in 0..list.signals.len() {
+        for serial in [1, 0x100] {
+            list.signals[at].serial = serial;
+            ask(Call::ToForm1, &list.octets(), plain);
+        }
+        list.signals[at].serial = 0;
+    }
+    list.form = 1;
+    for len in [plain, wide - 1, wide, wide + 1] {
+        ask(Call::ToForm2, &list.octets(), len);
     }
 }
 
 /// 64 checks and 256 signals of all types, of which every fifth has no check; no two entries are alike.
 fn most_signals() -> List {
     let mut list = List {
+        form: 1,
         checks: (0..32).flat_map(|i| [16 + 2 * i, 320 + 2 * i]).collect(),
         ..List::default()
     };
@@ -153,29 +265,44 @@ fn most_signals() -> List {
             since: 1 + i,
             limit: 1_000 * i + kind,
             replacement: i % 8,
+            serial: 0,
         }));
     }
     list
 }
 
-/// Every number, and every type with every start, of L and of a list with as many signals as there can be.
+/// As many signals, in form 2, no two with the same serial number.
+fn most_serials() -> List {
+    let mut list = most_signals();
+    list.form = 2;
+    for (number, s) in (0..).zip(&mut list.signals) {
+        s.serial = 257 * number;
+    }
+    list
+}
+
+/// Every number, and every type with every start, of L and of lists with as many signals as there can be.
 fn signals(try_one: &mut impl FnMut(Case)) {
-    for list in [L.to_vec(), most_signals().octets()] {
+    let lists = [
+        (1, L.to_vec()),
+        (1, most_signals().octets()),
+        (2, most_serials().octets()),
+    ];
+    for (form, list) in lists {
         for signal in (0..=300).chain(large()) {
-            try_one(Case::new(
-                Call::SignalEntry,
-                vec![list.clone()],
-                vec![signal],
-            ));
+            for call in [Call::SignalEntry, Call::Serial] {
+                try_one(Case::new(call, vec![list.clone()], vec![form, signal]));
+            }
         }
         for kind in 0..=3 {
             for start in 0..=1_100 {
-                let numbers = vec![kind, start];
+                let numbers = vec![form, kind, start];
                 try_one(Case::new(Call::FindSignal, vec![list.clone()], numbers));
             }
         }
         for far in large() {
-            for numbers in [vec![far, 424], vec![1, far], vec![far, far]] {
+            for (kind, start) in [(far, 424), (1, far), (far, far)] {
+                let numbers = vec![form, kind, start];
                 try_one(Case::new(Call::FindSignal, vec![list.clone()], numbers));
             }
         }
@@ -194,7 +321,7 @@ fn readings(try_one: &mut impl FnMut(Case)) {
         try_one(Case::new(
             Call::Read,
             vec![L.to_vec(), store],
-            vec![clock, 1, 0],
+            vec![1, clock, 1, 0],
         ));
     };
     for any in 0..=255 {
@@ -257,9 +384,11 @@ fn one_signal(kind: u64, start: u64, width: u64, to: u64) -> List {
         since: 1,
         limit: 0,
         replacement: 0,
+        serial: 0,
     };
     signal.replacement = 0xA1B2_C3D4_E5F6 & signal.top_replacement();
     List {
+        form: 1,
         signals: vec![signal],
         routes: vec![Route {
             signal: 0,
@@ -277,7 +406,7 @@ fn widths(try_one: &mut impl FnMut(Case)) {
         for bit in 0..8 {
             let list = one_signal(1, 424 + bit, width, (bit + 3) % 8);
             let top = list.signals[0].top();
-            try_one(Case::new(Call::Judge, vec![list.octets()], vec![]));
+            try_one(Case::new(Call::Judge, vec![list.octets()], vec![1]));
             for power in [top, top.wrapping_add(1), 1 << 47, 1 << 48, 1 << 49, 1 << 63] {
                 for value in [power, power.wrapping_sub(1)] {
                     wide_field(try_one, &list, value);
@@ -295,7 +424,7 @@ fn wide_field(try_one: &mut impl FnMut(Case), list: &List, value: u64) {
         ..Case::new(
             Call::Compose,
             vec![octets.clone(), vec![], vec![0xEE; TELEGRAM]],
-            vec![1],
+            vec![1, 1],
         )
     });
     let (start, width) = (list.signals[0].start, list.signals[0].width);
@@ -306,11 +435,11 @@ fn wide_field(try_one: &mut impl FnMut(Case), list: &List, value: u64) {
         let mut store = vec![0; STORE];
         plant(&mut store, 1, heard, 0, &telegram);
         let areas = vec![octets.clone(), store];
-        try_one(Case::new(Call::Read, areas.clone(), vec![0, 1, 0]));
+        try_one(Case::new(Call::Read, areas.clone(), vec![1, 0, 1, 0]));
         let end = (list.routes[0].start + width).div_ceil(8) as usize;
         for len in [end, end.saturating_sub(1), end + 9] {
             let areas = [areas.clone(), vec![vec![!around; len]]].concat();
-            try_one(Case::new(Call::Marshal, areas, vec![0]));
+            try_one(Case::new(Call::Marshal, areas, vec![1, 0]));
         }
     }
 }
@@ -327,7 +456,7 @@ fn ends(try_one: &mut impl FnMut(Case)) {
                 }
             }
             for list in lists {
-                try_one(Case::new(Call::Judge, vec![list.octets()], vec![]));
+                try_one(Case::new(Call::Judge, vec![list.octets()], vec![1]));
                 wide_field(try_one, &list, list.signals[0].top());
             }
         }
@@ -338,10 +467,13 @@ fn ends(try_one: &mut impl FnMut(Case)) {
 mod tests {
     use super::*;
     use crate::list::MOST;
+    use reference::Form;
 
     #[test]
     fn the_list_with_most_signals_is_good() {
-        let counts = reference::judge(&most_signals().octets()).unwrap();
-        assert_eq!([counts.checks, counts.signals], [MOST[0], MOST[1]]);
+        for (list, form) in [(most_signals(), Form::One), (most_serials(), Form::Two)] {
+            let counts = reference::judge(&list.octets(), form).unwrap();
+            assert_eq!([counts.checks, counts.signals], [MOST[0], MOST[1]]);
+        }
     }
 }

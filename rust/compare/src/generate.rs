@@ -1,7 +1,7 @@
 //! Cases of every call.
 
 use crate::case::{Call, Case};
-use crate::damage::{any_list, mostly_good};
+use crate::damage::{any_list, mostly_good, said_form};
 use crate::list::List;
 use crate::random::Random;
 use crate::{make, pair, store};
@@ -15,13 +15,16 @@ pub const REQUESTS: [u16; 25] = [
 ];
 
 pub fn case(r: &Random) -> Case {
-    match r.below(100) {
-        0..=13 => Case::new(Call::Judge, vec![any_list(r)], vec![]),
+    match r.below(110) {
+        0..=13 => {
+            let (list, form) = any_list(r);
+            Case::new(Call::Judge, vec![list], vec![form])
+        }
         14..=16 => signal_entry(r),
         17..=19 => find_signal(r),
         20..=34 => {
-            let (a, b) = pair::pair(r);
-            Case::new(Call::Extends, vec![a, b], vec![])
+            let (lists, forms) = pair::pair(r);
+            Case::new(Call::Extends, lists, forms)
         }
         35..=37 => check_place(r),
         38..=43 => take(r),
@@ -32,7 +35,10 @@ pub fn case(r: &Random) -> Case {
         83..=85 => show(r),
         86..=91 => resolve(r),
         92..=94 => e_read(r),
-        _ => e_answer(r),
+        95..=99 => e_answer(r),
+        100..=102 => serial(r),
+        103..=105 => moved(r, Call::ToForm2, [1, 2]),
+        _ => moved(r, Call::ToForm1, [2, 1]),
     }
 }
 
@@ -50,7 +56,48 @@ fn signal(r: &Random, list: &List) -> u64 {
 fn signal_entry(r: &Random) -> Case {
     let list = make::list_with_signals(r);
     let number = signal(r, &list);
-    Case::new(Call::SignalEntry, vec![mostly_good(r, &list)], vec![number])
+    let numbers = vec![said_form(r, &list), number];
+    Case::new(Call::SignalEntry, vec![mostly_good(r, &list)], numbers)
+}
+
+fn serial(r: &Random) -> Case {
+    Case {
+        call: Call::Serial,
+        ..signal_entry(r)
+    }
+}
+
+/// A list to be moved from one form to the other, into an output of the needed length, or about so long.
+fn moved(r: &Random, call: Call, [from, to]: [u64; 2]) -> Case {
+    let mut list = match r.one_in(60) {
+        true => make::longest(r),
+        false => make::list(r),
+    };
+    make::lay_out(r, &mut list, from);
+    let needed = List {
+        form: to,
+        ..list.clone()
+    }
+    .octets()
+    .len();
+    let mut octets = mostly_good(r, &list);
+    if r.one_in(16) {
+        // A list that has the other form already.
+        list.form = to;
+        octets = list.octets();
+    }
+    let len = match r.below(4) {
+        0 => r.of(&[
+            needed + 1,
+            needed + 2,
+            needed - 1,
+            needed - 2,
+            octets.len(),
+            0,
+        ]),
+        _ => needed,
+    };
+    Case::new(call, vec![octets, r.octets(len)], vec![])
 }
 
 /// Mostly the type and start of a signal; else one of them is another, or both together are another signal's key.
@@ -58,15 +105,16 @@ fn find_signal(r: &Random) -> Case {
     let list = make::list_with_signals(r);
     let wanted = list.signals.get(signal(r, &list) as usize);
     let (kind, start) = wanted.map_or((r.below(3), r.below(1_024)), |s| (s.kind, s.start));
-    let numbers = match r.below(12) {
-        0 => vec![r.of(&[0, 1, 2, 3, 255, u64::MAX]), start],
-        1 => vec![r.beyond(kind), start],
-        2 => vec![kind, r.near(start)],
-        3 => vec![kind, r.beyond(start)],
-        4 => vec![kind.saturating_sub(1), start + 1_024],
-        5 => vec![r.below(4), r.below(1_100)],
-        _ => vec![kind, start],
+    let key = match r.below(12) {
+        0 => [r.of(&[0, 1, 2, 3, 255, u64::MAX]), start],
+        1 => [r.beyond(kind), start],
+        2 => [kind, r.near(start)],
+        3 => [kind, r.beyond(start)],
+        4 => [kind.saturating_sub(1), start + 1_024],
+        5 => [r.below(4), r.below(1_100)],
+        _ => [kind, start],
     };
+    let numbers = vec![said_form(r, &list), key[0], key[1]];
     Case::new(Call::FindSignal, vec![mostly_good(r, &list)], numbers)
 }
 
@@ -142,7 +190,8 @@ fn read(r: &Random) -> Case {
     let store = store::store(r, &list, now);
     let signal = signal(r, &list);
     let areas = vec![mostly_good(r, &list), any_store(r, store)];
-    Case::new(Call::Read, areas, vec![now.into(), vehicle(r), signal])
+    let numbers = vec![said_form(r, &list), now.into(), vehicle(r), signal];
+    Case::new(Call::Read, areas, numbers)
 }
 
 fn marshal(r: &Random) -> Case {
@@ -169,7 +218,7 @@ fn marshal(r: &Random) -> Case {
         _ => r.octets(len),
     };
     let areas = vec![mostly_good(r, &list), any_store(r, store), data];
-    Case::new(Call::Marshal, areas, vec![now.into()])
+    Case::new(Call::Marshal, areas, vec![said_form(r, &list), now.into()])
 }
 
 fn compose(r: &Random) -> Case {
@@ -188,7 +237,7 @@ fn compose(r: &Random) -> Case {
         ..Case::new(
             Call::Compose,
             vec![mostly_good(r, &list), marks, out],
-            vec![kind],
+            vec![said_form(r, &list), kind],
         )
     }
 }

@@ -1,6 +1,6 @@
 //! A signal list as numbers, good or not, and its octets.
 
-use reference::SIGNAL_SIZE;
+use reference::{Form, SIGNAL_SIZE};
 
 #[derive(Debug, Clone, Copy, PartialEq)]
 pub struct Signal {
@@ -11,6 +11,8 @@ pub struct Signal {
     pub since: u64,
     pub limit: u64,
     pub replacement: u64,
+    /// Written in form 2 alone; 0 for none.
+    pub serial: u64,
 }
 
 #[derive(Debug, Clone, Copy, PartialEq)]
@@ -30,6 +32,8 @@ pub struct Route {
 
 #[derive(Debug, Clone, Default, PartialEq)]
 pub struct List {
+    /// The number that says its form: 2, or any other for form 1.
+    pub form: u64,
     pub checks: Vec<u64>,
     pub signals: Vec<Signal>,
     pub codes: Vec<Code>,
@@ -38,14 +42,19 @@ pub struct List {
     pub more: Vec<u8>,
 }
 
-/// The most entries of the four sections, and the octets of an entry.
+/// The most entries of the four sections.
 pub const MOST: [usize; 4] = [64, 256, 512, 512];
-pub const SIZE: [usize; 4] = [2, SIGNAL_SIZE, 6, 6];
-/// The octets of the longest list: every section at its limit, each after a 2-octet count.
-pub const LONGEST: usize = {
-    let [checks, signals, codes, routes] = MOST;
-    4 * 2 + checks * SIZE[0] + signals * SIZE[1] + codes * SIZE[2] + routes * SIZE[3]
-};
+
+/// The octets of an entry of the four sections, in the form that a number says.
+pub const fn sizes(form: u64) -> [usize; 4] {
+    [2, Form::of(form).signal_size(), 6, 6]
+}
+
+/// The octets of the longest list of a form: every section at its limit, each after a 2-octet count.
+pub const fn longest(form: u64) -> usize {
+    let ([checks, signals, codes, routes], size) = (MOST, sizes(form));
+    4 * 2 + checks * size[0] + signals * size[1] + codes * size[2] + routes * size[3]
+}
 
 impl Signal {
     pub fn end(&self) -> u64 {
@@ -85,7 +94,7 @@ fn number(octets: &[u8]) -> u64 {
 
 impl List {
     pub fn octets(&self) -> Vec<u8> {
-        let mut list = Vec::with_capacity(LONGEST);
+        let mut list = Vec::with_capacity(longest(self.form));
         let mut put =
             |n: u64, octets: usize| list.extend_from_slice(&n.to_be_bytes()[8 - octets..]);
         put(self.checks.len() as u64, 2);
@@ -99,6 +108,7 @@ impl List {
             put(s.since, 1);
             put(s.limit, 4);
             put(s.replacement, 6);
+            put(s.serial, sizes(self.form)[1] - SIGNAL_SIZE);
         }
         put(self.codes.len() as u64, 2);
         for c in &self.codes {
@@ -117,11 +127,11 @@ impl List {
         list
     }
 
-    /// The list that has these octets, if all its entries are there. Nothing is judged.
-    pub fn of(octets: &[u8]) -> Option<List> {
+    /// The list that has these octets in a form, if all its entries are there. Nothing is judged.
+    pub fn of(octets: &[u8], form: u64) -> Option<List> {
         let mut rest = octets;
         let mut sections: [Vec<&[u8]>; 4] = Default::default();
-        for (section, size) in sections.iter_mut().zip(SIZE) {
+        for (section, size) in sections.iter_mut().zip(sizes(form)) {
             let (count, entries) = rest.split_at_checked(2)?;
             let (entries, behind) = entries.split_at_checked(number(count) as usize * size)?;
             *section = entries.chunks(size).collect();
@@ -129,6 +139,7 @@ impl List {
         }
         let [checks, signals, codes, routes] = &sections;
         Some(List {
+            form,
             checks: checks.iter().map(|e| number(e)).collect(),
             signals: signals.iter().map(|e| signal_of(e)).collect(),
             codes: codes.iter().map(|e| code_of(e)).collect(),
@@ -212,6 +223,7 @@ fn signal_of(e: &[u8]) -> Signal {
         since: number(&e[5..6]),
         limit: number(&e[6..10]),
         replacement: number(&e[10..16]),
+        serial: number(&e[SIGNAL_SIZE..]),
     }
 }
 
@@ -236,12 +248,19 @@ fn route_of(e: &[u8]) -> Route {
 mod tests {
     use super::*;
     use crate::{make, random::Random};
+    use reference::SERIAL_SIZE;
+
+    #[test]
+    fn form_2_is_longer_by_the_serial_numbers() {
+        assert_eq!(longest(2), 10_888);
+        assert_eq!(longest(1) + MOST[1] * SERIAL_SIZE, longest(2));
+    }
 
     #[test]
     fn a_list_is_what_its_octets_say() {
         for case in 0..2_000 {
             let list = make::list(&Random::of_case(1, case));
-            assert_eq!(List::of(&list.octets()), Some(list));
+            assert_eq!(List::of(&list.octets(), list.form), Some(list));
         }
     }
 }

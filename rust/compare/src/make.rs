@@ -13,13 +13,17 @@ struct Aim {
 const DENSE: usize = 60;
 
 impl Aim {
+    /// 256 fields of up to 4 bits beside 64 checks, two code ranges for each, 512 routes of up to 4 bits.
+    fn longest() -> Aim {
+        Aim {
+            entries: MOST,
+            widths: (2, 4),
+        }
+    }
+
     fn new(r: &Random) -> Aim {
-        if r.one_in(1_500) {
-            // 256 fields of up to 4 bits beside 64 checks, two code ranges for each, 512 routes of up to 4 bits.
-            return Aim {
-                entries: MOST,
-                widths: (2, 4),
-            };
+        if r.one_in(700) {
+            return Aim::longest();
         }
         let entries = MOST.map(|most| few(r, most));
         let widths = match entries[1] >= DENSE {
@@ -51,17 +55,48 @@ fn few(r: &Random, most: usize) -> usize {
 
 /// A good list.
 pub fn list(r: &Random) -> List {
-    let aim = Aim::new(r);
+    list_of(r, Aim::new(r))
+}
+
+/// A good list as long as it can be, if all its entries find room.
+pub fn longest(r: &Random) -> List {
+    list_of(r, Aim::longest())
+}
+
+fn list_of(r: &Random, aim: Aim) -> List {
     let checks = checks(r, aim.entries[0]);
     let signals = signals(r, &aim, &checks);
     let codes = codes(r, aim.entries[2], &signals);
     let routes = routes(r, aim.entries[3], &signals);
-    List {
+    let mut list = List {
+        form: 1,
         checks,
         signals,
         codes,
         routes,
         more: Vec::new(),
+    };
+    lay_out(r, &mut list, form(r));
+    list
+}
+
+/// A number that says a form: 2, or another for form 1.
+pub fn form(r: &Random) -> u64 {
+    r.of(&[1, 1, 1, 1, 2, 2, 2, 2, 2, 0, 3, 255])
+}
+
+/// Gives a list a form, and in form 2 serial numbers: none, one, or any.
+pub fn lay_out(r: &Random, list: &mut List, form: u64) {
+    list.form = form;
+    list.signals.iter_mut().for_each(|s| s.serial = 0);
+    if form != 2 || list.signals.is_empty() || r.one_in(3) {
+        return;
+    }
+    let (alone, any) = (r.index(list.signals.len()), r.one_in(2));
+    for (number, s) in list.signals.iter_mut().enumerate() {
+        if any || number == alone {
+            s.serial = r.of(&[0x40C0, 1, 0x100, 0xFFFF, r.word() & 0xFFFF]);
+        }
     }
 }
 
@@ -152,6 +187,7 @@ pub fn signal(r: &Random, checks: &[u64], kind: u64, start: u64, width: u64) -> 
         since: 1,
         limit: r.of(&[0, 1, 2, 100, 5_000, 599_999, 600_000]),
         replacement: 0,
+        serial: 0,
     };
     let top = signal.top_replacement();
     signal.replacement = r.of(&[0, top, r.word() & top]);

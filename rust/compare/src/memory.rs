@@ -54,7 +54,7 @@ fn guarded(
     arenas: &mut [Arena; 3],
     values: &mut Arena,
 ) -> After {
-    let written = case.call.form().written;
+    let written = case.call.parameters().written;
     let octets: Vec<u8> = case.values.iter().flat_map(|v| v.to_ne_bytes()).collect();
     values.place(&octets, edge);
     values.forbid_writing();

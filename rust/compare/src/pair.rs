@@ -5,20 +5,29 @@ use crate::list::{Code, List, Signal};
 use crate::make;
 use crate::random::Random;
 
-pub fn pair(r: &Random) -> (Vec<u8>, Vec<u8>) {
+/// The two, and the forms that are said with them.
+pub fn pair(r: &Random) -> (Vec<Vec<u8>>, Vec<u64>) {
     if r.one_in(12) {
-        return (damage::any_list(r), damage::any_list(r));
+        return [damage::any_list(r), damage::any_list(r)]
+            .into_iter()
+            .unzip();
     }
     let a = make::list(r);
     let mut b = a.clone();
     for _ in 0..r.of(&[0, 1, 1, 1, 2, 3]) {
         edit(r, &mut b, a.version());
     }
-    let (a, b) = (damaged_rarely(r, a), damaged_rarely(r, b));
-    if r.one_in(8) {
-        return (b, a);
+    if r.one_in(2) {
+        make::lay_out(r, &mut b, make::form(r));
     }
-    (a, b)
+    let mut pair = [a, b].map(|list| {
+        let form = damage::said_form(r, &list);
+        (damaged_rarely(r, list), form)
+    });
+    if r.one_in(8) {
+        pair.reverse();
+    }
+    pair.into_iter().unzip()
 }
 
 fn damaged_rarely(r: &Random, list: List) -> Vec<u8> {

@@ -4,8 +4,8 @@ use std::collections::{BTreeMap, BTreeSet};
 use std::fmt;
 
 use crate::case::{Answer, Call, Case};
-use crate::list::{List, Route, Signal, LONGEST, MOST};
-use reference::{HEARD, SLOT, STAMP, VEHICLES};
+use crate::list::{longest, sizes, Route, Signal, MOST};
+use reference::{Form, HEARD, SIGNAL_SIZE, SLOT, STAMP, VEHICLES};
 
 /// What an answer shows, with a number where there are several.
 type Row = (&'static str, u64);
@@ -20,9 +20,25 @@ pub struct Reached {
 fn wanted(call: Call) -> Vec<Row> {
     let each = |what, numbers: &[u64]| numbers.iter().map(|&n| (what, n)).collect::<Vec<Row>>();
     let refusals = |numbers: &[u64]| each("refusal", numbers);
+    let in_forms = each("in form", &[0, 1, 2, 3, 255]);
+    let moved = vec![
+        ("moved", 0),
+        ("no signal", 0),
+        ("longest", 0),
+        ("output too short", 0),
+        ("output too long", 0),
+    ];
     let rows = match call {
         Call::Judge => [
-            vec![("ok", 0), ("longest", 0)],
+            [
+                vec![("ok", 0), ("ends inside a serial number", 0)],
+                each("longest, form", &[1, 2]),
+                in_forms.clone(),
+                each("form 2, refusal", &[1, 2, 3, 4]),
+                each("form 2, behind the signals, refusal", &[1, 2, 3, 4]),
+                each("refused, but good in form", &[1, 2]),
+            ]
+            .concat(),
             vec![
                 ("checks", 64),
                 ("signals", 256),
@@ -32,19 +48,44 @@ fn wanted(call: Call) -> Vec<Row> {
             [each("widest", &[48, 49, 63, 64]), refusals(&[1, 2, 3, 4])].concat(),
         ],
         Call::Extends => [
-            vec![("yes", 0), ("no", 0)],
+            [
+                vec![("yes", 0), ("no", 0)],
+                each("yes, forms", &[11, 12, 21, 22]),
+                each("no, forms", &[11, 12, 21, 22]),
+                each("refused, forms", &[11, 12, 21, 22]),
+            ]
+            .concat(),
             each("first refused", &[1, 2, 3, 4]),
             each("second refused", &[1, 2, 3, 4]),
         ],
         Call::SignalEntry => [
             each("type", &[0, 1, 2]),
-            vec![("no check", 0), ("a check", 0)],
+            [vec![("no check", 0), ("a check", 0)], in_forms].concat(),
             refusals(&[1, 2, 3, 4, 11]),
         ],
         Call::FindSignal => [
             each("type", &[0, 1, 2]),
             refusals(&[1, 2, 3, 4, 11]),
-            vec![],
+            in_forms,
+        ],
+        Call::Serial => [
+            [vec![("set", 0)], each("none, form", &[1, 2])].concat(),
+            refusals(&[1, 2, 3, 4, 11]),
+            in_forms,
+        ],
+        Call::ToForm2 => [
+            [moved, each("refused, but good in form", &[2])].concat(),
+            each("before 33, refusal", &[3, 4]),
+            refusals(&[1, 2, 3, 4, 33]),
+        ],
+        Call::ToForm1 => [
+            [moved, each("refused, but good in form", &[1])].concat(),
+            [
+                each("before 32, refusal", &[1, 2, 3, 4]),
+                each("before 33, refusal", &[3, 4, 32]),
+            ]
+            .concat(),
+            refusals(&[1, 2, 3, 4, 32, 33]),
         ],
         Call::CheckPlace => [
             (320..=352)
@@ -69,6 +110,7 @@ fn wanted(call: Call) -> Vec<Row> {
                 each("reason", &[0, 1, 2, 3, 4, 5, 6, 7, 8]),
                 each("expired, reason", &[0, 1, 2, 3, 4, 5, 6, 7, 8]),
                 vec![("expired, its age within the limit", 0)],
+                in_forms,
             ]
             .concat(),
             refusals(&[1, 2, 3, 4, 5, 6, 11]),
@@ -83,7 +125,7 @@ fn wanted(call: Call) -> Vec<Row> {
                 ("all live", 0),
             ],
             refusals(&[1, 2, 3, 4, 5, 12]),
-            vec![("64 bits to bit 2048", 0)],
+            [vec![("64 bits to bit 2048", 0)], in_forms].concat(),
         ],
         Call::Compose => [
             each("type", &[1, 2, 3]),
@@ -91,6 +133,7 @@ fn wanted(call: Call) -> Vec<Row> {
             [
                 each("greatest value, width", &[48, 49, 63, 64]),
                 each("above 48 bits, refusal", &[15]),
+                in_forms,
             ]
             .concat(),
         ],
@@ -130,8 +173,10 @@ fn rows(case: &Case, answer: &Answer) -> Vec<Row> {
                     rows.push((name, count));
                 }
             }
-            if case.areas[0].len() == LONGEST {
-                rows.push(("longest", 0));
+            for form in [1, 2] {
+                if case.areas[0].len() == longest(form) {
+                    rows.push(("longest, form", form));
+                }
             }
             rows
         }
@@ -141,13 +186,16 @@ fn rows(case: &Case, answer: &Answer) -> Vec<Row> {
             let under = if check == 0 { "no check" } else { "a check" };
             vec![("type", kind), (under, 0)]
         }
-        Call::FindSignal => vec![("type", case.numbers[0])],
+        Call::FindSignal => vec![("type", case.numbers[1])],
+        Call::Serial if first == 0 => vec![("none, form", form_of(case, 0))],
+        Call::Serial => vec![("set", 0)],
+        Call::ToForm2 | Call::ToForm1 => vec![("moved", 0)],
         Call::CheckPlace => vec![("place", first)],
         Call::Take => vec![("type", (case.areas[1][0] & 15).into())],
         Call::Sweep => sweep_rows(&case.areas[0], case.numbers[0] as u32),
         Call::Read => read_rows(case, second),
-        Call::Marshal => vec![(lives(&case.areas[0], first), 0)],
-        Call::Compose => vec![("type", case.numbers[0])],
+        Call::Marshal => vec![(lives(case, first), 0)],
+        Call::Compose => vec![("type", case.numbers[1])],
         Call::Show => vec![("kind", case.numbers[0])],
         Call::Resolve => vec![("address", case.numbers[0])],
         Call::ERead => vec![(["request", "report"][second as usize], 0)],
@@ -179,12 +227,12 @@ fn age(slot: &[u8], now: u32) -> u32 {
 }
 
 fn read_rows(case: &Case, reason: u64) -> Vec<Row> {
-    let (now, vehicle, signal) = (case.numbers[0], case.numbers[1], case.numbers[2]);
+    let (now, vehicle, signal) = (case.numbers[1], case.numbers[2], case.numbers[3]);
     let slot = &case.areas[1][SLOT * (vehicle as usize - 1)..];
     let mut rows = vec![("reason", reason)];
     if slot[HEARD] == 2 {
         rows.push(("expired, reason", reason));
-        let list = List::of(&case.areas[0]);
+        let list = case.list_at(0);
         let limit = list.map_or(0, |list| list.signals[signal as usize].limit);
         if reason == 3 && u64::from(age(slot, now as u32)) <= limit {
             rows.push(("expired, its age within the limit", 0));
@@ -196,7 +244,7 @@ fn read_rows(case: &Case, reason: u64) -> Vec<Row> {
 /// What it shows of wide fields, by the list that it goes by.
 fn wide_rows(case: &Case, answer: &Answer) -> Vec<Row> {
     let by_list = [Call::Judge, Call::Read, Call::Marshal, Call::Compose].contains(&case.call);
-    let list = by_list.then(|| List::of(&case.areas[0])).flatten();
+    let list = by_list.then(|| case.list_at(0)).flatten();
     let Some(list) = list else {
         return vec![];
     };
@@ -206,7 +254,7 @@ fn wide_rows(case: &Case, answer: &Answer) -> Vec<Row> {
             let widest = list.signals.iter().map(|s| s.width).max();
             vec![("widest", widest.unwrap_or(0))]
         }
-        (Call::Read, 0) if width(case.numbers[2]) > 48 => {
+        (Call::Read, 0) if width(case.numbers[3]) > 48 => {
             vec![("above 48 bits, reason", answer.gives[1])]
         }
         (Call::Marshal, 0) => {
@@ -219,7 +267,7 @@ fn wide_rows(case: &Case, answer: &Answer) -> Vec<Row> {
         }
         (Call::Compose, 0) => {
             let greatest =
-                |&(s, &value): &(&Signal, &u64)| s.carried_by(case.numbers[0]) && value == s.top();
+                |&(s, &value): &(&Signal, &u64)| s.carried_by(case.numbers[1]) && value == s.top();
             let written = list.signals.iter().zip(&case.values).filter(greatest);
             written
                 .map(|(s, _)| ("greatest value, width", s.width))
@@ -232,9 +280,111 @@ fn wide_rows(case: &Case, answer: &Answer) -> Vec<Row> {
     }
 }
 
+/// The form of the list in an area, 1 or 2.
+fn form_of(case: &Case, area: usize) -> u64 {
+    Form::of(case.form_at(area)) as u64
+}
+
+/// What it shows of the forms of its lists.
+fn form_rows(case: &Case, answer: &Answer) -> Vec<Row> {
+    match (case.call, answer.refusal) {
+        (Call::Judge, 1..) => refused_rows(case, answer),
+        (Call::Extends, refusal) => {
+            let what = match (refusal, answer.gives[0]) {
+                (0, 0) => "no, forms",
+                (0, _) => "yes, forms",
+                _ => "refused, forms",
+            };
+            vec![(what, 10 * form_of(case, 0) + form_of(case, 1))]
+        }
+        (Call::ToForm2 | Call::ToForm1, refusal) => move_rows(case, refusal.into()),
+        (_, 0) if case.call.parameters().numbers.first() == Some(&"form") => {
+            vec![("in form", case.numbers[0])]
+        }
+        _ => vec![],
+    }
+}
+
+/// A list that is refused, in form 2: where. And whether the other form would have been the right one.
+fn refused_rows(case: &Case, answer: &Answer) -> Vec<Row> {
+    let (list, refusal) = (&case.areas[0], u64::from(answer.refusal));
+    let mut rows = other_form(case);
+    if form_of(case, 0) == 2 {
+        rows.push(("form 2, refusal", refusal));
+        let checks = list.first_chunk().map_or(0, |&n| u16::from_be_bytes(n));
+        let signals = 2 + 2 * usize::from(checks);
+        if refusal == 1 && answer.carried == signals as u64 && ends_inside_serial(list, signals) {
+            rows.push(("ends inside a serial number", 0));
+        }
+        if serials(list).is_some_and(|(behind, _)| answer.carried >= behind as u64) {
+            rows.push(("form 2, behind the signals, refusal", refusal));
+        }
+    }
+    rows
+}
+
+/// Whether a list that is refused is good in the form that was not said.
+fn other_form(case: &Case) -> Vec<Row> {
+    let (form, other) = match form_of(case, 0) {
+        1 => (2, Form::Two),
+        _ => (1, Form::One),
+    };
+    let good = reference::judge(&case.areas[0], other).is_ok();
+    good.then_some(("refused, but good in form", form))
+        .into_iter()
+        .collect()
+}
+
+/// Whether a list of form 2, its signals' count at this offset, ends behind the first octet of a serial number.
+fn ends_inside_serial(list: &[u8], signals: usize) -> bool {
+    let entries = list.len().saturating_sub(signals + 2);
+    entries % sizes(2)[1] == SIGNAL_SIZE + 1
+}
+
+/// Where the signals of a list of form 2 end, and whether a serial number is set, if checks and signals are all there.
+fn serials(list: &[u8]) -> Option<(usize, bool)> {
+    let count = |at: usize| {
+        let &octets = list.get(at..)?.first_chunk()?;
+        Some(usize::from(u16::from_be_bytes(octets)))
+    };
+    let [check, signal, ..] = sizes(2);
+    let signals = 2 + check * count(0)?;
+    let entries = list.get(signals + 2..)?.get(..signal * count(signals)?)?;
+    let set = |entry: &[u8]| entry[SIGNAL_SIZE..].iter().any(|&octet| octet != 0);
+    Some((signals + 2 + entries.len(), entries.chunks(signal).any(set)))
+}
+
+/// How the output's length fits the list, where all its entries are there; and which of two faults is told.
+fn move_rows(case: &Case, refusal: u64) -> Vec<Row> {
+    let mut rows = vec![];
+    if (1..=4).contains(&refusal) {
+        rows = other_form(case);
+        let set = serials(&case.areas[0]).is_some_and(|(_, set)| set);
+        if case.call == Call::ToForm1 && set {
+            rows.push(("before 32, refusal", refusal));
+        }
+    }
+    let Some(mut list) = case.list_at(0) else {
+        return rows;
+    };
+    let from = list.form;
+    list.form = 3 - from;
+    let (needed, len) = (list.octets().len(), case.areas[1].len());
+    match refusal {
+        0 if list.signals.is_empty() => rows.push(("no signal", 0)),
+        0 if case.areas[0].len() == longest(from) => rows.push(("longest", 0)),
+        3 | 4 | 32 if len != needed => rows.push(("before 33, refusal", refusal)),
+        33 if len < needed => rows.push(("output too short", 0)),
+        33 => rows.push(("output too long", 0)),
+        _ => {}
+    }
+    rows
+}
+
 /// How many of a good list's routes were live.
-fn lives(list: &[u8], lives: u64) -> &'static str {
-    let routes = reference::judge(list).map_or(0, |counts| counts.routes as u64);
+fn lives(case: &Case, lives: u64) -> &'static str {
+    let counts = reference::judge(&case.areas[0], Form::of(case.form_at(0)));
+    let routes = counts.map_or(0, |counts| counts.routes as u64);
     match lives {
         _ if routes == 0 => "no route",
         0 => "none live",
@@ -253,7 +403,8 @@ impl Reached {
     }
 
     pub fn count(&mut self, case: &Case, answer: &Answer) {
-        for row in [rows(case, answer), wide_rows(case, answer)].concat() {
+        let all = [rows, wide_rows, form_rows].map(|rows| rows(case, answer));
+        for row in all.concat() {
             let row = (case.call, row);
             match self.wanted.get_mut(&row) {
                 Some(count) => *count += 1,
@@ -270,7 +421,7 @@ impl Reached {
     /// What no case reached, and what none should have.
     pub fn faults(&self) -> Vec<String> {
         let said = |what: &str, (call, row): &(Call, Row)| {
-            format!("{what}: {} {}", call.form().name, named(*row))
+            format!("{what}: {} {}", call.parameters().name, named(*row))
         };
         let missing = self.wanted.iter().filter(|(_, &count)| count == 0);
         missing
@@ -282,7 +433,12 @@ impl Reached {
 
 fn named((what, number): Row) -> String {
     match number {
-        0 if !matches!(what, "kind" | "type") && !what.ends_with("reason") => what.to_string(),
+        0 if !["kind", "type", "form", "reason"]
+            .iter()
+            .any(|end| what.ends_with(end)) =>
+        {
+            what.to_string()
+        }
         _ => format!("{what} {number}"),
     }
 }
@@ -290,7 +446,7 @@ fn named((what, number): Row) -> String {
 impl fmt::Display for Reached {
     fn fmt(&self, f: &mut fmt::Formatter) -> fmt::Result {
         for call in Call::ALL {
-            write!(f, "{:12}", call.form().name)?;
+            write!(f, "{:12}", call.parameters().name)?;
             let of = self.wanted.iter().filter(|((of, _), _)| *of == call);
             for (i, ((_, row), count)) in of.enumerate() {
                 match i % 7 {

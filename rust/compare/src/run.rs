@@ -41,7 +41,7 @@ pub fn print(case: &Case, memory: &mut Memory) {
         return;
     };
     println!("{name}: {}", given.answer);
-    for (i, area) in case.call.form().areas.iter().enumerate() {
+    for (i, area) in case.call.parameters().areas.iter().enumerate() {
         let (wanted, given) = (&wanted.areas[i], &given.areas[i]);
         if wanted != given {
             println!("{area} after the reference:{}", Hex(wanted));
@@ -78,7 +78,7 @@ impl Run {
         self.say_progress(name);
         let (wanted, other) = both(case, &mut self.memory);
         if other.is_some() {
-            println!("DIFFERENCE in {name}: {}", case.call.form().name);
+            println!("DIFFERENCE in {name}: {}", case.call.parameters().name);
             let small = shrunk(case, |case| both(case, &mut self.memory).1.is_some());
             println!("the smallest case found:");
             print(&small, &mut self.memory);

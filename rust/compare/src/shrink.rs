@@ -3,7 +3,6 @@
 use std::ops::Range;
 
 use crate::case::{Call, Case};
-use crate::list::List;
 
 /// How many cases are tried before the smallest so far has to do.
 const TRIES: usize = 30_000;
@@ -48,7 +47,7 @@ pub fn shrunk(case: &Case, mut still_differs: impl FnMut(&Case) -> bool) -> Case
 fn steps(case: &Case) -> Vec<Step> {
     let mut steps = Vec::new();
     for i in 0..case.areas.len() {
-        let Some(list) = list_at(case, i).and_then(List::of) else {
+        let Some(list) = case.list_at(i) else {
             continue;
         };
         let lens = [
@@ -76,7 +75,7 @@ fn steps(case: &Case) -> Vec<Step> {
                     steps.push(Step::Zeroed(i, run.clone()));
                 }
                 // A store of another length is only refused.
-                if case.call.form().areas[i] != "store" {
+                if case.call.parameters().areas[i] != "store" {
                     steps.push(Step::Without(i, run));
                 }
             }
@@ -88,13 +87,6 @@ fn steps(case: &Case) -> Vec<Step> {
         }
     }
     steps
-}
-
-/// An area, if it is a list.
-fn list_at(case: &Case, i: usize) -> Option<&[u8]> {
-    case.call.form().areas[i]
-        .starts_with("list")
-        .then_some(&case.areas[i])
 }
 
 fn taken(case: &Case, step: &Step) -> Case {
@@ -112,7 +104,7 @@ fn taken(case: &Case, step: &Step) -> Case {
 
 /// The list less one entry, with whatever named it; to be composed, its mark or value goes too.
 fn without_entry(case: &mut Case, i: usize, section: usize, at: usize) {
-    let Some(mut list) = List::of(&case.areas[i]) else {
+    let Some(mut list) = case.list_at(i) else {
         return;
     };
     let composed = case.call == Call::Compose;
@@ -138,9 +130,10 @@ fn without_entry(case: &mut Case, i: usize, section: usize, at: usize) {
 #[cfg(test)]
 mod tests {
     use super::*;
+    use crate::list::List;
     use crate::random::Random;
     use crate::{generate, make};
-    use reference::SIGNAL_SIZE;
+    use reference::{Form, SIGNAL_SIZE};
 
     #[test]
     fn what_shows_the_difference_stays() {
@@ -157,10 +150,12 @@ mod tests {
 
     #[test]
     fn a_list_loses_its_entries() {
-        let signals = |case: &Case| reference::judge(&case.areas[0]).map_or(0, |n| n.signals);
+        let signals =
+            |case: &Case| reference::judge(&case.areas[0], Form::One).map_or(0, |n| n.signals);
         for number in 0..20 {
-            let list = make::list(&Random::of_case(6, number)).octets();
-            let case = Case::new(Call::Judge, vec![list], vec![]);
+            let list = make::list(&Random::of_case(6, number));
+            let list = List { form: 1, ..list }.octets();
+            let case = Case::new(Call::Judge, vec![list], vec![1]);
             if signals(&case) > 0 {
                 let small = shrunk(&case, |case| signals(case) > 0);
                 assert_eq!(small.areas[0].len(), 4 * 2 + SIGNAL_SIZE);

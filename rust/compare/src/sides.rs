@@ -12,7 +12,7 @@ pub struct Lent<'a> {
 
 pub type Side = fn(Call, Lent) -> Answer;
 
-/// A form's parameters do not match what was lent: the generator is wrong, not a library.
+/// A call's parameters do not match what was lent: the generator is wrong, not a library.
 fn misfit(call: Call) -> ! {
     panic!("{call:?}: areas or numbers do not fit")
 }
@@ -29,27 +29,32 @@ fn refused_by_wrappers(error: dustferrule::Error) -> Answer {
 macro_rules! side {
     ($side:ident, $library:ident, $refused:ident) => {
         pub fn $side(call: Call, mut lent: Lent) -> Answer {
-            use $library::{Extends, Kind, Shown};
+            use $library::{Extends, Form, Kind, Shown};
             let refused = $refused;
+            // As C says it: any number but 2 is form 1.
+            let form = |number: u64| match number {
+                2 => Form::Two,
+                _ => Form::One,
+            };
             let done = |()| Answer::default();
             let result = match (call, &mut lent.areas[..], lent.numbers) {
-                (Call::Judge, [list], []) => $library::judge(list).map(|n| {
+                (Call::Judge, [list], &[said]) => $library::judge(list, form(said)).map(|n| {
                     let counts = [n.checks, n.signals, n.codes, n.routes, n.version];
                     Answer::gives(counts.map(|count| count as u64))
                 }),
-                (Call::Extends, [a, b], []) => {
+                (Call::Extends, [a, b], &[said, other]) => {
                     let which = |refused: Answer, which| {
                         Answer::with(refused.refusal, refused.carried, [0, which])
                     };
-                    Ok(match $library::extends(a, b) {
+                    Ok(match $library::extends(a, form(said), b, form(other)) {
                         Extends::Yes => Answer::gives([1]),
                         Extends::No => Answer::gives([0]),
                         Extends::First(refusal) => which(refused(refusal), 1),
                         Extends::Second(refusal) => which(refused(refusal), 2),
                     })
                 }
-                (Call::SignalEntry, [list], &[signal]) => {
-                    $library::signal_entry(list, signal).map(|e| {
+                (Call::SignalEntry, [list], &[said, signal]) => {
+                    $library::signal_entry(list, form(said), signal).map(|e| {
                         Answer::gives([
                             e.start.into(),
                             e.width.into(),
@@ -62,9 +67,16 @@ macro_rules! side {
                         ])
                     })
                 }
-                (Call::FindSignal, [list], &[kind, start]) => {
-                    $library::find_signal(list, kind, start).map(|number| Answer::gives([number]))
+                (Call::FindSignal, [list], &[said, kind, start]) => {
+                    $library::find_signal(list, form(said), kind, start)
+                        .map(|number| Answer::gives([number]))
                 }
+                (Call::Serial, [list], &[said, signal]) => {
+                    $library::serial(list, form(said), signal)
+                        .map(|serial| Answer::gives([serial.into()]))
+                }
+                (Call::ToForm2, [list, out], []) => $library::to_form_2(list, out).map(done),
+                (Call::ToForm1, [list, out], []) => $library::to_form_1(list, out).map(done),
                 (Call::CheckPlace, [], &[bit]) => {
                     $library::check_place(bit).map(|place| Answer::gives([place]))
                 }
@@ -72,16 +84,16 @@ macro_rules! side {
                     $library::take(store, vehicle, clock as u32, telegram).map(done)
                 }
                 (Call::Sweep, [store], &[clock]) => $library::sweep(store, clock as u32).map(done),
-                (Call::Read, [list, store], &[clock, vehicle, signal]) => {
-                    $library::read(list, store, clock as u32, vehicle, signal)
+                (Call::Read, [list, store], &[said, clock, vehicle, signal]) => {
+                    $library::read(list, form(said), store, clock as u32, vehicle, signal)
                         .map(|r| Answer::gives([r.value, r.reason as u64]))
                 }
-                (Call::Marshal, [list, store, data], &[clock]) => {
-                    $library::marshal(list, store, clock as u32, data)
+                (Call::Marshal, [list, store, data], &[said, clock]) => {
+                    $library::marshal(list, form(said), store, clock as u32, data)
                         .map(|lives| Answer::gives([lives]))
                 }
-                (Call::Compose, [list, marks, out], &[kind]) => {
-                    $library::compose(list, kind, lent.values, marks, out).map(done)
+                (Call::Compose, [list, marks, out], &[said, kind]) => {
+                    $library::compose(list, form(said), kind, lent.values, marks, out).map(done)
                 }
                 (Call::Show, [], &[kind, width, raw]) => {
                     let kind = match kind {
@@ -124,17 +136,20 @@ fn outcome(r: raw::df_outcome) -> Answer {
 /// The library as C calls it: every field of a result is kept, also those that an answer does not use.
 pub fn by_header(call: Call, mut lent: Lent) -> Answer {
     match (call, &mut lent.areas[..], lent.numbers) {
-        (Call::Judge, [list], []) => {
-            let r = unsafe { raw::df_judge(list.as_ptr(), list.len()) };
+        (Call::Judge, [list], &[form]) => {
+            let r = unsafe { raw::df_judge(list.as_ptr(), list.len(), form as u8) };
             let counts = [r.checks, r.signals, r.codes, r.routes, r.version];
             Answer::with(r.refusal, r.carried, counts)
         }
-        (Call::Extends, [a, b], []) => {
-            let r = unsafe { raw::df_extends(a.as_ptr(), a.len(), b.as_ptr(), b.len()) };
+        (Call::Extends, [a, b], &[form, other]) => {
+            let (form, other) = (form as u8, other as u8);
+            let (a, a_len, b, b_len) = (a.as_ptr(), a.len(), b.as_ptr(), b.len());
+            let r = unsafe { raw::df_extends(a, a_len, form, b, b_len, other) };
             Answer::with(r.refusal, r.carried, [r.extends.into(), r.which.into()])
         }
-        (Call::SignalEntry, [list], &[signal]) => {
-            let r = unsafe { raw::df_signal_entry(list.as_ptr(), list.len(), signal) };
+        (Call::SignalEntry, [list], &[form, signal]) => {
+            let (list, len) = (list.as_ptr(), list.len());
+            let r = unsafe { raw::df_signal_entry(list, len, form as u8, signal) };
             let entry = [
                 r.start,
                 r.width,
@@ -147,10 +162,21 @@ pub fn by_header(call: Call, mut lent: Lent) -> Answer {
             ];
             Answer::with(r.refusal, r.carried, entry)
         }
-        (Call::FindSignal, [list], &[kind, start]) => {
-            let r = unsafe { raw::df_find_signal(list.as_ptr(), list.len(), kind, start) };
+        (Call::FindSignal, [list], &[form, kind, start]) => {
+            let (list, len) = (list.as_ptr(), list.len());
+            let r = unsafe { raw::df_find_signal(list, len, form as u8, kind, start) };
             Answer::with(r.refusal, r.carried, [r.signal])
         }
+        (Call::Serial, [list], &[form, signal]) => {
+            let r = unsafe { raw::df_serial(list.as_ptr(), list.len(), form as u8, signal) };
+            Answer::with(r.refusal, r.carried, [r.serial])
+        }
+        (Call::ToForm2, [list, out], []) => outcome(unsafe {
+            raw::df_to_form_2(list.as_ptr(), list.len(), out.as_mut_ptr(), out.len())
+        }),
+        (Call::ToForm1, [list, out], []) => outcome(unsafe {
+            raw::df_to_form_1(list.as_ptr(), list.len(), out.as_mut_ptr(), out.len())
+        }),
         (Call::CheckPlace, [], &[bit]) => {
             let r = unsafe { raw::df_check_place(bit) };
             Answer::with(r.refusal, 0, [r.place])
@@ -164,21 +190,21 @@ pub fn by_header(call: Call, mut lent: Lent) -> Answer {
         (Call::Sweep, [store], &[clock]) => {
             outcome(unsafe { raw::df_sweep(store.as_mut_ptr(), store.len(), clock as u32) })
         }
-        (Call::Read, [list, store], &[clock, vehicle, signal]) => {
-            let (list, len, from) = (list.as_ptr(), list.len(), store.as_ptr());
-            let r = unsafe {
-                raw::df_read(list, len, from, store.len(), clock as u32, vehicle, signal)
-            };
+        (Call::Read, [list, store], &[form, clock, vehicle, signal]) => {
+            let (list, len, form) = (list.as_ptr(), list.len(), form as u8);
+            let (from, from_len, clock) = (store.as_ptr(), store.len(), clock as u32);
+            let r =
+                unsafe { raw::df_read(list, len, form, from, from_len, clock, vehicle, signal) };
             Answer::with(r.refusal, r.carried, [r.value, r.reason.into()])
         }
-        (Call::Marshal, [list, store, data], &[clock]) => {
-            let (list, len, from) = (list.as_ptr(), list.len(), store.as_ptr());
+        (Call::Marshal, [list, store, data], &[form, clock]) => {
+            let (list, len, form) = (list.as_ptr(), list.len(), form as u8);
+            let (from, from_len, clock) = (store.as_ptr(), store.len(), clock as u32);
             let (to, to_len) = (data.as_mut_ptr(), data.len());
-            let r =
-                unsafe { raw::df_marshal(list, len, from, store.len(), clock as u32, to, to_len) };
+            let r = unsafe { raw::df_marshal(list, len, form, from, from_len, clock, to, to_len) };
             Answer::with(r.refusal, r.carried, [r.lives])
         }
-        (Call::Compose, [list, marks, out], &[kind]) => {
+        (Call::Compose, [list, marks, out], &[form, kind]) => {
             let (list, len, to) = (list.as_ptr(), list.len(), out.as_mut_ptr());
             let (values, number) = (lent.values.as_ptr(), lent.values.len());
             let (marks, checks) = (marks.as_ptr(), marks.len());
@@ -186,6 +212,7 @@ pub fn by_header(call: Call, mut lent: Lent) -> Answer {
                 raw::df_compose(
                     list,
                     len,
+                    form as u8,
                     kind,
                     values,
                     number,

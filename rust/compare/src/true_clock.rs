@@ -57,6 +57,14 @@ fn start(r: &Random) -> Vec<u8> {
     store
 }
 
+/// The form that a number says, as each library names it.
+fn forms(form: u64) -> (dustferrule::Form, reference::Form) {
+    match form {
+        2 => (dustferrule::Form::Two, reference::Form::Two),
+        _ => (dustferrule::Form::One, reference::Form::One),
+    }
+}
+
 impl<'a> Sequence<'a> {
     fn new(r: &'a Random) -> Self {
         let (list, store) = (make::list_with_signals(r), start(r));
@@ -139,11 +147,13 @@ impl<'a> Sequence<'a> {
     /// Every signal of some vehicles, at a true time.
     fn read(&mut self, t: u64, met: &mut Met) -> Result<(), String> {
         self.last = t;
+        let (ours, theirs) = forms(self.list.form);
         for vehicle in [1, 2, 3, 63] {
             for (signal, limit) in self.list.signals.iter().map(|s| s.limit).enumerate() {
                 let (now, number) = (t as u32, signal as u64);
-                let read = dustferrule::read(&self.octets, &self.proved, now, vehicle, number);
-                let other = reference::read(&self.octets, &self.other, now, vehicle, number);
+                let (list, proved, other) = (&self.octets, &self.proved, &self.other);
+                let read = dustferrule::read(list, ours, proved, now, vehicle, number);
+                let other = reference::read(list, theirs, other, now, vehicle, number);
                 let reason = read.map_or(255, |read| read.reason.number());
                 let says = |wanted: bool| {
                     format!("vehicle {vehicle} signal {signal} at {t}: reason {reason}, too old: {wanted}")

@@ -1,6 +1,16 @@
-//! What the calls answer.
+//! What the calls answer, and the forms of a list that they are asked about.
 
 use crate::numbers::{Error, Reason};
+
+/// How the signal entries of a list are laid out: said by the caller of every call that takes a list.
+#[derive(Debug, Clone, Copy, PartialEq, Eq, Hash)]
+#[repr(u8)]
+pub enum Form {
+    /// 16 octets each.
+    One = 1,
+    /// 18 octets each, of which the last two are a serial number, 0 for none.
+    Two = 2,
+}
 
 /// What a good list holds.
 #[derive(Debug, Clone, Copy, PartialEq, Eq)]

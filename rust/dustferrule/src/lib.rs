@@ -1,6 +1,6 @@
 //! Dustferrule, the proved gateway library for UIC 556 train buses, for Rust programs.
 //!
-//! Every call is total: for all octets and numbers it answers or refuses, as document 01 says; a refusal changes no octet it was lent.
+//! Every call is total: for all octets and numbers it answers or refuses, as documents 01 and 02 say; a refusal changes no octet it was lent.
 //! Nothing here allocates, blocks, keeps state or needs the standard library. The library itself is proved; these wrappers, which hand
 //! slices over and name what comes back, are not.
 
@@ -11,7 +11,7 @@ mod answers;
 mod numbers;
 pub mod raw;
 
-pub use answers::{Counts, EReading, Entry, Extends, Kind, Members, Reading, Shown};
+pub use answers::{Counts, EReading, Entry, Extends, Form, Kind, Members, Reading, Shown};
 pub use numbers::{Error, Reason, Refusal};
 
 /// The length of a store: a slot for each of 63 vehicles, vehicle 1 first. A store of zeros has heard nobody.
@@ -39,8 +39,8 @@ fn newer_library(what: &str, number: u32) -> ! {
 // lent for writing overlaps no other.
 
 /// Judges a signal list. Refusals 1 to 4.
-pub fn judge(list: &[u8]) -> Result<Counts, Error> {
-    let judged = unsafe { raw::df_judge(list.as_ptr(), list.len()) };
+pub fn judge(list: &[u8], form: Form) -> Result<Counts, Error> {
+    let judged = unsafe { raw::df_judge(list.as_ptr(), list.len(), form as u8) };
     let counts = Counts {
         checks: judged.checks as usize,
         signals: judged.signals as usize,
@@ -51,9 +51,18 @@ pub fn judge(list: &[u8]) -> Result<Counts, Error> {
     unless_refused(judged.refusal, judged.carried, counts)
 }
 
-/// Whether list `b` extends list `a`.
-pub fn extends(a: &[u8], b: &[u8]) -> Extends {
-    let r = unsafe { raw::df_extends(a.as_ptr(), a.len(), b.as_ptr(), b.len()) };
+/// Whether list `b`, of form `other`, extends list `a`, of form `form`.
+pub fn extends(a: &[u8], form: Form, b: &[u8], other: Form) -> Extends {
+    let r = unsafe {
+        raw::df_extends(
+            a.as_ptr(),
+            a.len(),
+            form as u8,
+            b.as_ptr(),
+            b.len(),
+            other as u8,
+        )
+    };
     match unless_refused(r.refusal, r.carried, r.extends) {
         Ok(0) => Extends::No,
         Ok(_) => Extends::Yes,
@@ -63,8 +72,8 @@ pub fn extends(a: &[u8], b: &[u8]) -> Extends {
 }
 
 /// The entry of a signal by its number, from 0. Refusals 1 to 4, then 11.
-pub fn signal_entry(list: &[u8], signal: u64) -> Result<Entry, Error> {
-    let r = unsafe { raw::df_signal_entry(list.as_ptr(), list.len(), signal) };
+pub fn signal_entry(list: &[u8], form: Form, signal: u64) -> Result<Entry, Error> {
+    let r = unsafe { raw::df_signal_entry(list.as_ptr(), list.len(), form as u8, signal) };
     // An accepted entry has each number in as many octets as the list gives it.
     let entry = Entry {
         start: r.start as u16,
@@ -80,9 +89,28 @@ pub fn signal_entry(list: &[u8], signal: u64) -> Result<Entry, Error> {
 }
 
 /// The number, from 0, of the signal of a type (0, 1 or 2) that starts at a bit address. Refusals 1 to 4, then 11.
-pub fn find_signal(list: &[u8], kind: u64, start: u64) -> Result<u64, Error> {
-    let r = unsafe { raw::df_find_signal(list.as_ptr(), list.len(), kind, start) };
+pub fn find_signal(list: &[u8], form: Form, kind: u64, start: u64) -> Result<u64, Error> {
+    let r = unsafe { raw::df_find_signal(list.as_ptr(), list.len(), form as u8, kind, start) };
     unless_refused(r.refusal, r.carried, r.signal)
+}
+
+/// The serial number of a signal by its number, from 0; 0 for none, and in form 1. Refusals 1 to 4, then 11.
+pub fn serial(list: &[u8], form: Form, signal: u64) -> Result<u16, Error> {
+    let r = unsafe { raw::df_serial(list.as_ptr(), list.len(), form as u8, signal) };
+    // Two octets of the list.
+    unless_refused(r.refusal, r.carried, r.serial as u16)
+}
+
+/// Writes a list of form 1 in form 2: two octets more for each signal, every serial number 0. Refusals 1 to 4, then 33.
+pub fn to_form_2(list: &[u8], out: &mut [u8]) -> Result<(), Error> {
+    let r = unsafe { raw::df_to_form_2(list.as_ptr(), list.len(), out.as_mut_ptr(), out.len()) };
+    unless_refused(r.refusal, r.carried, ())
+}
+
+/// Writes a list of form 2, in which every serial number is 0, in form 1: two octets less for each signal. Refusals 1 to 4, then 32, 33.
+pub fn to_form_1(list: &[u8], out: &mut [u8]) -> Result<(), Error> {
+    let r = unsafe { raw::df_to_form_1(list.as_ptr(), list.len(), out.as_mut_ptr(), out.len()) };
+    unless_refused(r.refusal, r.carried, ())
 }
 
 /// The check place, as a bit address, of a bit of R1 octets 47-73. Refusal 27.
@@ -117,6 +145,7 @@ pub fn sweep(store: &mut [u8], now: u32) -> Result<(), Error> {
 /// Reads one signal (number from 0) of one vehicle. Refusals 1 to 4, then 5, 6, 11.
 pub fn read(
     list: &[u8],
+    form: Form,
     store: &[u8],
     now: u32,
     vehicle: u64,
@@ -126,6 +155,7 @@ pub fn read(
         raw::df_read(
             list.as_ptr(),
             list.len(),
+            form as u8,
             store.as_ptr(),
             store.len(),
             now,
@@ -141,11 +171,18 @@ pub fn read(
 }
 
 /// Writes every route's value into its field of the vehicle bus data and gives the number of live ones. Refusals 1 to 5, 12.
-pub fn marshal(list: &[u8], store: &[u8], now: u32, bus: &mut [u8]) -> Result<u64, Error> {
+pub fn marshal(
+    list: &[u8],
+    form: Form,
+    store: &[u8],
+    now: u32,
+    bus: &mut [u8],
+) -> Result<u64, Error> {
     let r = unsafe {
         raw::df_marshal(
             list.as_ptr(),
             list.len(),
+            form as u8,
             store.as_ptr(),
             store.len(),
             now,
@@ -160,6 +197,7 @@ pub fn marshal(list: &[u8], store: &[u8], now: u32, bus: &mut [u8]) -> Result<u6
 /// then 9, 13 to 16.
 pub fn compose(
     list: &[u8],
+    form: Form,
     kind: u64,
     values: &[u64],
     marks: &[u8],
@@ -169,6 +207,7 @@ pub fn compose(
         raw::df_compose(
             list.as_ptr(),
             list.len(),
+            form as u8,
             kind,
             values.as_ptr(),
             values.len(),

@@ -48,7 +48,7 @@ macro_rules! numbered {
 }
 
 numbered! {
-    /// The refusals of document 01's table. Later versions have more.
+    /// The refusals of document 01's table, and those of document 02. Later versions have more.
     Refusal {
         ListEnds = 1, "list ends inside a count or a section";
         CountAbove = 2, "count above its limit";
@@ -77,6 +77,8 @@ numbered! {
         OutputShort = 25, "output under 9 octets";
         ScaledKind = 26, "scaled kind, with width not 16 or raw above 65,535";
         NoCheckPlace = 27, "no check place in the table";
+        SerialSet = 32, "serial number set";
+        FormOutput = 33, "output not of the needed length";
     }
 }
 

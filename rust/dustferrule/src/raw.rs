@@ -1,5 +1,5 @@
 //! `include/dustferrule.h`, line for line: what the proved library exports. (Its lists of refusals and reasons are [`crate::Refusal`] and
-//! [`crate::Reason`].)
+//! [`crate::Reason`], its forms are [`crate::Form`].)
 //!
 //! What the caller owes: each pointer with its length names memory that can be read (and written, where it is `*mut`), no longer than
 //! isize::MAX octets and aligned; an area that is written overlaps no other area of the same call; and no pointer is null, also with
@@ -62,6 +62,14 @@ pub struct df_found {
 
 #[repr(C)]
 #[derive(Debug, Clone, Copy)]
+pub struct df_serial_number {
+    pub refusal: u32,
+    pub carried: u64,
+    pub serial: u64,
+}
+
+#[repr(C)]
+#[derive(Debug, Clone, Copy)]
 pub struct df_place {
     pub refusal: u32,
     pub place: u64,
@@ -110,13 +118,42 @@ pub struct df_e_reading {
 }
 
 extern "C" {
-    pub fn df_judge(list: *const u8, list_len: usize) -> df_judged;
+    pub fn df_judge(list: *const u8, list_len: usize, form: u8) -> df_judged;
 
-    pub fn df_extends(a: *const u8, a_len: usize, b: *const u8, b_len: usize) -> df_extending;
+    pub fn df_extends(
+        a: *const u8,
+        a_len: usize,
+        form: u8,
+        b: *const u8,
+        b_len: usize,
+        other: u8,
+    ) -> df_extending;
 
-    pub fn df_signal_entry(list: *const u8, list_len: usize, signal: u64) -> df_entry;
+    pub fn df_signal_entry(list: *const u8, list_len: usize, form: u8, signal: u64) -> df_entry;
 
-    pub fn df_find_signal(list: *const u8, list_len: usize, kind: u64, start: u64) -> df_found;
+    pub fn df_find_signal(
+        list: *const u8,
+        list_len: usize,
+        form: u8,
+        kind: u64,
+        start: u64,
+    ) -> df_found;
+
+    pub fn df_serial(list: *const u8, list_len: usize, form: u8, signal: u64) -> df_serial_number;
+
+    pub fn df_to_form_2(
+        list: *const u8,
+        list_len: usize,
+        out: *mut u8,
+        out_len: usize,
+    ) -> df_outcome;
+
+    pub fn df_to_form_1(
+        list: *const u8,
+        list_len: usize,
+        out: *mut u8,
+        out_len: usize,
+    ) -> df_outcome;
 
     pub fn df_check_place(bit: u64) -> df_place;
 
@@ -134,6 +171,7 @@ extern "C" {
     pub fn df_read(
         list: *const u8,
         list_len: usize,
+        form: u8,
         store: *const u8,
         store_len: usize,
         clock: u32,
@@ -144,6 +182,7 @@ extern "C" {
     pub fn df_marshal(
         list: *const u8,
         list_len: usize,
+        form: u8,
         store: *const u8,
         store_len: usize,
         clock: u32,
@@ -154,6 +193,7 @@ extern "C" {
     pub fn df_compose(
         list: *const u8,
         list_len: usize,
+        form: u8,
         kind: u64,
         values: *const u64,
         values_len: usize,

@@ -1,6 +1,6 @@
 //! Refusals and reasons by number and in words, and the refusals of calls as errors.
 
-use dustferrule::{compose, find_signal, judge, read, Error, Reason, Refusal, STORE_OCTETS};
+use dustferrule::{compose, find_signal, judge, read, Error, Form, Reason, Refusal, STORE_OCTETS};
 
 /// The list L of document 01.
 const L: [u8; 44] = [
@@ -14,7 +14,7 @@ fn each_number_is_there_once() {
         .iter()
         .map(|refusal| refusal.number())
         .collect();
-    assert_eq!(refusals, (1..=27).collect::<Vec<u8>>());
+    assert_eq!(refusals, (1..=27).chain(32..=33).collect::<Vec<u8>>());
     let reasons: Vec<u8> = Reason::ALL.iter().map(|reason| reason.number()).collect();
     assert_eq!(reasons, (0..=8).collect::<Vec<u8>>());
     for &refusal in Refusal::ALL {
@@ -24,31 +24,31 @@ fn each_number_is_there_once() {
         assert_eq!(Reason::of(reason.number().into()), Some(reason));
         assert_eq!(reason.is_live(), reason.number() < 2);
     }
-    assert_eq!(
-        (Refusal::of(0), Refusal::of(28), Reason::of(9)),
-        (None, None, None)
-    );
+    for none in [0, 28, 31, 34] {
+        assert_eq!(Refusal::of(none), None);
+    }
+    assert_eq!(Reason::of(9), None);
     // Not cut to fewer bits.
     assert_eq!((Refusal::of(257), Reason::of(256)), (None, None));
 }
 
 #[test]
 fn errors_say_what_they_carry() {
-    let error = judge(&L[..43]).unwrap_err();
+    let error = judge(&L[..43], Form::One).unwrap_err();
     assert_eq!((error.refusal, error.carried), (Refusal::ListEnds, 36));
     assert_eq!(
         error.to_string(),
         "refused 1 at 36: list ends inside a count or a section"
     );
 
-    let error = compose(&L, 1, &[7], &[1], &mut [0; 128]).unwrap_err();
+    let error = compose(&L, Form::One, 1, &[7], &[1], &mut [0; 128]).unwrap_err();
     assert_eq!((error.refusal, error.carried), (Refusal::ValueUnfit, 0));
     assert_eq!(
         error.to_string(),
         "refused 15 signal 0: a written value at or above 2^width, or its code not known"
     );
 
-    let error = find_signal(&L, 1, 425).unwrap_err();
+    let error = find_signal(&L, Form::One, 1, 425).unwrap_err();
     assert_eq!(
         error,
         Error {
@@ -62,8 +62,8 @@ fn errors_say_what_they_carry() {
 #[test]
 fn an_error_goes_up_as_any_other() {
     fn value(list: &[u8]) -> Result<u64, Box<dyn std::error::Error>> {
-        let signal = find_signal(list, 1, 424)?;
-        Ok(read(list, &[0; STORE_OCTETS], 0, 1, signal)?.value)
+        let signal = find_signal(list, Form::One, 1, 424)?;
+        Ok(read(list, Form::One, &[0; STORE_OCTETS], 0, 1, signal)?.value)
     }
     assert_eq!(value(&L).unwrap(), 0);
     assert_eq!(
@@ -74,7 +74,7 @@ fn an_error_goes_up_as_any_other() {
 
 #[test]
 fn a_reason_in_words() {
-    let reading = read(&L, &[0; STORE_OCTETS], 0, 1, 0).unwrap();
+    let reading = read(&L, Form::One, &[0; STORE_OCTETS], 0, 1, 0).unwrap();
     assert_eq!(reading.reason, Reason::NeverHeard);
     assert_eq!(format!("{:>12}|", reading.reason), " never heard|");
 }

@@ -7,7 +7,7 @@
 extern crate self as reference;
 
 use dustferrule::Error;
-pub use dustferrule::{Counts, EReading, Entry, Kind, Members, Shown};
+pub use dustferrule::{Counts, EReading, Entry, Form, Kind, Members, Shown};
 
 #[derive(Debug, Clone, Copy, PartialEq, Eq)]
 pub struct Refusal {
@@ -46,22 +46,25 @@ macro_rules! calls {
 }
 
 calls! {
-    judge(list: &[u8]) -> Counts;
-    signal_entry(list: &[u8], signal: u64) -> Entry;
-    find_signal(list: &[u8], kind: u64, start: u64) -> u64;
+    judge(list: &[u8], form: Form) -> Counts;
+    signal_entry(list: &[u8], form: Form, signal: u64) -> Entry;
+    find_signal(list: &[u8], form: Form, kind: u64, start: u64) -> u64;
+    serial(list: &[u8], form: Form, signal: u64) -> u16;
+    to_form_2(list: &[u8], out: &mut [u8]) -> ();
+    to_form_1(list: &[u8], out: &mut [u8]) -> ();
     check_place(bit: u64) -> u64;
     take(store: &mut [u8], vehicle: u64, now: u32, telegram: &[u8]) -> ();
     sweep(store: &mut [u8], now: u32) -> ();
-    marshal(list: &[u8], store: &[u8], now: u32, bus: &mut [u8]) -> u64;
-    compose(list: &[u8], kind: u64, values: &[u64], marks: &[u8], out: &mut [u8]) -> ();
+    marshal(list: &[u8], form: Form, store: &[u8], now: u32, bus: &mut [u8]) -> u64;
+    compose(list: &[u8], form: Form, kind: u64, values: &[u64], marks: &[u8], out: &mut [u8]) -> ();
     show(kind: Kind, width: u64, raw: u64) -> Shown;
     resolve(marks: &[u8], address: u64) -> Members;
     e_read(telegram: &[u8]) -> EReading;
     e_answer(telegram: &[u8], head: &[u8], status: u8, out: &mut [u8]) -> ();
 }
 
-pub fn extends(a: &[u8], b: &[u8]) -> Extends {
-    match dustferrule::extends(a, b) {
+pub fn extends(a: &[u8], form: Form, b: &[u8], other: Form) -> Extends {
+    match dustferrule::extends(a, form, b, other) {
         dustferrule::Extends::Yes => Extends::Yes,
         dustferrule::Extends::No => Extends::No,
         dustferrule::Extends::First(error) => Extends::First(plain(error)),
@@ -71,12 +74,13 @@ pub fn extends(a: &[u8], b: &[u8]) -> Extends {
 
 pub fn read(
     list: &[u8],
+    form: Form,
     store: &[u8],
     now: u32,
     vehicle: u64,
     signal: u64,
 ) -> Result<Reading, Refusal> {
-    let read = dustferrule::read(list, store, now, vehicle, signal).map_err(plain)?;
+    let read = dustferrule::read(list, form, store, now, vehicle, signal).map_err(plain)?;
     Ok(Reading {
         value: read.value,
         reason: read.reason.number(),
@@ -93,6 +97,8 @@ mod entry;
 mod etelegram;
 #[path = "../../reference/tests/extends.rs"]
 mod extends;
+#[path = "../../reference/tests/form.rs"]
+mod form;
 #[path = "../../reference/tests/list.rs"]
 mod list;
 #[path = "../../reference/tests/marshal.rs"]

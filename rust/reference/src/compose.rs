@@ -2,6 +2,7 @@
 //! head, the list's version, every signal the type carries and every check within the telegram's length;
 //! all other bits are 0."
 
+use crate::form::Form;
 use crate::list::{fits, knows, List, Signal};
 use crate::octets::write_field;
 use crate::refusal::Refusal;
@@ -10,12 +11,13 @@ use crate::store::length_of;
 /// Composes the R-telegram of type `kind` into `out`. Refusals 1 to 4, 9, 13, 14, 15, 16.
 pub fn compose(
     list: &[u8],
+    form: Form,
     kind: u64,
     values: &[u64],
     marks: &[u8],
     out: &mut [u8],
 ) -> Result<(), Refusal> {
-    let list = List::judged(list)?;
+    let list = List::judged(list, form)?;
     let length = length_of(kind)?;
     let kind = kind as u8;
     if values.len() != list.signals.len() || marks.len() != list.checks.len() {

@@ -1,6 +1,7 @@
 //! A list's signals by their number, "from 0", and by type and start, which name one signal: "within a type each start is at or past the
 //! end of the field before". Document 01 has no call for either; both are refused by its numbers.
 
+use crate::form::Form;
 use crate::list::{List, Signal};
 use crate::refusal::Refusal;
 
@@ -26,12 +27,12 @@ pub struct Entry {
 }
 
 /// The entry of signal number `signal`. Refusals 1 to 4, 11.
-pub fn signal_entry(list: &[u8], signal: u64) -> Result<Entry, Refusal> {
-    let list = List::judged(list)?;
+pub fn signal_entry(list: &[u8], form: Form, signal: u64) -> Result<Entry, Refusal> {
+    let list = List::judged(list, form)?;
     if signal >= list.signals.len() as u64 {
         return Err(Refusal::plain(11));
     }
-    let signal = Signal::of(&list.signals[signal as usize]);
+    let signal = list.signals.at(signal as usize);
     Ok(Entry {
         start: signal.start(),
         width: signal.width(),
@@ -45,8 +46,8 @@ pub fn signal_entry(list: &[u8], signal: u64) -> Result<Entry, Refusal> {
 }
 
 /// The number of the signal of type `kind` that starts at `start`. Refusals 1 to 4, 11.
-pub fn find_signal(list: &[u8], kind: u64, start: u64) -> Result<u64, Refusal> {
-    let list = List::judged(list)?;
+pub fn find_signal(list: &[u8], form: Form, kind: u64, start: u64) -> Result<u64, Refusal> {
+    let list = List::judged(list, form)?;
     let found =
         list.signals.iter().map(Signal::of).position(|signal| {
             u64::from(signal.kind()) == kind && u64::from(signal.start()) == start

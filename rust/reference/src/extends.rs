@@ -2,6 +2,7 @@
 //! none) and since-version; each code of it known under A is known under B; and each signal only in B has
 //! a since-version above A's version."
 
+use crate::form::Form;
 use crate::list::{Code, CodeEntry, List, Signal};
 use crate::refusal::Refusal;
 
@@ -18,13 +19,13 @@ pub enum Extends {
     Second(Refusal),
 }
 
-/// Whether list `b` extends list `a`.
-pub fn extends(a: &[u8], b: &[u8]) -> Extends {
-    let a = match List::judged(a) {
+/// Whether list `b`, of form `other`, extends list `a`, of form `form`.
+pub fn extends(a: &[u8], form: Form, b: &[u8], other: Form) -> Extends {
+    let a = match List::judged(a, form) {
         Ok(a) => a,
         Err(refusal) => return Extends::First(refusal),
     };
-    let b = match List::judged(b) {
+    let b = match List::judged(b, other) {
         Ok(b) => b,
         Err(refusal) => return Extends::Second(refusal),
     };

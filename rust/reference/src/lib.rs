@@ -1,6 +1,6 @@
 //! The gateway library of document 01, written a second time and independently: taking R-telegrams into
-//! a store, sweeping it, reading and marshalling signals, composing R-telegrams, judging signal lists, resolving
-//! addresses, and reading and answering E-telegrams.
+//! a store, sweeping it, reading and marshalling signals, composing R-telegrams, judging signal lists and moving
+//! them from one form to the other, resolving addresses, and reading and answering E-telegrams.
 //!
 //! Every function is total: it answers or refuses for every input and never panics. Every public call
 //! tests its own input, and a refusal changes no lent octet.
@@ -12,6 +12,7 @@ mod compose;
 mod entry;
 mod etelegram;
 mod extends;
+mod form;
 mod grouping;
 mod list;
 mod marshal;
@@ -27,6 +28,7 @@ pub use compose::compose;
 pub use entry::{find_signal, signal_entry, Entry};
 pub use etelegram::{e_answer, e_read, EReading};
 pub use extends::{extends, Extends};
+pub use form::{serial, to_form_1, to_form_2, Form};
 pub use grouping::check_place;
 pub use list::{judge, Counts};
 pub use marshal::marshal;
@@ -34,6 +36,6 @@ pub use octets::{read_field, write_field};
 pub use reading::{read, Reading};
 pub use refusal::Refusal;
 pub use shown::{show, Kind, Shown};
-pub use sizes::{HEAD, HEARD, SIGNAL_SIZE, SLOT, STAMP, STORE, TELEGRAM, VEHICLES};
+pub use sizes::{HEAD, HEARD, SERIAL_SIZE, SIGNAL_SIZE, SLOT, STAMP, STORE, TELEGRAM, VEHICLES};
 pub use store::{sweep, take};
 pub use train::{resolve, Members};

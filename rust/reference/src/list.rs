@@ -1,6 +1,7 @@
 //! "The signal list": "Four sections in this order, each after a 2-octet count; the list ends with the
 //! last."
 
+use crate::form::Form;
 use crate::refusal::Refusal;
 use crate::sizes::SIGNAL_SIZE;
 
@@ -19,7 +20,7 @@ const TELEGRAM_END: u32 = 1024;
 
 /// A check entry as it stands: "2 octets each: a bit address".
 pub(crate) type CheckEntry = [u8; 2];
-/// A signal entry as it stands.
+/// A signal entry as it stands, without its serial number.
 pub(crate) type SignalEntry = [u8; SIGNAL_SIZE];
 /// A known-code entry as it stands, 6 octets.
 pub(crate) type CodeEntry = [u8; 6];
@@ -119,10 +120,56 @@ impl Route {
     }
 }
 
+/// The signal entries of a list, in the octets of its form.
+#[derive(Clone, Copy)]
+pub(crate) struct Signals<'a> {
+    octets: &'a [u8],
+    size: usize,
+}
+
+impl<'a> Signals<'a> {
+    #[inline]
+    pub fn len(self) -> usize {
+        self.octets.len() / self.size
+    }
+
+    /// All of them, with their serial numbers.
+    #[inline]
+    pub fn octets(self) -> &'a [u8] {
+        self.octets
+    }
+
+    #[inline]
+    pub fn iter(self) -> impl Iterator<Item = &'a SignalEntry> {
+        let plain = |entry: &'a [u8]| entry.first_chunk();
+        self.octets.chunks_exact(self.size).filter_map(plain)
+    }
+
+    #[inline]
+    pub fn get(self, signal: usize) -> Option<&'a SignalEntry> {
+        self.octets.get(signal * self.size..)?.first_chunk()
+    }
+
+    /// The entry of a signal that is there.
+    #[inline]
+    pub fn at(self, signal: usize) -> Signal {
+        let mut entry = [0; SIGNAL_SIZE];
+        entry.copy_from_slice(&self.octets[signal * self.size..][..SIGNAL_SIZE]);
+        Signal::of(&entry)
+    }
+
+    /// What stands behind the entry of a signal that is there; 0 where nothing does.
+    pub fn serial(self, signal: usize) -> u16 {
+        let entry = &self.octets[signal * self.size..][..self.size];
+        let octets = entry[SIGNAL_SIZE..].iter();
+        octets.fold(0, |number, &octet| number << 8 | u16::from(octet))
+    }
+}
+
 /// A list that was judged good, still in the octets it was lent in.
 pub(crate) struct List<'a> {
     pub checks: &'a [CheckEntry],
-    pub signals: &'a [SignalEntry],
+    pub signals: Signals<'a>,
     pub codes: &'a [CodeEntry],
     pub routes: &'a [RouteEntry],
     /// "The list's version is its greatest since-version, 1 if it has no signal."
@@ -132,25 +179,27 @@ pub(crate) struct List<'a> {
 impl<'a> List<'a> {
     /// "Judging goes section by section: count readable, count within its limit, entries all present,
     /// then the entries; the first bad entry ends the judging."
-    pub fn judged(list: &'a [u8]) -> Result<Self, Refusal> {
+    pub fn judged(list: &'a [u8], form: Form) -> Result<Self, Refusal> {
         let at = |rest: &[u8]| list.len() - rest.len();
 
         let (checks, rest) = section(list, 0, MOST_CHECKS)?;
-        good(0, checks, first_bad_check(checks))?;
+        good(0, 2, first_bad_check(checks))?;
 
         let offset = at(rest);
-        let (signals, rest) = section(rest, offset, MOST_SIGNALS)?;
+        let size = form.signal_size();
+        let (octets, rest) = entries(rest, offset, MOST_SIGNALS, size)?;
+        let signals = Signals { octets, size };
         let mut version = 1;
         let bad = first_bad_signal(signals, checks, &mut version);
-        good(offset, signals, bad)?;
+        good(offset, size, bad)?;
 
         let offset = at(rest);
         let (codes, rest) = section(rest, offset, MOST_CODES)?;
-        good(offset, codes, first_bad_code(codes, signals))?;
+        good(offset, 6, first_bad_code(codes, signals))?;
 
         let offset = at(rest);
         let (routes, rest) = section(rest, offset, MOST_ROUTES)?;
-        good(offset, routes, first_bad_route(routes, signals))?;
+        good(offset, 6, first_bad_route(routes, signals))?;
 
         if !rest.is_empty() {
             return Err(Refusal::with(4, at(rest)));
@@ -220,14 +269,26 @@ pub(crate) fn knows(codes: &[CodeEntry], value: u64) -> bool {
     }
 }
 
-/// The entries of the section whose count stands at the head of `rest`, and the list behind them. "Each
-/// section is judged as the rest of the list from its count onward."
+/// The entries, of `N` octets each, of a section, and the list behind them.
 #[inline]
 fn section<const N: usize>(
     rest: &[u8],
     offset: usize,
     most: usize,
 ) -> Result<(&[[u8; N]], &[u8]), Refusal> {
+    let (octets, rest) = entries(rest, offset, most, N)?;
+    Ok((octets.as_chunks().0, rest))
+}
+
+/// The octets of the entries, of `size` octets each, of the section whose count stands at the head of
+/// `rest`, and the list behind them. "Each section is judged as the rest of the list from its count onward."
+#[inline]
+fn entries(
+    rest: &[u8],
+    offset: usize,
+    most: usize,
+    size: usize,
+) -> Result<(&[u8], &[u8]), Refusal> {
     let Some((&count, rest)) = rest.split_first_chunk() else {
         return Err(Refusal::with(1, offset));
     };
@@ -235,18 +296,16 @@ fn section<const N: usize>(
     if count > most {
         return Err(Refusal::with(2, offset));
     }
-    let Some((entries, rest)) = rest.split_at_checked(count * N) else {
-        return Err(Refusal::with(1, offset));
-    };
-    Ok((entries.as_chunks().0, rest))
+    rest.split_at_checked(count * size)
+        .ok_or(Refusal::with(1, offset))
 }
 
 /// Refuses the entry at fault, if there is one, by its offset in the list: the section's count stands at
-/// `offset`, and an entry has `N` octets.
+/// `offset`, and an entry has `size` octets.
 #[inline]
-fn good<const N: usize>(offset: usize, _: &[[u8; N]], bad: Option<usize>) -> Result<(), Refusal> {
+fn good(offset: usize, size: usize, bad: Option<usize>) -> Result<(), Refusal> {
     match bad {
-        Some(entry) => Err(Refusal::with(3, offset + 2 + entry * N)),
+        Some(entry) => Err(Refusal::with(3, offset + 2 + entry * size)),
         None => Ok(()),
     }
 }
@@ -266,11 +325,7 @@ fn first_bad_check(checks: &[CheckEntry]) -> Option<usize> {
 /// "Types never fall from one entry to the next; within a type each start is at or past the end of the
 /// field before. No field shares a bit with any check."
 #[inline]
-fn first_bad_signal(
-    signals: &[SignalEntry],
-    checks: &[CheckEntry],
-    version: &mut u8,
-) -> Option<usize> {
+fn first_bad_signal(signals: Signals, checks: &[CheckEntry], version: &mut u8) -> Option<usize> {
     let place = |check: usize| {
         checks
             .get(check)
@@ -317,7 +372,7 @@ fn first_bad_signal(
 /// "The signal exists and has width at most 16; low ≤ high < 2^width. Signal numbers never fall; within a
 /// signal, low exceeds the previous high by at least 2."
 #[inline]
-fn first_bad_code(codes: &[CodeEntry], signals: &[SignalEntry]) -> Option<usize> {
+fn first_bad_code(codes: &[CodeEntry], signals: Signals) -> Option<usize> {
     let mut signal = 0;
     let mut least = 0;
     codes.iter().position(|entry| {
@@ -342,7 +397,7 @@ fn first_bad_code(codes: &[CodeEntry], signals: &[SignalEntry]) -> Option<usize>
 /// "The signal exists; the field ends at or before bit 2048; each start is at or past the end of the
 /// route before."
 #[inline]
-fn first_bad_route(routes: &[RouteEntry], signals: &[SignalEntry]) -> Option<usize> {
+fn first_bad_route(routes: &[RouteEntry], signals: Signals) -> Option<usize> {
     let mut least = 0;
     routes.iter().position(|entry| {
         let route = Route::of(entry);
@@ -377,8 +432,8 @@ pub struct Counts {
 }
 
 /// Judges a signal list: refusals 1 to 4.
-pub fn judge(list: &[u8]) -> Result<Counts, Refusal> {
-    let list = List::judged(list)?;
+pub fn judge(list: &[u8], form: Form) -> Result<Counts, Refusal> {
+    let list = List::judged(list, form)?;
     Ok(Counts {
         checks: list.checks.len(),
         signals: list.signals.len(),

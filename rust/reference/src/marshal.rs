@@ -1,7 +1,8 @@
 //! "Marshalling writes each route's value into its destination field, changes no other bit, and reports
 //! how many routes had reason 0 or 1."
 
-use crate::list::{CodeEntry, List, Route, Signal, MOST_SIGNALS};
+use crate::form::Form;
+use crate::list::{CodeEntry, List, Route, MOST_SIGNALS};
 use crate::octets::write_field;
 use crate::reading::read_slot;
 use crate::refusal::Refusal;
@@ -11,13 +12,19 @@ use crate::store::{slots, Slots};
 const FEW_ROUTES: usize = 64;
 
 /// Writes every route of the list into `data` and gives the live count. Refusals 1 to 4, 5, 12.
-pub fn marshal(list: &[u8], store: &[u8], now: u32, data: &mut [u8]) -> Result<u64, Refusal> {
-    let list = List::judged(list)?;
+pub fn marshal(
+    list: &[u8],
+    form: Form,
+    store: &[u8],
+    now: u32,
+    data: &mut [u8],
+) -> Result<u64, Refusal> {
+    let list = List::judged(list, form)?;
     let slots = slots(store)?;
     // "12: data shorter than a route's end": each start is at or past the end of the route before, so the
     // last route ends last.
     if let Some(route) = list.routes.last().map(Route::of) {
-        let signal = Signal::of(&list.signals[usize::from(route.signal)]);
+        let signal = list.signals.at(usize::from(route.signal));
         let end = usize::from(route.start) + usize::from(signal.width());
         if data.len() < end.div_ceil(8) {
             return Err(Refusal::plain(12));
@@ -45,7 +52,7 @@ fn write_routes<'a>(
     let mut live = 0;
     for route in list.routes.iter().map(Route::of) {
         let number = usize::from(route.signal);
-        let signal = Signal::of(&list.signals[number]);
+        let signal = list.signals.at(number);
         let slot = &slots[usize::from(route.vehicle) - 1];
         let reading = read_slot(list, signal, codes_of(number), slot, now);
         write_field(

@@ -1,6 +1,7 @@
 //! "Reading gives a value and a reason. The first that applies, from 2 upward; with 2 to 8 the value is
 //! the replacement".
 
+use crate::form::Form;
 use crate::list::{knows, CodeEntry, List, Signal};
 use crate::octets::{read_field, read_mark};
 use crate::refusal::Refusal;
@@ -20,19 +21,20 @@ pub struct Reading {
 /// Reads signal number `signal` (from 0) of `vehicle` out of the store. Refusals 1 to 4, 5, 6, 11.
 pub fn read(
     list: &[u8],
+    form: Form,
     store: &[u8],
     now: u32,
     vehicle: u64,
     signal: u64,
 ) -> Result<Reading, Refusal> {
-    let list = List::judged(list)?;
+    let list = List::judged(list, form)?;
     let slots = slots(store)?;
     let slot = slot_of(vehicle)?;
     if signal >= list.signals.len() as u64 {
         return Err(Refusal::plain(11));
     }
     let number = signal as usize;
-    let signal = Signal::of(&list.signals[number]);
+    let signal = list.signals.at(number);
     Ok(read_slot(
         &list,
         signal,

@@ -1,4 +1,4 @@
-//! The sizes that document 01 gives a store and a signal entry. Each is spelled here alone: the tests, the
+//! The sizes that documents 01 and 02 give a store and a signal entry. Each is spelled here alone: the tests, the
 //! comparison and the bench take them from here.
 
 use std::ops::Range;
@@ -19,5 +19,7 @@ pub const SLOT: usize = HEAD + TELEGRAM;
 /// The octets of a store.
 pub const STORE: usize = VEHICLES * SLOT;
 
-/// The octets of a signal entry.
+/// The octets of a signal entry in form 1, which are the first of one in form 2.
 pub const SIGNAL_SIZE: usize = 16;
+/// The octets of a serial number, "the last two" of a signal entry in form 2.
+pub const SERIAL_SIZE: usize = 2;

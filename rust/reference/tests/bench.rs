@@ -2,7 +2,9 @@
 
 mod support;
 
-use reference::{check_place, judge, marshal, read, show, take, Counts, Kind, Reading, Shown};
+use reference::{
+    check_place, judge, marshal, read, show, take, Counts, Form, Kind, Reading, Shown,
+};
 use support::{r1, refusal, L, STORE};
 
 /// "Vehicle 1 sends R1, version 1", with octets 41 and 54 as given.
@@ -13,7 +15,7 @@ fn heard(stamp: u32, octet_41: u8, octet_54: u8) -> Vec<u8> {
 }
 
 fn reading(store: &[u8], now: u32) -> (u64, u8) {
-    let Reading { value, reason } = read(&L, store, now, 1, 0).unwrap();
+    let Reading { value, reason } = read(&L, Form::One, store, now, 1, 0).unwrap();
     (value, reason)
 }
 
@@ -26,7 +28,7 @@ fn list_l_is_judged() {
         routes: 1,
         version: 1,
     };
-    assert_eq!(judge(&L), Ok(counts));
+    assert_eq!(judge(&L, Form::One), Ok(counts));
 }
 
 #[test]
@@ -57,7 +59,7 @@ fn h_has_age_4296() {
     let store = heard(4_294_967_000, 0x10, 0x40);
     list[12..16].copy_from_slice(&4_296u32.to_be_bytes());
     assert_eq!(
-        read(&list, &store, 4_000, 1, 0),
+        read(&list, Form::One, &store, 4_000, 1, 0),
         Ok(Reading {
             value: 4,
             reason: 0
@@ -65,7 +67,7 @@ fn h_has_age_4296() {
     );
     list[12..16].copy_from_slice(&4_295u32.to_be_bytes());
     assert_eq!(
-        read(&list, &store, 4_000, 1, 0),
+        read(&list, Form::One, &store, 4_000, 1, 0),
         Ok(Reading {
             value: 0,
             reason: 3
@@ -76,10 +78,13 @@ fn h_has_age_4296() {
 #[test]
 fn j_and_k_marshalled() {
     let mut data = [0xAB];
-    assert_eq!(marshal(&L, &heard(0, 0x10, 0x40), 5_000, &mut data), Ok(1));
+    assert_eq!(
+        marshal(&L, Form::One, &heard(0, 0x10, 0x40), 5_000, &mut data),
+        Ok(1)
+    );
     assert_eq!(data, [0x4B]);
     let mut data = [0xAB];
-    assert_eq!(marshal(&L, &[0; STORE], 5_000, &mut data), Ok(0));
+    assert_eq!(marshal(&L, Form::One, &[0; STORE], 5_000, &mut data), Ok(0));
     assert_eq!(data, [0x0B]);
 }
 
@@ -97,11 +102,11 @@ fn also_run() {
         show(Kind::SignedPercentage, 16, 49_152),
         Ok(Shown::Percentage(-100.0))
     );
-    assert_eq!(judge(&L[..43]), Err(refusal(1, 36)));
+    assert_eq!(judge(&L[..43], Form::One), Err(refusal(1, 36)));
     let mut more = L.to_vec();
     more.push(0);
-    assert_eq!(judge(&more), Err(refusal(4, 44)));
-    assert_eq!(judge(&[]), Err(refusal(1, 0)));
+    assert_eq!(judge(&more, Form::One), Err(refusal(4, 44)));
+    assert_eq!(judge(&[], Form::One), Err(refusal(1, 0)));
 }
 
 /// "Slips that have been shipped".
@@ -126,7 +131,7 @@ fn slips() {
     let mut list = L;
     list[11] = 2;
     assert_eq!(
-        read(&list, &heard(0, 0x10, 0x40), 0, 1, 0),
+        read(&list, Form::One, &heard(0, 0x10, 0x40), 0, 1, 0),
         Ok(Reading {
             value: 0,
             reason: 5

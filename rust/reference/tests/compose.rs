@@ -1,24 +1,30 @@
 mod support;
 
-use reference::{compose, read, take};
+use reference::{compose, read, take, Form};
 use support::plain::{self, List, Signal};
 use support::{make, refusal, Random, EASE, L, STORE};
 
 #[test]
 fn list_l_composed() {
     let mut out = [0xEE; 128];
-    assert_eq!(compose(&L, 1, &[4], &[1], &mut out), Ok(()));
+    assert_eq!(compose(&L, Form::One, 1, &[4], &[1], &mut out), Ok(()));
     let mut expected = [0; 128];
     (expected[0], expected[1], expected[40], expected[53]) = (0x11, 1, 0x10, 0x40);
     assert_eq!(out, expected);
     // R2 does not carry the signal, but the check lies in its length.
-    assert_eq!(compose(&L, 2, &[u64::MAX], &[3], &mut out), Ok(()));
+    assert_eq!(
+        compose(&L, Form::One, 2, &[u64::MAX], &[3], &mut out),
+        Ok(())
+    );
     let mut expected = [0; 128];
     (expected[0], expected[1], expected[40]) = (0x12, 1, 0x30);
     assert_eq!(out, expected);
     // R3 carries neither, and tests neither.
     let mut out = [0xEE; 40];
-    assert_eq!(compose(&L, 3, &[u64::MAX], &[255], &mut out), Ok(()));
+    assert_eq!(
+        compose(&L, Form::One, 3, &[u64::MAX], &[255], &mut out),
+        Ok(())
+    );
     let mut expected = [0; 40];
     (expected[0], expected[1]) = (0x13, 1);
     assert_eq!(out, expected);
@@ -28,7 +34,7 @@ fn list_l_composed() {
 fn refusals_and_their_order() {
     let check = |list: &[u8], kind: u64, values: &[u64], marks: &[u8], length: usize| {
         let mut out = vec![0xEE; length];
-        let answer = compose(list, kind, values, marks, &mut out);
+        let answer = compose(list, Form::One, kind, values, marks, &mut out);
         assert!(answer.is_ok() || out.iter().all(|&octet| octet == 0xEE));
         answer
     };
@@ -62,15 +68,21 @@ fn checks_not_named_and_at_the_edge_are_written() {
     }
     .octets();
     let mut out = [0; 40];
-    assert_eq!(compose(&list, 3, &[], &[1, 2, 4, 4], &mut out), Ok(()));
+    assert_eq!(
+        compose(&list, Form::One, 3, &[], &[1, 2, 4, 4], &mut out),
+        Ok(())
+    );
     assert_eq!((out[2], out[39]), (0x40, 0x02));
     let mut out = [0; 40];
     assert_eq!(
-        compose(&list, 3, &[], &[1, 4, 0, 0], &mut out),
+        compose(&list, Form::One, 3, &[], &[1, 4, 0, 0], &mut out),
         Err(refusal(14, 0))
     );
     let mut out = [0; 128];
-    assert_eq!(compose(&list, 1, &[], &[1, 2, 3, 3], &mut out), Ok(()));
+    assert_eq!(
+        compose(&list, Form::One, 1, &[], &[1, 2, 3, 3], &mut out),
+        Ok(())
+    );
     assert_eq!(
         (out[2], out[39], out[40], out[127]),
         (0x40, 0x02, 0xC0, 0x03)
@@ -95,14 +107,17 @@ fn the_first_signal_at_fault() {
     .octets();
     let mut out = [0; 128];
     assert_eq!(
-        compose(&list, 1, &[0, 16, 16, 16], &[], &mut out),
+        compose(&list, Form::One, 1, &[0, 16, 16, 16], &[], &mut out),
         Err(refusal(15, 1))
     );
     assert_eq!(
-        compose(&list, 2, &[0, 16, 16, 16], &[], &mut out),
+        compose(&list, Form::One, 2, &[0, 16, 16, 16], &[], &mut out),
         Err(refusal(15, 3))
     );
-    assert_eq!(compose(&list, 2, &[0, 16, 16, 15], &[], &mut out), Ok(()));
+    assert_eq!(
+        compose(&list, Form::One, 2, &[0, 16, 16, 15], &[], &mut out),
+        Ok(())
+    );
     assert_eq!((out[0], out[1], out[2], out[40]), (0x12, 7, 0, 0xF0));
 }
 
@@ -124,7 +139,7 @@ fn fields_of_up_to_64_bits() {
         }
         .octets();
         let mut out = [0; 128];
-        let mut answer = |value| compose(&list, 1, &[value], &[], &mut out);
+        let mut answer = |value| compose(&list, Form::One, 1, &[value], &[], &mut out);
         assert_eq!(answer(u64::MAX >> (64 - width)), Ok(()));
         let past = answer((u64::MAX >> (64 - width)).wrapping_add(1));
         let expected = if width < 64 {
@@ -177,7 +192,7 @@ fn made_lists() {
         };
         let before = r.octets(length);
         let (mut ours, mut expected) = (before.clone(), before);
-        let answer = compose(&octets, kind, &values, &marks, &mut ours);
+        let answer = compose(&octets, Form::One, kind, &values, &marks, &mut ours);
         assert_eq!(
             answer,
             plain::compose(&list, kind, &values, &marks, &mut expected)
@@ -190,7 +205,7 @@ fn made_lists() {
             let mut store = vec![0; STORE];
             take(&mut store, 9, 77, &ours).unwrap();
             for (i, s) in list.signals.iter().enumerate() {
-                let reading = read(&octets, &store, 77, 9, i as u64).unwrap();
+                let reading = read(&octets, Form::One, &store, 77, 9, i as u64).unwrap();
                 let mark = s
                     .check
                     .checked_sub(1)

@@ -1,6 +1,6 @@
 mod support;
 
-use reference::{find_signal, judge, signal_entry, Entry};
+use reference::{find_signal, judge, signal_entry, Entry, Form};
 use support::plain::{List, Signal};
 use support::{make, refusal, Random, EASE, L};
 
@@ -30,10 +30,10 @@ fn the_signal_of_l() {
         replacement: 0,
         place: 322,
     };
-    assert_eq!(signal_entry(&L, 0), Ok(entry));
-    assert_eq!(find_signal(&L, 1, 424), Ok(0));
+    assert_eq!(signal_entry(&L, Form::One, 0), Ok(entry));
+    assert_eq!(find_signal(&L, Form::One, 1, 424), Ok(0));
     for number in [1, 2, 256, 1 << 32, u64::MAX] {
-        assert_eq!(signal_entry(&L, number), Err(refusal(11, 0)));
+        assert_eq!(signal_entry(&L, Form::One, number), Err(refusal(11, 0)));
     }
     // Another type, a start inside the field, numbers that are these once cut to fewer bits.
     for (kind, start) in [
@@ -48,7 +48,7 @@ fn the_signal_of_l() {
         (1, 1 << 32 | 424),
         (u64::MAX, u64::MAX),
     ] {
-        assert_eq!(find_signal(&L, kind, start), Err(refusal(11, 0)));
+        assert_eq!(find_signal(&L, Form::One, kind, start), Err(refusal(11, 0)));
     }
 }
 
@@ -59,11 +59,14 @@ fn every_signal_of_made_lists() {
         let list = make::list(&mut r, round % 500 == 0);
         let octets = list.octets();
         for (number, s) in (0..).zip(&list.signals) {
-            assert_eq!(signal_entry(&octets, number), Ok(plain(&list, s)));
-            assert_eq!(find_signal(&octets, s.kind, s.start), Ok(number));
+            assert_eq!(
+                signal_entry(&octets, Form::One, number),
+                Ok(plain(&list, s))
+            );
+            assert_eq!(find_signal(&octets, Form::One, s.kind, s.start), Ok(number));
         }
         let past = list.signals.len() as u64;
-        assert_eq!(signal_entry(&octets, past), Err(refusal(11, 0)));
+        assert_eq!(signal_entry(&octets, Form::One, past), Err(refusal(11, 0)));
     }
 }
 
@@ -77,7 +80,7 @@ fn every_type_and_start_of_a_list() {
             let at = |s: &Signal| s.kind == kind && s.start == start;
             let found = list.signals.iter().position(at);
             let found = found.map(|number| number as u64).ok_or(refusal(11, 0));
-            assert_eq!(find_signal(&octets, kind, start), found);
+            assert_eq!(find_signal(&octets, Form::One, kind, start), found);
         }
     }
 }
@@ -88,9 +91,9 @@ fn a_bad_list_is_refused_first() {
     for _ in 0..4_000 / EASE {
         let list = make::list(&mut r, false);
         let spoiled = make::spoiled(&mut r, &list);
-        if let Err(refused) = judge(&spoiled) {
-            assert_eq!(signal_entry(&spoiled, 999), Err(refused));
-            assert_eq!(find_signal(&spoiled, 9, 9), Err(refused));
+        if let Err(refused) = judge(&spoiled, Form::One) {
+            assert_eq!(signal_entry(&spoiled, Form::One, 999), Err(refused));
+            assert_eq!(find_signal(&spoiled, Form::One, 9, 9), Err(refused));
         }
     }
 }

@@ -1,11 +1,11 @@
 mod support;
 
-use reference::{extends, Extends};
+use reference::{extends, Extends, Form};
 use support::plain::{self, Code, List, Signal};
 use support::{make, refusal, Random, EASE, L};
 
 fn answer(a: &List, b: &List) -> bool {
-    let ours = extends(&a.octets(), &b.octets());
+    let ours = extends(&a.octets(), Form::One, &b.octets(), Form::One);
     let plain = plain::extends(a, b);
     assert_eq!(ours, if plain { Extends::Yes } else { Extends::No });
     plain
@@ -13,13 +13,22 @@ fn answer(a: &List, b: &List) -> bool {
 
 #[test]
 fn which_list_is_refused() {
-    assert_eq!(extends(&L, &L), Extends::Yes);
-    assert_eq!(extends(&L[..43], &[]), Extends::First(refusal(1, 36)));
-    assert_eq!(extends(&L, &L[..43]), Extends::Second(refusal(1, 36)));
-    assert_eq!(extends(&[0; 8], &[0; 8]), Extends::Yes);
-    assert_eq!(extends(&L, &[0; 8]), Extends::No);
+    assert_eq!(extends(&L, Form::One, &L, Form::One), Extends::Yes);
+    assert_eq!(
+        extends(&L[..43], Form::One, &[], Form::One),
+        Extends::First(refusal(1, 36))
+    );
+    assert_eq!(
+        extends(&L, Form::One, &L[..43], Form::One),
+        Extends::Second(refusal(1, 36))
+    );
+    assert_eq!(
+        extends(&[0; 8], Form::One, &[0; 8], Form::One),
+        Extends::Yes
+    );
+    assert_eq!(extends(&L, Form::One, &[0; 8], Form::One), Extends::No);
     // A's version is 1 and the signal's since-version is not above it.
-    assert_eq!(extends(&[0; 8], &L), Extends::No);
+    assert_eq!(extends(&[0; 8], Form::One, &L, Form::One), Extends::No);
 }
 
 #[test]

@@ -1,6 +1,6 @@
 mod support;
 
-use reference::{check_place, judge, Counts};
+use reference::{check_place, judge, Counts, Form};
 use support::plain::{self, Code, List, Route, Signal};
 use support::{make, refusal, Random, EASE, L, SIGNAL_SIZE};
 
@@ -25,7 +25,7 @@ fn with(signals: &[Signal]) -> List {
 
 fn ok(list: &List) -> bool {
     let octets = list.octets();
-    let answer = judge(&octets);
+    let answer = judge(&octets, Form::One);
     assert_eq!(answer, plain::judge(&octets));
     answer.is_ok()
 }
@@ -37,14 +37,14 @@ fn made_and_spoiled_lists() {
     for round in 0..8_000 / EASE {
         let list = make::list(&mut r, round % 1000 == 0);
         let good = list.octets();
-        assert_eq!(judge(&good), plain::judge(&good));
-        assert!(judge(&good).is_ok());
+        assert_eq!(judge(&good, Form::One), plain::judge(&good));
+        assert!(judge(&good, Form::One).is_ok());
         let spoiled = if r.one_in(2) {
             make::spoiled(&mut r, &list)
         } else {
             make::changed(&mut r, &list).octets()
         };
-        let answer = judge(&spoiled);
+        let answer = judge(&spoiled, Form::One);
         assert_eq!(answer, plain::judge(&spoiled), "{spoiled:02X?}");
         met[answer.map_or_else(|refusal| usize::from(refusal.number), |_| 0)] += 1;
     }
@@ -57,7 +57,7 @@ fn every_octet_of_l_changed() {
         for octet in 0..=255 {
             let mut list = L;
             list[at] = octet;
-            assert_eq!(judge(&list), plain::judge(&list));
+            assert_eq!(judge(&list, Form::One), plain::judge(&list));
         }
     }
 }
@@ -68,7 +68,7 @@ fn every_head_of_a_list() {
     for _ in 0..20 {
         let list = make::list(&mut r, false).octets();
         for length in 0..list.len() {
-            let answer = judge(&list[..length]);
+            let answer = judge(&list[..length], Form::One);
             assert_eq!(answer, plain::judge(&list[..length]));
             assert_eq!(answer.unwrap_err().number, 1);
         }
@@ -77,18 +77,27 @@ fn every_head_of_a_list() {
 
 #[test]
 fn counts_come_before_presence() {
-    assert_eq!(judge(&[0]), Err(refusal(1, 0)));
-    assert_eq!(judge(&[0, 65]), Err(refusal(2, 0)));
-    assert_eq!(judge(&[0, 64]), Err(refusal(1, 0)));
-    assert_eq!(judge(&[0, 0, 1, 1]), Err(refusal(2, 2)));
-    assert_eq!(judge(&[0, 0, 1, 0]), Err(refusal(1, 2)));
-    assert_eq!(judge(&[0, 0, 0, 0, 2, 1]), Err(refusal(2, 4)));
-    assert_eq!(judge(&[0, 0, 0, 0, 2, 0]), Err(refusal(1, 4)));
-    assert_eq!(judge(&[0, 0, 0, 0, 0, 0, 2, 1]), Err(refusal(2, 6)));
-    assert_eq!(judge(&[0, 0, 0, 0, 0, 0, 2, 0]), Err(refusal(1, 6)));
-    assert_eq!(judge(&[0, 0, 0, 0, 0, 0, 0, 0, 9]), Err(refusal(4, 8)));
+    assert_eq!(judge(&[0], Form::One), Err(refusal(1, 0)));
+    assert_eq!(judge(&[0, 65], Form::One), Err(refusal(2, 0)));
+    assert_eq!(judge(&[0, 64], Form::One), Err(refusal(1, 0)));
+    assert_eq!(judge(&[0, 0, 1, 1], Form::One), Err(refusal(2, 2)));
+    assert_eq!(judge(&[0, 0, 1, 0], Form::One), Err(refusal(1, 2)));
+    assert_eq!(judge(&[0, 0, 0, 0, 2, 1], Form::One), Err(refusal(2, 4)));
+    assert_eq!(judge(&[0, 0, 0, 0, 2, 0], Form::One), Err(refusal(1, 4)));
+    assert_eq!(
+        judge(&[0, 0, 0, 0, 0, 0, 2, 1], Form::One),
+        Err(refusal(2, 6))
+    );
+    assert_eq!(
+        judge(&[0, 0, 0, 0, 0, 0, 2, 0], Form::One),
+        Err(refusal(1, 6))
+    );
+    assert_eq!(
+        judge(&[0, 0, 0, 0, 0, 0, 0, 0, 9], Form::One),
+        Err(refusal(4, 8))
+    );
     // A bad check comes before what is wrong further on.
-    assert_eq!(judge(&[0, 1, 0, 15, 255]), Err(refusal(3, 2)));
+    assert_eq!(judge(&[0, 1, 0, 15, 255], Form::One), Err(refusal(3, 2)));
     let empty = Counts {
         checks: 0,
         signals: 0,
@@ -96,7 +105,7 @@ fn counts_come_before_presence() {
         routes: 0,
         version: 1,
     };
-    assert_eq!(judge(&[0; 8]), Ok(empty));
+    assert_eq!(judge(&[0; 8], Form::One), Ok(empty));
 }
 
 #[test]
@@ -134,7 +143,7 @@ fn the_longest_list() {
         routes: 512,
         version: 156,
     };
-    assert_eq!(judge(&octets), Ok(counts));
+    assert_eq!(judge(&octets, Form::One), Ok(counts));
     assert_eq!(plain::judge(&octets), Ok(counts));
 }
 
@@ -208,7 +217,7 @@ fn signal_order() {
         signal(327, 8, 1),
     ]);
     let last = 2 + 2 + 3 * SIGNAL_SIZE as u64;
-    assert_eq!(judge(&list.octets()), Err(refusal(3, last)));
+    assert_eq!(judge(&list.octets(), Form::One), Err(refusal(3, last)));
 }
 
 #[test]

@@ -1,25 +1,34 @@
 mod support;
 
-use reference::marshal;
+use reference::{marshal, Form};
 use support::{make, plain, plant, r1, refusal, Random, EASE, L, STORE};
 
 #[test]
 fn refusals_and_their_order() {
     let mut data = [0xAB; 3];
-    assert_eq!(marshal(&[], &[], 0, &mut data), Err(refusal(1, 0)));
-    assert_eq!(marshal(&L, &[], 0, &mut []), Err(refusal(5, 0)));
-    assert_eq!(marshal(&L, &[0; STORE], 0, &mut []), Err(refusal(12, 0)));
-    assert_eq!(marshal(&[0; 8], &[0; STORE], 0, &mut []), Ok(0));
+    assert_eq!(
+        marshal(&[], Form::One, &[], 0, &mut data),
+        Err(refusal(1, 0))
+    );
+    assert_eq!(marshal(&L, Form::One, &[], 0, &mut []), Err(refusal(5, 0)));
+    assert_eq!(
+        marshal(&L, Form::One, &[0; STORE], 0, &mut []),
+        Err(refusal(12, 0))
+    );
+    assert_eq!(marshal(&[0; 8], Form::One, &[0; STORE], 0, &mut []), Ok(0));
     assert_eq!(data, [0xAB; 3]);
     // A field of 4 bits at bit 5 ends in the second octet.
     let mut list = L;
     list[43] = 5;
     assert_eq!(
-        marshal(&list, &[0; STORE], 0, &mut data[..1]),
+        marshal(&list, Form::One, &[0; STORE], 0, &mut data[..1]),
         Err(refusal(12, 0))
     );
     assert_eq!(data, [0xAB; 3]);
-    assert_eq!(marshal(&list, &[0; STORE], 0, &mut data[..2]), Ok(0));
+    assert_eq!(
+        marshal(&list, Form::One, &[0; STORE], 0, &mut data[..2]),
+        Ok(0)
+    );
     assert_eq!(data, [0xA8, 0x2B, 0xAB]);
 }
 
@@ -47,7 +56,10 @@ fn a_wide_replacement_leads_with_zeros() {
         ..plain::List::default()
     };
     let mut data = [0xFF; 9];
-    assert_eq!(marshal(&list.octets(), &[0; STORE], 0, &mut data), Ok(0));
+    assert_eq!(
+        marshal(&list.octets(), Form::One, &[0; STORE], 0, &mut data),
+        Ok(0)
+    );
     assert_eq!(data, [0xF0, 0, 0, 0x10, 0x20, 0x30, 0x40, 0x50, 0x6F]);
 }
 
@@ -71,7 +83,7 @@ fn made_lists_and_stores() {
         };
         let before = r.octets(length as usize);
         let (mut ours, mut expected) = (before.clone(), before);
-        let answer = marshal(&octets, &store, now, &mut ours);
+        let answer = marshal(&octets, Form::One, &store, now, &mut ours);
         assert_eq!(answer, plain::marshal(&list, &store, now, &mut expected));
         assert_eq!(ours, expected);
         match answer {
@@ -94,6 +106,6 @@ fn no_other_slot_is_looked_at() {
     let mut store = vec![0xFF; STORE];
     plant(&mut store, 1, 1, 0, &r1(0x10, 0x60));
     let mut data = [0xFF];
-    assert_eq!(marshal(&L, &store, 0, &mut data), Ok(1));
+    assert_eq!(marshal(&L, Form::One, &store, 0, &mut data), Ok(1));
     assert_eq!(data, [0x6F]);
 }

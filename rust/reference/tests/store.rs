@@ -1,6 +1,6 @@
 mod support;
 
-use reference::{read, sweep, take};
+use reference::{read, sweep, take, Form};
 use support::{plant, r1, refusal, Random, HEAD, HEARD, L, SLOT, STAMP, STORE};
 
 fn telegram(head: u8, length: usize) -> Vec<u8> {
@@ -112,8 +112,11 @@ fn old_signals_stay_too_old_as_the_counter_comes_round() {
     for half in 1..=6u64 {
         let (swept, later) = (half << 31, (half << 31) + 1_000);
         sweep(&mut store, swept as u32).unwrap();
-        let reason =
-            |list: &[u8], store: &[u8]| read(list, store, later as u32, 1, 0).unwrap().reason;
+        let reason = |list: &[u8], store: &[u8]| {
+            read(list, Form::One, store, later as u32, 1, 0)
+                .unwrap()
+                .reason
+        };
         assert_eq!(reason(&L, &store), 3);
         assert_eq!(reason(&unlimited, &store), 0);
         // What the coach showed: live again after each whole turn.
@@ -121,6 +124,6 @@ fn old_signals_stay_too_old_as_the_counter_comes_round() {
     }
     take(&mut store, 1, 7, &r1(0x10, 0x40)).unwrap();
     assert_eq!((store[HEARD], store[HEAD]), (1, 0x11));
-    assert_eq!(read(&L, &store, 5_007, 1, 0).unwrap().reason, 0);
-    assert_eq!(read(&L, &store, 5_008, 1, 0).unwrap().reason, 3);
+    assert_eq!(read(&L, Form::One, &store, 5_007, 1, 0).unwrap().reason, 0);
+    assert_eq!(read(&L, Form::One, &store, 5_008, 1, 0).unwrap().reason, 3);
 }

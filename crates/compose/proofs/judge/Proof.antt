@@ -7,7 +7,7 @@ use Rattle.compose.proofs.judge.Tie as tie
 compose-under-requires : tie.Need-compose-under-requires
 compose-under-requires c κs =
     let m = c .before in
-    let l = laid-of _ _ _ (m .judged2 .given .1) (m .before .before .judge .ensures) in
+    let l = laid-of _ _ _ _ (m .judged2 .given .1) (m .before .before .judge .ensures) in
     (l .signals .opens .within, l .checks .opens .within)
 
 pub judge-spec : {M : Type 1} → statement M

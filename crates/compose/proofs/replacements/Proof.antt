@@ -7,10 +7,10 @@ use Rattle.compose.proofs.replacements.Statement.{statement}
 use Rattle.compose.proofs.replacements.Tie as tie
 
 abbrev Inv-loop : tie.InvT-loop
-Inv-loop list values₀ k₀ values k = length values ≡ length values₀
+Inv-loop list form values₀ k₀ values k = length values ≡ length values₀
 
 abbrev μ-loop : tie.MeasureT-loop
-μ-loop list values₀ k₀ values k = length values₀ - k
+μ-loop list form values₀ k₀ values k = length values₀ - k
 
 pub replacements-spec : {M : Type 1} → statement M
 replacements-spec =

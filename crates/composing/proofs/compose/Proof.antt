@@ -14,11 +14,11 @@ use Rattle.composing.proofs.compose.Tie as tie
 
 accepted : (c : tie.After-judged2) →
     let k = c .before .before .before in
-    judgedAnswer (Accepted (c .judged2 .given .0 .0)) ≡ judge (now (k .before .before .before .before .args .list))
+    judgedAnswer (Accepted (c .judged2 .given .0 .0)) ≡ judge (k .before .before .before .before .args .form) (now (k .before .before .before .before .args .list))
 accepted c = sym (ap judgedAnswer (c .judged2 .given .1)) ∙ c .before .before .judge .ensures
 
 compose-under-requires : tie.Need-compose-under-requires
-compose-under-requires c κs = accepted-laid _ _ (accepted (c .before .before))
+compose-under-requires c κs = accepted-laid _ _ _ (accepted (c .before .before))
 
 returns : tie.Need-returns
 returns c =

@@ -17,7 +17,7 @@ returns c =
     let w = c .before in
     let a = w .before .before .before .before .args in
     ap (λ (b : Bool). not b || leb (getD (now (a .marks)) (a .j) 0) 3)
-    (w .is-within .ensures ∙ ap (λ (place : ℕ). leb (place + markWidth) (8 * typeLength (a .kind))) (w .before .check-at .ensures .is))
+    (w .is-within .ensures ∙ ap (λ (place : ℕ). leb (place + markWidth) (8 * typeLength (a .kind))) (w .before .check-in .ensures .is))
 
 pub mark-fits-spec : {M : Type 1} → statement M
 mark-fits-spec =

@@ -34,7 +34,7 @@ within : (c : tie.After-is-within Inv-loop μ-loop) →
     let p = g .before .before .before in
     let a = p .before .before .before .before .args in
     c .is-within .result ≡ writesCheck (listOf (now (a .list)) (countsOf (a .n))) (a .kind) (p .loop .j)
-within c = rw (← (c .before .before .check-at .ensures .is)) (c .is-within .ensures)
+within c = rw (← (c .before .before .check-in .ensures .is)) (c .is-within .ensures)
 
 write-where-requires : tie.Need-write-where-requires Inv-loop μ-loop
 write-where-requires c κs = λ w.
@@ -42,7 +42,7 @@ write-where-requires c κs = λ w.
     let p = g .before .before .before in
     let s = p .before .before .before .before in
     let there = check-there _ (kept-of _ _ (s .pre .0 .laid)) (s .args .kind) (p .loop .out) (p .loop .inv .1 .long ∙ s .pre .1 .long) in
-    rw (g .check-at .ensures .is) (there (p .loop .j) (sym (within (c .before)) ∙ w))
+    rw (g .check-in .ensures .is) (there (p .loop .j) (sym (within (c .before)) ∙ w))
 
 loop-again : tie.Need-loop-again Inv-loop μ-loop
 loop-again c =
@@ -50,7 +50,7 @@ loop-again c =
     let q = w .before .before in
     let g = q .before .before in
     let p = g .before .before .before in
-    let is = g .check-at .ensures .is in
+    let is = g .check-in .ensures .is in
     (search needs, one-put _ _ (p .loop .j) (p .loop .out) _ _ _ _ _ (p .loop .inv .1) (w .write-where .ensures) (within q) is refl refl)
 
 returns : tie.Need-returns Inv-loop μ-loop

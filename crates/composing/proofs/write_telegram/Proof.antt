@@ -3,9 +3,9 @@ use mathlib.Core.Path.{_∙_}
 use native.Mathlib.Omega.{arith}
 use denote.Ref.{now}
 use borrow.Author.Needs.{needs}
-use Rattle.paper.specs.SignalList.{listOf, version}
+use Rattle.paper.specs.SignalList.{listOf}
 use Rattle.paper.specs.Composing.{composed}
-use Rattle.paper.proofs.ListLaws.{kept-of}
+use Rattle.paper.proofs.ListLaws.{kept-of, version-here}
 use Rattle.paper.proofs.ComposingLaws.{version-octet}
 use Rattle.lists.specs.Judged.{countsOf}
 use Rattle.composing.proofs.Laws.{head-is}
@@ -16,12 +16,11 @@ abbrev start : tie.After-write-head-arg → tie.Start
 start c = c .before .before .before .before .before
 
 write-head-requires : tie.Need-write-head-requires
-unfolding version
 write-head-requires c κs =
     let s = start c in
     let n = countsOf (s .args .n) in
     let h = s .pre .0 .laid in
-    (s .pre .2, omega (arith, h .version, version-octet (listOf (now (s .args .list)) n) (kept-of _ n h)))
+    (s .pre .2, omega (arith, version-here (now (s .args .list)) n h, version-octet (listOf (now (s .args .list)) n) (kept-of _ n h)))
 
 write-signals-requires : tie.Need-write-signals-requires
 write-signals-requires c κs =

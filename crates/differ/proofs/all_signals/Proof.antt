@@ -24,7 +24,7 @@ within : (c : tie.After-pairing Inv-loop μ-loop)
     → (c .before .before .before .before .loop .key ≤ c .pairing .given .0 .0 .key) × (c .pairing .given .0 .0 .key < signalKeys)
 within c =
     let f = c .before .before in
-    pairing-within _ _ (f .before .before .loop .key) (pairOf (c .pairing .given .0 .0)) (sym (f .pair-from .ensures) ∙ ap pairingAnswer (c .pairing .given .1))
+    pairing-within _ _ _ _ (f .before .before .loop .key) (pairOf (c .pairing .given .0 .0)) (sym (f .pair-from .ensures) ∙ ap pairingAnswer (c .pairing .given .1))
 
 add-key : tie.Need-add-key Inv-loop μ-loop
 add-key c = omega (arith, within (paired c) .1)

@@ -1,5 +1,6 @@
 use borrow.Author.Tests.{lt-ltb, le-ltb, le-leb, lt-leb}
 use borrow.Author.Needs.{needs}
+use Rattle.paper.proofs.ListLaws.{entry-in}
 use Rattle.entries.specs.Entries.{codeKeeps}
 use Rattle.entries.proofs.code_rule.Statement.{statement}
 use Rattle.entries.proofs.code_rule.Tie as tie
@@ -7,6 +8,11 @@ use Rattle.entries.proofs.code_rule.Tie as tie
 returns : tie.Need-returns
 unfolding codeKeeps
 returns c = simp (le-ltb _ _ (c .if1 .taken))
+
+width-of-requires : tie.Need-width-of-requires
+width-of-requires c κs =
+    let s = c .before .before .before in
+    (s .pre .0, entry-in _ _ _ (c .if1 .left) (s .pre .1))
 
 returns-2 : tie.Need-returns-2
 unfolding codeKeeps
@@ -21,4 +27,4 @@ returns-3 c =
 
 pub code-rule-spec : {M : Type 1} → statement M
 code-rule-spec =
-    tie.close (tie.spec returns (λ c κs. search needs) returns-2 (λ c κs. search needs) (λ c κs. search needs) returns-3)
+    tie.close (tie.spec returns width-of-requires returns-2 (λ c κs. search needs) (λ c κs. search needs) returns-3)

@@ -8,7 +8,7 @@ use borrow.Author.Tests.{not-true, not-false}
 use Rattle.paper.specs.Pairs.{signalKey}
 use Rattle.paper.specs.SignalList.{SignalList, version}
 use Rattle.paper.specs.Accepted.{Kept}
-use Rattle.paper.proofs.ListLaws.{kept-of}
+use Rattle.paper.proofs.ListLaws.{kept-of, version-here}
 use Rattle.known.specs.Known.{From}
 use Rattle.known.proofs.Laws.{ordered-of, past-own, from-later, from-none}
 use Rattle.extending.specs.Extending.{listed, Newer}
@@ -39,13 +39,12 @@ newer : (c : tie.After-past-newer Inv-loop μ-loop) →
     let l = c .before .before .before .before .before in
     let s = l .before .before .before in
     Newer (second s) (l .loop .j) (signalKey (first s .signal (l .loop .i))) (version (first s)) (c .past-newer .result)
-unfolding version
 newer c =
     let k = c .before in
     let r = k .before in
     let l = r .before .before .before in
     let s = l .before .before .before in
-    rw (s .pre .0 .version) at (rw (k .signal-key .ensures ∙ ap signalKey (r .signal-in .ensures .is)) at (c .past-newer .ensures))
+    rw (version-here _ _ (s .pre .0)) at (rw (k .signal-key .ensures ∙ ap signalKey (r .signal-in .ensures .is)) at (c .past-newer .ensures))
 
 along : (c : tie.After-past-newer Inv-loop μ-loop) →
     let l = c .before .before .before .before .before in
@@ -121,13 +120,12 @@ loop-again c =
     )
 
 returns-3 : tie.Need-returns-3 Inv-loop μ-loop
-unfolding version
 returns-3 c =
     let p = c .before in
     let e = p .before in
     let l = e .before .before in
     let s = l .before .before .before in
-    all-along _ _ (kept-a s) (kept-b s) _ _ _ (l .loop .inv .0) (e .if1 .left) (rw (s .pre .0 .version) at (p .past-newer2 .ensures))
+    all-along _ _ (kept-a s) (kept-b s) _ _ _ (l .loop .inv .0) (e .if1 .left) (rw (version-here _ _ (s .pre .0)) at (p .past-newer2 .ensures))
 
 pub compared-spec : {M : Type 1} → statement M
 compared-spec =

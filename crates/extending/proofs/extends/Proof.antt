@@ -12,11 +12,11 @@ use Rattle.extending.proofs.extends.Statement.{statement}
 use Rattle.extending.proofs.extends.Tie as tie
 
 told : (c : tie.After-known-told2)
-    → gives (countsOf (c .before .judged2 .given .0 .0)) ≡ judge (now (c .before .before .before .before .before .before .args .a))
+    → gives (countsOf (c .before .judged2 .given .0 .0)) ≡ judge (c .before .before .before .before .before .before .args .form) (now (c .before .before .before .before .before .before .args .a))
 told c = sym (ap judgedAnswer (c .before .judged2 .given .1)) ∙ c .before .before .before .judge .ensures
 
 extends-accepted-requires : tie.Need-extends-accepted-requires
-extends-accepted-requires c κs = accepted-laid _ _ (told c)
+extends-accepted-requires c κs = accepted-laid _ _ _ (told c)
 
 returns : tie.Need-returns
 unfolding extendsLists

@@ -11,11 +11,11 @@ use Rattle.extending.proofs.extends_accepted.Statement.{statement}
 use Rattle.extending.proofs.extends_accepted.Tie as tie
 
 told : (c : tie.After-known-told2)
-    → gives (countsOf (c .before .judged2 .given .0 .0)) ≡ judge (now (c .before .before .before .before .before .before .args .b))
+    → gives (countsOf (c .before .judged2 .given .0 .0)) ≡ judge (c .before .before .before .before .before .before .args .other) (now (c .before .before .before .before .before .before .args .b))
 told c = sym (ap judgedAnswer (c .before .judged2 .given .1)) ∙ c .before .before .before .judge .ensures
 
 compared-requires : tie.Need-compared-requires
-compared-requires c κs = (c .before .before .before .before .before .before .pre, accepted-laid _ _ (told c))
+compared-requires c κs = (c .before .before .before .before .before .before .pre, accepted-laid _ _ _ (told c))
 
 returns : tie.Need-returns
 returns c = by-given _ _ _ _ _ (told (c .before .before)) (ap ofBoth (sym (c .if1 .taken) ∙ c .before .compared .ensures))

@@ -14,7 +14,7 @@ returns c =
     let b = p .before in
     let g = b .before in
     let a = g .before .before .before .args in
-    code-is (a .base) (a .signals) (signalAt (now (a .sig))) (codeAt (now (a .tail))) (a .k) (g .code-at .ensures .is) (p .code-at2 .ensures .is ∙ ap (codeAt (now (a .tail))) (b .before2 .ensures)) (w .width-at .ensures .is)
+    code-is (a .base) (a .signals) (signalAt (a .size) (now (a .sig))) (codeAt (now (a .tail))) (a .k) (g .code-at .ensures .is) (p .code-at2 .ensures .is ∙ ap (codeAt (now (a .tail))) (b .before2 .ensures)) (w .width-at .ensures .is)
     (c .before .named-signal .ensures) (c .code-number .ensures)
 
 pub code-fault-spec : {M : Type 1} → statement M

@@ -3,6 +3,7 @@ use Rattle.faults.proofs.Laws.{opened, not-opened, found-here, all-kept
 use Rattle.paper.specs.Broken.{faultOf}
 use Rattle.paper.specs.SignalList.{checkSize, mostChecks}
 use Rattle.paper.specs.Accepted.{Opened}
+use Rattle.paper.proofs.ListLaws.{form-sized}
 use denote.Ref.{now}
 use native.Mathlib.Omega.{arith}
 use borrow.Author.Needs.{needs}
@@ -26,13 +27,14 @@ returns c =
     (c .check-fault .ensures)
 
 rest-requires : tie.Need-rest-requires
-rest-requires c κs = opens (c .before .before) .present
+rest-requires c κs = opens (c .before .before .before) .present
 
 from-signals-requires : tie.Need-from-signals-requires
 from-signals-requires c κs =
-    let e = c .before in
+    let z = c .before in
+    let e = z .before in
     let t = e .before .before in
-    (omega (arith, opens t), opens t .present, all-kept _ _ (e .before .first-bad-check .ensures) (e .if1 .left))
+    ((rw (z .entry-size .ensures) (form-sized _), omega (arith, opens t)), (opens t .present, all-kept _ _ (e .before .first-bad-check .ensures) (e .if1 .left)))
 
 returns-2 : tie.Need-returns-2
 unfolding faultOf
@@ -42,10 +44,11 @@ returns-3 : tie.Need-returns-3
 unfolding faultOf
 returns-3 c =
     let r = c .before in
-    let e = r .before in
+    let z = r .before in
+    let e = z .before in
     let t = e .before .before in
     goes-past _ _ _ _ _ _ (t .before .before .before .«open» .ensures) _ (t .before .opened .given .1) (e .before .first-bad-check .ensures) (e .if1 .left) _
-    (rw (r .rest .ensures) at (c .from-signals .ensures))
+    (rw (r .rest .ensures, z .entry-size .ensures) at (c .from-signals .ensures))
 
 pub find-fault-spec : {M : Type 1} → statement M
 find-fault-spec =
@@ -59,6 +62,7 @@ find-fault-spec =
     returns
     (λ c. omega (arith, opens (c .before .before)))
     (λ c. omega (arith, opens (c .before .before)))
+    (λ c κs. search needs)
     rest-requires
     from-signals-requires
     returns-2

@@ -9,16 +9,22 @@ use borrow.Author.Needs.{needs}
 use Rattle.faults.proofs.from_codes.Statement.{statement}
 use Rattle.faults.proofs.from_codes.Tie as tie
 
-opens : (c : tie.After-known-told) → Opened mostCodes codeSize (now (c .before .before .before .before .before .before .args .tail)) (c .before .opened .given .0 .0)
+abbrev start : tie.After-known-told → tie.Start
+start c = c .before .before .before .before .before .before
+
+opens : (c : tie.After-known-told) → Opened mostCodes codeSize (now (start c .args .tail)) (c .before .opened .given .0 .0)
 opens c = opened _ _ _ (c .before .before .before .«open» .ensures) _ (c .before .opened .given .1)
 
 first-bad-code-requires : tie.Need-first-bad-code-requires
-first-bad-code-requires c κs = (search needs, opens c .present)
+first-bad-code-requires c κs =
+    let p = start c .pre in
+    ((p .0 .least, p .2), opens c .present)
 
 code-fault-requires : tie.Need-code-fault-requires
 code-fault-requires c κs =
     let t = c .before .before in
-    ((search needs, omega (arith, opens t)), (omega arith, omega (arith, opens t)))
+    let p = start t .pre in
+    ((p .2, omega (arith, opens t)), (p .0, omega (arith, p .1), omega (arith, opens t)))
 
 returns : tie.Need-returns
 unfolding faultFromCodes
@@ -31,7 +37,10 @@ rest-requires : tie.Need-rest-requires
 rest-requires c κs = opens (c .before .before) .present
 
 from-routes-requires : tie.Need-from-routes-requires
-from-routes-requires c κs = (omega (arith, opens (c .before .before .before)), search needs)
+from-routes-requires c κs =
+    let t = c .before .before .before in
+    let p = start t .pre in
+    (p .0, omega (arith, opens t, p .1), p .2)
 
 returns-2 : tie.Need-returns-2
 unfolding faultFromCodes

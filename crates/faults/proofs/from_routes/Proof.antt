@@ -10,16 +10,22 @@ use borrow.Author.Needs.{needs}
 use Rattle.faults.proofs.from_routes.Statement.{statement}
 use Rattle.faults.proofs.from_routes.Tie as tie
 
-opens : (c : tie.After-known-told) → Opened mostRoutes routeSize (now (c .before .before .before .before .before .before .args .tail)) (c .before .opened .given .0 .0)
+abbrev start : tie.After-known-told → tie.Start
+start c = c .before .before .before .before .before .before
+
+opens : (c : tie.After-known-told) → Opened mostRoutes routeSize (now (start c .args .tail)) (c .before .opened .given .0 .0)
 opens c = opened _ _ _ (c .before .before .before .«open» .ensures) _ (c .before .opened .given .1)
 
 first-bad-route-requires : tie.Need-first-bad-route-requires
-first-bad-route-requires c κs = (search needs, opens c .present)
+first-bad-route-requires c κs =
+    let p = start c .pre in
+    ((p .0 .least, p .2), opens c .present)
 
 route-fault-requires : tie.Need-route-fault-requires
 route-fault-requires c κs =
     let t = c .before .before in
-    ((search needs, omega (arith, opens t)), (search needs, omega (arith, opens t)))
+    let p = start t .pre in
+    ((p .2, omega (arith, opens t)), (p .0, p .1, omega (arith, opens t)))
 
 returns : tie.Need-returns
 unfolding faultFromRoutes

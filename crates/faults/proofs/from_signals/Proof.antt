@@ -1,44 +1,56 @@
 -- `faults::from_signals` meets its contract. Assumes nothing.
-use Rattle.faults.proofs.Laws.{opened, not-opened, breaks, found-here, goes-past}
+use Rattle.faults.proofs.Laws.{opened, not-opened, breaks, found-here, goes-past, entry-number, entry-before, entry-past}
 use Rattle.paper.specs.Broken.{faultFromSignals}
-use Rattle.paper.specs.SignalList.{signalSize, mostSignals, checkAt, signalAt, signalRule}
-use Rattle.paper.specs.Accepted.{Opened}
+use Rattle.paper.specs.SignalList.{mostSignals, checkAt, signalAt, signalRule}
+use Rattle.paper.specs.Accepted.{Opened, Sized}
+use Rattle.paper.proofs.ListLaws.{entry-in}
 use denote.Ref.{now}
+use native.Mathlib.Nat.{mul-le-mul}
 use native.Mathlib.Omega.{arith}
 use Rattle.paper.specs.First.{firstBad}
 use mathlib.Core.Bool.{Bool}
 use mathlib.Core.Path.{_≡_}
-use Prim.Native.Nat.{ℕ, _-_, _/_, _<_}
+use Prim.Native.Nat.{ℕ, _-_, _*_, _/_, _≤_, _<_}
 use borrow.Author.Needs.{needs}
 use Rattle.faults.proofs.from_signals.Statement.{statement}
 use Rattle.faults.proofs.from_signals.Tie as tie
 
-opens : (c : tie.After-known-told) → Opened mostSignals signalSize (now (c .before .before .before .before .before .before .args .tail)) (c .before .opened .given .0 .0)
+abbrev start : tie.After-known-told → tie.Start
+start c = c .before .before .before .before .before .before
+
+sized : (c : tie.After-known-told) → Sized (start c .args .size)
+sized c = start c .pre .0 .0
+
+opens : (c : tie.After-known-told) → Opened mostSignals (start c .args .size) (now (start c .args .tail)) (c .before .opened .given .0 .0)
 opens c = opened _ _ _ (c .before .before .before .«open» .ensures) _ (c .before .opened .given .1)
+
+small : (c : tie.After-known-told) → start c .args .size * c .before .opened .given .0 .0 ≤ 18 * mostSignals
+small c = mul-le-mul {n₂ = 18} {m₂ = mostSignals} (sized c .most) (opens c .within)
 
 -- what the loop over the entries tells of the entry that it stopped at
 abbrev rule : tie.After-first-bad-signal → ℕ → Bool
 rule c =
-    let a = c .before .before .before .before .before .before .before .args in
-    signalRule (a .checks) (checkAt (now (a .list))) (signalAt (now (a .tail)))
+    let a = start (c .before) .args in
+    signalRule (a .checks) (checkAt (now (a .list))) (signalAt (a .size) (now (a .tail)))
 
-first : (c : tie.After-first-bad-signal) → (c .first-bad-signal .result - 2) / 16 ≡ firstBad (rule c) (c .before .before .opened .given .0 .0)
-first c = omega (arith, c .first-bad-signal .ensures)
+first : (c : tie.After-first-bad-signal) → (c .first-bad-signal .result - 2) / start (c .before) .args .size ≡ firstBad (rule c) (c .before .before .opened .given .0 .0)
+first c = entry-number _ (c .first-bad-signal .ensures) (omega (arith, sized (c .before) .least))
 
-below : (c : tie.Then1) → (c .before .first-bad-signal .result - 2) / 16 < c .before .before .before .opened .given .0 .0
-below c = omega (arith, first (c .before), c .before .first-bad-signal .ensures, c .if1 .taken)
+below : (c : tie.Then1) → (c .before .first-bad-signal .result - 2) / start (c .before .before) .args .size < c .before .before .before .opened .given .0 .0
+below c = rw (first (c .before)) (entry-before _ (c .before .first-bad-signal .ensures) _ (c .if1 .taken))
 
 first-bad-signal-requires : tie.Need-first-bad-signal-requires
-first-bad-signal-requires c κs = (search needs, opens c .present)
+first-bad-signal-requires c κs = (start c .pre .1, (sized c, opens c .present))
 
 signal-fault-requires : tie.Need-signal-fault-requires
 signal-fault-requires c κs =
     let l = c .before in
     let t = l .before in
-    let o = opens t in (
-      (search needs, omega (arith, o .present, below c)),
+    let o = opens t in
+    let p = start t .pre in (
+      (p .1 .0, entry-in _ _ _ (below c) (o .present)),
       (
-        (omega arith, omega (arith, o .within, below c)),
+        (p .0 .0, omega (arith, p .0 .1), omega (arith, o .within, below c)),
         breaks (rule l) _ (first l) (below c),
       ),
     )
@@ -55,7 +67,9 @@ rest-requires : tie.Need-rest-requires
 rest-requires c κs = opens (c .before .before) .present
 
 from-codes-requires : tie.Need-from-codes-requires
-from-codes-requires c κs = (omega (arith, opens (c .before .before .before)), opens (c .before .before .before) .present)
+from-codes-requires c κs =
+    let t = c .before .before .before in
+    (sized t, omega (arith, small t, start t .pre .0 .1), opens t .present)
 
 returns-2 : tie.Need-returns-2
 unfolding faultFromSignals
@@ -69,23 +83,24 @@ returns-3 c =
     let l = e .before in
     let t = l .before in
     goes-past _ _ _ _ _ _ (t .before .before .before .«open» .ensures) _ (t .before .opened .given .1) (first l)
-    (omega (arith, first l, l .first-bad-signal .ensures, e .if1 .left)) _
+    (rw (first l) (entry-past _ (l .first-bad-signal .ensures) _ (omega (arith, sized t .least)) (e .if1 .left))) _
     (rw (r .rest .ensures) at (c .from-codes .ensures))
 
 pub from-signals-spec : {M : Type 1} → statement M
 from-signals-spec =
     tie.close
     (tie.spec
-    (λ c κs. search needs)
+    (λ c κs. c .before .before .pre .0 .0 .most)
     (λ c. search needs)
     (λ c. search needs)
     first-bad-signal-requires
-    (λ c. omega (arith, opens (c .before)))
-    (λ c. omega (arith, opens (c .before)))
+    (λ c. omega (arith, small (c .before)))
+    (λ c. omega (arith, small (c .before)))
     (λ c. search needs)
+    (λ c. omega (arith, sized (c .before .before) .least))
     signal-fault-requires
     returns
-    (λ c. omega (arith, opens (c .before .before)))
+    (λ c. omega (arith, small (c .before .before), start (c .before .before) .pre .0 .1))
     rest-requires
     from-codes-requires
     returns-2

@@ -8,6 +8,9 @@ use borrow.Author.Needs.{needs}
 use Rattle.faults.proofs.route_fault.Statement.{statement}
 use Rattle.faults.proofs.route_fault.Tie as tie
 
+abbrev start : tie.After-route-number → tie.Start
+start c = c .before .before .before .before .before .before .before .before .before .before .before
+
 returns : tie.Need-returns
 returns c =
     let v = c .before .before .before in
@@ -16,7 +19,7 @@ returns c =
     let b = p .before in
     let g = b .before in
     let a = g .before .before .before .args in
-    route-is (a .base) (a .signals) (signalAt (now (a .sig))) (routeAt (now (a .tail))) (a .k) (g .route-at .ensures .is) (p .route-at2 .ensures .is ∙ ap (routeAt (now (a .tail))) (b .before2 .ensures)) (w .width-at .ensures .is)
+    route-is (a .base) (a .signals) (signalAt (a .size) (now (a .sig))) (routeAt (now (a .tail))) (a .k) (g .route-at .ensures .is) (p .route-at2 .ensures .is ∙ ap (routeAt (now (a .tail))) (b .before2 .ensures)) (w .width-at .ensures .is)
     (v .width-at2 .ensures .is) (c .before .named-signal .ensures) (c .route-number .ensures)
 
 pub route-fault-spec : {M : Type 1} → statement M
@@ -32,7 +35,7 @@ route-fault-spec =
     (λ c. search needs)
     (λ c κs. search needs)
     (λ c κs. search needs)
-    (λ c. omega (arith, c .before .before .before .before .before .before .before .before .before .before .before .pre .1 .1))
-    (λ c. omega (arith, c .before .before .before .before .before .before .before .before .before .before .before .pre .1 .1))
-    (λ c. omega (arith, c .before .before .before .before .before .before .before .before .before .before .before .pre .1 .0, c .before .before .before .before .before .before .before .before .before .before .before .pre .1 .1))
+    (λ c. omega (arith, start c .pre .1))
+    (λ c. omega (arith, start c .pre .1))
+    (λ c. omega (arith, start c .pre .1))
     returns)

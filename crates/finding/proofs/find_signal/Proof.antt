@@ -13,11 +13,11 @@ use Rattle.lists.proofs.Laws.{accepted-laid}
 use Rattle.finding.proofs.find_signal.Statement.{statement}
 use Rattle.finding.proofs.find_signal.Tie as tie
 
-accepted : (c : tie.After-judged2) → gives (countsOf (c .judged2 .given .0 .0)) ≡ judge (now (c .before .before .before .before .args .list))
+accepted : (c : tie.After-judged2) → gives (countsOf (c .judged2 .given .0 .0)) ≡ judge (c .before .before .before .before .args .form) (now (c .before .before .before .before .args .list))
 accepted c = sym (ap judgedAnswer (c .judged2 .given .1)) ∙ c .before .before .judge .ensures
 
 find-in-requires : tie.Need-find-in-requires
-find-in-requires c κs = accepted-laid _ (c .before .judged2 .given .0 .0) (accepted (c .before))
+find-in-requires c κs = accepted-laid _ _ (c .before .judged2 .given .0 .0) (accepted (c .before))
 
 returns : tie.Need-returns
 unfolding finding

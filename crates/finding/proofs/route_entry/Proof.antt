@@ -12,7 +12,7 @@ use Rattle.lists.proofs.Laws.{accepted-laid}
 use Rattle.finding.proofs.route_entry.Statement.{statement}
 use Rattle.finding.proofs.route_entry.Tie as tie
 
-accepted : (c : tie.After-judged2) → gives (countsOf (c .judged2 .given .0 .0)) ≡ judge (now (c .before .before .before .before .args .list))
+accepted : (c : tie.After-judged2) → gives (countsOf (c .judged2 .given .0 .0)) ≡ judge (c .before .before .before .before .args .form) (now (c .before .before .before .before .args .list))
 accepted c = sym (ap judgedAnswer (c .judged2 .given .1)) ∙ c .before .before .judge .ensures
 
 returns : tie.Need-returns
@@ -20,7 +20,7 @@ unfolding routeEntry
 returns c = goes-on _ _ _ _ (accepted (c .before .before .before)) (simp (le-ltb _ _ (c .if1 .taken)))
 
 route-in-requires : tie.Need-route-in-requires
-route-in-requires c κs = (accepted-laid _ _ (accepted (c .before .before .before)), search needs)
+route-in-requires c κs = (accepted-laid _ _ _ (accepted (c .before .before .before)), search needs)
 
 returns-2 : tie.Need-returns-2
 unfolding routeEntry

@@ -16,12 +16,12 @@ use Rattle.lists.proofs.Laws.{accepted-laid}
 use Rattle.finding.proofs.signal_entry.Statement.{statement}
 use Rattle.finding.proofs.signal_entry.Tie as tie
 
-accepted : (c : tie.After-judged2) → gives (countsOf (c .judged2 .given .0 .0)) ≡ judge (now (c .before .before .before .before .args .list))
+accepted : (c : tie.After-judged2) → gives (countsOf (c .judged2 .given .0 .0)) ≡ judge (c .before .before .before .before .args .form) (now (c .before .before .before .before .args .list))
 accepted c = sym (ap judgedAnswer (c .judged2 .given .1)) ∙ c .before .before .judge .ensures
 
 -- the list with its counts
 laid : (c : tie.After-judged2) → Laid (now (c .before .before .before .before .args .list)) (countsOf (c .judged2 .given .0 .0))
-laid c = accepted-laid _ (c .judged2 .given .0 .0) (accepted c)
+laid c = accepted-laid _ _ (c .judged2 .given .0 .0) (accepted c)
 
 returns : tie.Need-returns
 unfolding entryOf

@@ -10,18 +10,18 @@ use Rattle.lists.proofs.first_bad_code.Statement.{statement}
 use Rattle.lists.proofs.first_bad_code.Tie as tie
 
 abbrev Inv-loop : tie.InvT-loop
-Inv-loop sig signals tail n last₀ least₀ k₀ last least k =
-    (Passed (codeRule signals (signalAt sig) (codeAt tail)) n k)
+Inv-loop sig size signals tail n last₀ least₀ k₀ last least k =
+    (Passed (codeRule signals (signalAt size sig) (codeAt tail)) n k)
     × ((Before (λ j. codeAt tail j .signal) k last) × (Before (λ j. codeAt tail j .high + 2) k least))
 
 abbrev μ-loop : tie.MeasureT-loop
-μ-loop sig signals tail n last₀ least₀ k₀ last least k = n - k
+μ-loop sig size signals tail n last₀ least₀ k₀ last least k = n - k
 
 -- the test is that of the entry as the paper reads it
 tested : (c : tie.After-code-rule Inv-loop μ-loop) →
     let l = c .before .before .before in
     let a = l .before .before .before .args in
-    c .code-rule .result ≡ codeRule (a .signals) (signalAt (now (a .sig))) (codeAt (now (a .tail))) (l .loop .k)
+    c .code-rule .result ≡ codeRule (a .signals) (signalAt (a .size) (now (a .sig))) (codeAt (now (a .tail))) (l .loop .k)
 tested c =
     let i = c .before .before .before .loop .inv in
     c .code-rule .ensures ∙ code-keeps _ _ _ _ (i .1 .0) (i .1 .1) (c .before .code-at .ensures .is)

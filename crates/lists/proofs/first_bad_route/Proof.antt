@@ -6,24 +6,24 @@ use denote.Ref.{now}
 use borrow.Author.Needs.{needs}
 use borrow.Author.Tests.{not-false}
 use Rattle.paper.specs.SignalList.{Route, signalAt, routeEnd, routeAt, routeRule}
-use Rattle.paper.proofs.ListLaws.{route-kept}
+use Rattle.paper.proofs.ListLaws.{route-kept, entry-in}
 use Rattle.paper.proofs.LoopLaws.{Passed, passed-none, passed-more, fails-here, fails-nowhere}
 use Rattle.entries.proofs.Laws.{Before, before-first, before-next, route-keeps}
 use Rattle.lists.proofs.first_bad_route.Statement.{statement}
 use Rattle.lists.proofs.first_bad_route.Tie as tie
 
 abbrev Inv-loop : tie.InvT-loop
-Inv-loop sig signals tail n past₀ k₀ past k =
-    (Passed (routeRule signals (signalAt sig) (routeAt tail)) n k) × (Before (λ j. routeEnd (signalAt sig) (routeAt tail j)) k past)
+Inv-loop sig size signals tail n past₀ k₀ past k =
+    (Passed (routeRule signals (signalAt size sig) (routeAt tail)) n k) × (Before (λ j. routeEnd (signalAt size sig) (routeAt tail j)) k past)
 
 abbrev μ-loop : tie.MeasureT-loop
-μ-loop sig signals tail n past₀ k₀ past k = n - k
+μ-loop sig size signals tail n past₀ k₀ past k = n - k
 
 -- the test is that of the entry as the paper reads it
 tested : (c : tie.After-route-rule Inv-loop μ-loop) →
     let l = c .before .before .before in
     let a = l .before .before .before .args in
-    c .route-rule .result ≡ routeRule (a .signals) (signalAt (now (a .sig))) (routeAt (now (a .tail))) (l .loop .k)
+    c .route-rule .result ≡ routeRule (a .signals) (signalAt (a .size) (now (a .sig))) (routeAt (now (a .tail))) (l .loop .k)
 tested c = c .route-rule .ensures ∙ route-keeps _ _ _ _ (c .before .before .before .loop .inv .1) (c .before .route-at .ensures .is)
 
 returns : tie.Need-returns Inv-loop μ-loop
@@ -38,6 +38,11 @@ exists : (c : tie.Else1 Inv-loop μ-loop) →
 exists c =
     rw (ap (λ (r : Route). r .signal) (c .before .before .route-at .ensures .is))
     (route-kept _ _ _ _ (sym (tested (c .before)) ∙ not-false _ (c .if1 .left)) .exists)
+
+route-end-requires : tie.Need-route-end-requires Inv-loop μ-loop
+route-end-requires c κs =
+    let s = c .before .before .before .before .before .before .before in
+    (s .pre .0 .0, entry-in _ _ _ (exists c) (s .pre .0 .1), search needs)
 
 loop-again : tie.Need-loop-again Inv-loop μ-loop
 loop-again c =
@@ -60,7 +65,7 @@ first-bad-route-spec =
     (λ c κs. search needs)
     (λ c κs. search needs)
     returns
-    (λ c κs. (omega (arith, exists c), search needs))
+    route-end-requires
     (λ c. search needs)
     (λ c. search needs)
     loop-again

@@ -1,16 +1,18 @@
 -- `lists::first_bad_signal` meets its contract. The outer invariant: every signal passed keeps its rule, and the checks before `from` end at or before the
 -- last one's end; the inner: the checks passed end at or before the signal's start. Assumes nothing.
-use Prim.Native.Nat.{ℕ, _-_, _^_, _<_}
+use Prim.Native.Nat.{ℕ, _+_, _-_, _^_, _≤_, _<_}
 use mathlib.Core.Path.{_≡_, refl, sym, ap, _∙_}
 use mathlib.Core.List.{List}
 use mathlib.Core.Bool.{true, _&&_}
 use native.Mathlib.Omega.{arith}
 use lib.Dec.{ltb}
+use lib.ListN.{length}
 use denote.Ref.{now}
 use borrow.Author.Tests.{ltb-true}
 use borrow.Author.Needs.{needs}
-use Rattle.paper.specs.SignalList.{Signal, fieldEnd, entry, signalSize, checkAt, signalAt, signalRule}
+use Rattle.paper.specs.SignalList.{Signal, fieldEnd, entry, checkAt, signalAt, signalRule}
 use Rattle.bools.proofs.Tests.{both}
+use Rattle.paper.proofs.ListLaws.{entry-in}
 use Rattle.paper.proofs.LoopLaws.{Passed, passed-none, passed-more, fails-here, fails-nowhere}
 use Rattle.entries.specs.Entries.{signalOf}
 use Rattle.entries.proofs.Laws.{Before, before-first, before-next, own-breaks, own-passes}
@@ -18,23 +20,23 @@ use Rattle.lists.proofs.Laws.{Behind, behind-none, behind-more, behind-
 use Rattle.lists.proofs.first_bad_signal.Statement.{statement}
 use Rattle.lists.proofs.first_bad_signal.Tie as tie
 
-record Stands (list : List ℕ) (checks : ℕ) (tail : List ℕ) (n kind past from k : ℕ) : Type 0 where
-  passed : Passed (signalRule checks (checkAt list) (signalAt tail)) n k
-  type : Before (λ j. signalAt tail j .type) k kind
-  end : Before (λ j. fieldEnd (signalAt tail j)) k past
+record Stands (list : List ℕ) (checks : ℕ) (tail : List ℕ) (size n kind past from k : ℕ) : Type 0 where
+  passed : Passed (signalRule checks (checkAt list) (signalAt size tail)) n k
+  type : Before (λ j. signalAt size tail j .type) k kind
+  end : Before (λ j. fieldEnd (signalAt size tail j)) k past
   behind : Behind checks (checkAt list) past from
 
 abbrev Inv-loop : tie.InvT-loop
-Inv-loop list checks tail n kind past from k s end j₀ j = Behind checks (checkAt list) (s .start) j
+Inv-loop list checks tail size n kind past from k s end j₀ j = Behind checks (checkAt list) (s .start) j
 
 abbrev μ-loop : tie.MeasureT-loop
-μ-loop list checks tail n kind past from k s end j₀ j = checks - j
+μ-loop list checks tail size n kind past from k s end j₀ j = checks - j
 
 abbrev Inv-signals : tie.InvT-signals
-Inv-signals list checks tail n kind₀ past₀ from₀ k₀ kind past from k = Stands list checks tail n kind past from k
+Inv-signals list checks tail size n kind₀ past₀ from₀ k₀ kind past from k = Stands list checks tail size n kind past from k
 
 abbrev μ-signals : tie.MeasureT-signals
-μ-signals list checks tail n kind₀ past₀ from₀ k₀ kind past from k = n - k
+μ-signals list checks tail size n kind₀ past₀ from₀ k₀ kind past from k = n - k
 
 signals-holds : tie.Need-signals-holds Inv-loop μ-loop Inv-signals μ-signals
 signals-holds c = record { passed = passed-none _ _; type = before-first; end = before-first; behind = behind-none _ }
@@ -65,8 +67,14 @@ below c = ltb-true _ _ (both _ _ (lies c) .0)
 check-at-requires : tie.Need-check-at-requires Inv-loop μ-loop Inv-signals μ-signals
 check-at-requires c κs = omega (arith, below c)
 
-small : (c : tie.Then3 Inv-loop μ-loop Inv-signals μ-signals) → entry signalSize (reading (c .before .before) .before .before .signals .k) < 2 ^ 64
-small c = let s = reading (c .before .before) in omega arith
+-- the entry that the outer loop stands at is present
+here : (c : tie.Else1 Inv-loop μ-loop Inv-signals μ-signals) →
+    let a = c .before .before .before .before .args in
+    entry (a .size) (c .before .signals .k + 1) ≤ length (now (a .tail))
+here c = entry-in _ _ _ (c .if1 .left) (c .before .before .before .before .pre .1 .1)
+
+small : (c : tie.Else1 Inv-loop μ-loop Inv-signals μ-signals) → entry (c .before .before .before .before .args .size) (c .before .signals .k) < 2 ^ 64
+small c = omega (arith, here c)
 
 add-j : tie.Need-add-j Inv-loop μ-loop Inv-signals μ-signals
 add-j c =
@@ -98,13 +106,13 @@ signals-again c =
     }
 
 returns : tie.Need-returns Inv-loop μ-loop Inv-signals μ-signals
-returns c = ap (entry signalSize) (fails-nowhere (c .before .signals .inv .passed) (c .if1 .taken))
+returns c = ap (entry (c .before .before .before .before .args .size)) (fails-nowhere (c .before .signals .inv .passed) (c .if1 .taken))
 
 returns-2 : tie.Need-returns-2 Inv-loop μ-loop Inv-signals μ-signals
 returns-2 c =
     let o = c .before .before in
     let i = o .before .before .signals .inv in
-    ap (entry signalSize)
+    ap (entry (start o .args .size))
     (fails-here (i .passed) (o .before .if1 .left)
     (own-breaks _ _ _ _ (i .type) (i .end) (o .signal-at .ensures .is) (c .before .signal-own .ensures) (c .if2 .taken)) refl)
 
@@ -115,7 +123,7 @@ returns-3 c =
     let e = l .before .before .before in
     let s = reading l in
     let i = s .before .before .signals .inv in
-    ap (entry signalSize)
+    ap (entry (start s .args .size))
     (fails-here (i .passed) (s .before .if1 .left)
     (own-passes _ _ _ _ (i .type) (i .end) (s .signal-at .ensures .is) (e .before .signal-own .ensures) (e .if2 .left)
     (shares-one _ _ (signalOf (s .signal-at .result)) _ (lies t) (rw (c .before .before .check-at .ensures .is) at (c .if4 .taken)))) refl)
@@ -131,18 +139,18 @@ first-bad-signal-spec =
     signals-holds
     (λ c. search needs)
     (λ c. search needs)
+    (λ c κs. (c .before .before .before .before .pre .1 .0 .least, here c))
     (λ c κs. search needs)
-    (λ c κs. search needs)
-    (λ c. search needs)
-    (λ c. search needs)
+    (λ c. omega (arith, small (c .before .before .before)))
+    (λ c. omega (arith, small (c .before .before .before)))
     (λ c. search needs)
     (λ c κs. search needs)
     loop-holds
     (λ c κs. search needs)
     check-at-requires
     (λ c. search needs)
-    (λ c. omega (arith, small (c .before .before .before)))
-    (λ c. omega (arith, small (c .before .before .before)))
+    (λ c. omega (arith, small (reading (c .before .before .before .before .before) .before)))
+    (λ c. omega (arith, small (reading (c .before .before .before .before .before) .before)))
     add-j
     loop-less
     loop-again

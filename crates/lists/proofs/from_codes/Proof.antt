@@ -1,8 +1,9 @@
 -- `lists::from_codes` meets its contract. Assumes nothing.
-use Prim.Native.Nat.{ℕ}
+use Prim.Native.Nat.{ℕ, _-_, _^_, _≤_}
 use mathlib.Core.Path.{ap}
 use mathlib.Core.List.{List}
 use native.Mathlib.Omega.{arith}
+use lib.ListN.{length}
 use denote.Ref.{now}
 use borrow.Author.Needs.{needs}
 use Rattle.paper.specs.Answer.{Answer}
@@ -16,7 +17,7 @@ use Rattle.lists.proofs.from_codes.Tie as tie
 abbrev from : tie.After-open → ℕ → List ℕ → Answer Counts
 from o n ys =
     let a = o .before .before .before .args in
-    fromRoutes (a .signals) (signalAt (now (a .sig))) (a .checks) n ys
+    fromRoutes (a .size) (a .signals) (signalAt (a .size) (now (a .sig))) (a .checks) n ys
 
 abbrev part : tie.After-open → Part
 part o =
@@ -24,7 +25,7 @@ part o =
     record {
       limit = mostCodes;
       size = codeSize;
-      rule = codeRule (a .signals) (signalAt (now (a .sig))) (codeAt (now (a .tail)));
+      rule = codeRule (a .signals) (signalAt (a .size) (now (a .sig))) (codeAt (now (a .tail)));
       octets = now (a .tail);
       next = onward codeSize (now (a .tail)) (from o);
     }
@@ -36,10 +37,13 @@ returns : tie.Need-returns
 unfolding fromCodes
 returns c = entry-broken (opened (c .before .before)) (ap (entry codeSize) (c .before .first-bad-code .ensures)) (c .if1 .taken)
 
+short : (o : tie.After-open) → length (now (o .before .before .before .args .tail)) ≤ 2 ^ 64 - 1
+short o = search needs
+
 moved-requires : tie.Need-moved-requires
 moved-requires c κs =
     let t = c .before .before .before .before in
-    moves (opened t) (from (t .before .before .before)) (c .from-routes .ensures) (c .before .rest .ensures) (search needs) (routes-within _ _ _ _ _)
+    moves (opened t) (from (t .before .before .before)) (c .from-routes .ensures) (c .before .rest .ensures) (short (t .before .before .before)) (routes-within _ _ _ _ _ _)
 
 returns-2 : tie.Need-returns-2
 unfolding fromCodes

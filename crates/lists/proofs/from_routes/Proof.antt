@@ -13,14 +13,14 @@ use Rattle.lists.proofs.from_routes.Tie as tie
 abbrev part : tie.After-open → Part
 part o =
     let a = o .before .before .before .args in
-    let signal = signalAt (now (a .sig)) in
+    let signal = signalAt (a .size) (now (a .sig)) in
     let xs = now (a .tail) in
     record {
       limit = mostRoutes;
       size = routeSize;
       rule = routeRule (a .signals) signal (routeAt xs);
       octets = xs;
-      next = ending (a .signals) signal (a .checks) (a .codes) xs;
+      next = ending (a .size) (a .signals) signal (a .checks) (a .codes) xs;
     }
 
 opened : (c : tie.After-known-told2) → Opens (part (c .before .before .before)) (c .before .opened2 .given .0 .0)
@@ -44,9 +44,9 @@ returns-3 c = not-opened _ (c .before .before .before .«open» .ensures) _ (c .
 returns-4 : tie.Need-returns-4
 unfolding fromRoutes ending refuseIf
 returns-4 c =
-    let e = c .before .before in
+    let e = c .before in
     entries-kept (opened (e .before .before)) (ap (entry routeSize) (e .before .first-bad-route .ensures)) (omega arith) (e .if1 .left) _
-    (simp (le-ltb _ _ (c .before .if2 .left), c .version-of .ensures))
+    (simp (le-ltb _ _ (c .if2 .left), e .before .before .before .before .before .before .before .before .pre .2))
 
 pub from-routes-spec : {M : Type 1} → statement M
 from-routes-spec =
@@ -62,6 +62,5 @@ from-routes-spec =
     (λ c. omega (arith, opened (c .before)))
     returns
     returns-2
-    (λ c κs. search needs)
     returns-3
     returns-4)

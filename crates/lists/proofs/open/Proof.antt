@@ -16,8 +16,8 @@ returns-2 : tie.Need-returns-2
 unfolding opening refuseIf
 returns-2 c = simp (le-ltb _ _ (c .before .before .if1 .left), ← (c .before .read16 .ensures .value), lt-ltb _ _ (c .if2 .taken))
 
-small : (c : tie.Else2) → c .before .before .before .before .args .size * c .before .read16 .result ≤ 16 * 65536
-small c = mul-le-mul {n₂ = 16} {m₂ = 65536} (omega arith) (omega arith)
+small : (c : tie.Else2) → c .before .before .before .before .args .size * c .before .read16 .result ≤ 18 * 65536
+small c = mul-le-mul {n₂ = 18} {m₂ = 65536} (omega arith) (omega arith)
 
 mul-if3 : tie.Need-mul-if3
 mul-if3 c = omega (arith, small c)

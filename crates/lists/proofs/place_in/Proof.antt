@@ -11,7 +11,7 @@ returns c = simp (eq-eqb _ _ (c .if1 .taken))
 
 returns-2 : tie.Need-returns-2
 unfolding placeOf
-returns-2 c = simp (ne-eqb _ _ (c .before .if1 .left)) (c .check-at .ensures .is)
+returns-2 c = simp (ne-eqb _ _ (c .before .if1 .left)) (c .check-in .ensures .is)
 
 pub place-in-spec : {M : Type 1} → statement M
 place-in-spec = tie.close (tie.spec returns (λ c. search needs) (λ c κs. search needs) returns-2)

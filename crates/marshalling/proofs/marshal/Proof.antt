@@ -13,11 +13,11 @@ use Rattle.marshalling.proofs.marshal.Tie as tie
 
 accepted : (c : tie.After-judged2) →
     let j = c .before .before in
-    judgedAnswer (Accepted (c .judged2 .given .0 .0)) ≡ judge (now (j .before .before .before .before .args .list))
+    judgedAnswer (Accepted (c .judged2 .given .0 .0)) ≡ judge (j .before .before .before .before .args .form) (now (j .before .before .before .before .args .list))
 accepted c = sym (ap judgedAnswer (c .judged2 .given .1)) ∙ c .before .before .judge .ensures
 
 marshal-under-requires : tie.Need-marshal-under-requires
-marshal-under-requires c κs = accepted-laid _ _ (accepted (c .before .before))
+marshal-under-requires c κs = accepted-laid _ _ _ (accepted (c .before .before))
 
 returns : tie.Need-returns
 returns c =

@@ -82,7 +82,7 @@ write-route-spec =
     (λ c κs. search needs)
     entries-at-requires
     read-with-requires
-    (λ c κs. search needs)
+    (λ c κs. let t = c .before .before .before in (start t .pre .0 .0 .laid, signal-there t))
     write-field-requires
     (λ c κs. search needs)
     (λ c. search needs)

@@ -12,13 +12,13 @@ use Rattle.pairing.proofs.pair_accepted.Tie as tie
 
 accepted : (c : tie.After-judged2) →
     let j = c .before .before in
-    gives (countsOf (c .judged2 .given .0 .0)) ≡ judge (now (j .before .before .before .args .b))
+    gives (countsOf (c .judged2 .given .0 .0)) ≡ judge (j .before .before .before .args .other) (now (j .before .before .before .args .b))
 accepted c = sym (ap judgedAnswer (c .judged2 .given .1)) ∙ c .before .before .judge .ensures
 
 next-pair-requires : tie.Need-next-pair-requires
 next-pair-requires c κs =
     let j = c .before .before .before in
-    (j .before .before .before .pre, accepted-laid _ _ (accepted (c .before)))
+    (j .before .before .before .pre, accepted-laid _ _ _ (accepted (c .before)))
 
 returns : tie.Need-returns
 returns c = by-refusal _ _ _ _ _ (sym (ap judgedAnswer (c .before .judged .given .1)) ∙ c .before .before .before .judge .ensures)

@@ -13,11 +13,11 @@ use Rattle.pairing.proofs.pair_from.Tie as tie
 
 accepted : (c : tie.After-judged2) →
     let j = c .before .before in
-    gives (countsOf (c .judged2 .given .0 .0)) ≡ judge (now (j .before .before .before .args .a))
+    gives (countsOf (c .judged2 .given .0 .0)) ≡ judge (j .before .before .before .args .form) (now (j .before .before .before .args .a))
 accepted c = sym (ap judgedAnswer (c .judged2 .given .1)) ∙ c .before .before .judge .ensures
 
 pair-accepted-requires : tie.Need-pair-accepted-requires
-pair-accepted-requires c κs = accepted-laid _ _ (accepted (c .before))
+pair-accepted-requires c κs = accepted-laid _ _ _ (accepted (c .before))
 
 returns : tie.Need-returns
 unfolding pairing

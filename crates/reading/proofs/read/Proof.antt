@@ -15,11 +15,11 @@ use Rattle.reading.proofs.read.Tie as tie
 
 accepted : (c : tie.After-judged2) →
     let j = c .before .before in
-    gives (countsOf (c .judged2 .given .0 .0)) ≡ judge (now (j .before .before .before .args .list))
+    gives (countsOf (c .judged2 .given .0 .0)) ≡ judge (j .before .before .before .args .form) (now (j .before .before .before .args .list))
 accepted c = sym (ap judgedAnswer (c .judged2 .given .1)) ∙ c .before .before .judge .ensures
 
 read-under-requires : tie.Need-read-under-requires
-read-under-requires c κs = accepted-laid _ (c .before .judged2 .given .0 .0) (accepted (c .before))
+read-under-requires c κs = accepted-laid _ _ (c .before .judged2 .given .0 .0) (accepted (c .before))
 
 returns : tie.Need-returns
 unfolding reading

@@ -128,6 +128,11 @@ fn section(
 
 impl List {
     pub fn judged(list: &[u8]) -> Result<List, Refusal> {
+        List::judged_of(list, SIGNAL_SIZE)
+    }
+
+    /// With signal entries of so many octets, of which those behind the first 16 have no rule.
+    pub fn judged_of(list: &[u8], size: usize) -> Result<List, Refusal> {
         let mut good = List::default();
         let mut at = 0;
         let bad = |offset: usize| {
@@ -146,7 +151,7 @@ impl List {
             }
             good.checks.push(place);
         }
-        for (offset, e) in section(list, &mut at, 256, SIGNAL_SIZE)? {
+        for (offset, e) in section(list, &mut at, 256, size)? {
             let s = Signal::of(&e);
             let rules = [
                 (1..=64).contains(&s.width),
@@ -277,7 +282,12 @@ impl List {
 }
 
 pub fn judge(list: &[u8]) -> Result<Counts, Refusal> {
-    List::judged(list).map(|list| Counts {
+    judge_of(list, SIGNAL_SIZE)
+}
+
+/// As [`judge`], with signal entries of so many octets.
+pub fn judge_of(list: &[u8], size: usize) -> Result<Counts, Refusal> {
+    List::judged_of(list, size).map(|list| Counts {
         checks: list.checks.len(),
         signals: list.signals.len(),
         codes: list.codes.len(),

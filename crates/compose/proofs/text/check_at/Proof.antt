@@ -5,10 +5,10 @@ use Rattle.compose.proofs.text.check_at.Statement.{statement}
 use Rattle.compose.proofs.text.check_at.Tie as tie
 
 abbrev Inv-loop : tie.InvT-loop
-Inv-loop list signals place k₀ k = Unit {0}
+Inv-loop list form signals place k₀ k = Unit {0}
 
 abbrev μ-loop : tie.MeasureT-loop
-μ-loop list signals place k₀ k = signals - k
+μ-loop list form signals place k₀ k = signals - k
 
 pub check-at-spec : {M : Type 1} → statement M
 check-at-spec =

@@ -6,10 +6,10 @@ use Rattle.compose.proofs.text.print_notes.Statement.{statement}
 use Rattle.compose.proofs.text.print_notes.Tie as tie
 
 abbrev Inv-loop : tie.InvT-loop
-Inv-loop list text kind at₀ line₀ at line = Unit {0}
+Inv-loop list form text kind at₀ line₀ at line = Unit {0}
 
 abbrev μ-loop : tie.MeasureT-loop
-μ-loop list text kind at₀ line₀ at line = length text - at
+μ-loop list form text kind at₀ line₀ at line = length text - at
 
 pub print-notes-spec : {M : Type 1} → statement M
 print-notes-spec =

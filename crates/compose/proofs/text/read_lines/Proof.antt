@@ -7,10 +7,10 @@ use Rattle.compose.proofs.text.read_lines.Statement.{statement}
 use Rattle.compose.proofs.text.read_lines.Tie as tie
 
 abbrev Inv-loop : tie.InvT-loop
-Inv-loop list text values₀ marks₀ at₀ line₀ values marks at line = (length values ≡ length values₀) × (length marks ≡ length marks₀)
+Inv-loop list form text values₀ marks₀ at₀ line₀ values marks at line = (length values ≡ length values₀) × (length marks ≡ length marks₀)
 
 abbrev μ-loop : tie.MeasureT-loop
-μ-loop list text values₀ marks₀ at₀ line₀ values marks at line = length text - at
+μ-loop list form text values₀ marks₀ at₀ line₀ values marks at line = length text - at
 
 pub read-lines-spec : {M : Type 1} → statement M
 read-lines-spec =

@@ -5,10 +5,10 @@ use Rattle.words.proofs.columns.value_column.Statement.{statement}
 use Rattle.words.proofs.columns.value_column.Tie as tie
 
 abbrev Inv-loop : tie.InvT-loop
-Inv-loop list signals from is-placed least column₀ k₀ column k = Unit {0}
+Inv-loop list form signals from is-placed least column₀ k₀ column k = Unit {0}
 
 abbrev μ-loop : tie.MeasureT-loop
-μ-loop list signals from is-placed least column₀ k₀ column k = signals - k
+μ-loop list form signals from is-placed least column₀ k₀ column k = signals - k
 
 pub value-column-spec : {M : Type 1} → statement M
 value-column-spec =
