@@ -3,9 +3,9 @@ VEHICLES = 63
 TELEGRAM = 128
 
 
-def slot(clock, telegram, heard=1):
-    """The slot of a vehicle that was heard, or is expired (2): the heard octet, the stamp, the telegram and zeros behind it."""
-    return bytes([heard]) + clock.to_bytes(4, "big") + telegram + bytes(TELEGRAM - len(telegram))
+def slot(clock, telegram, heard=1, previous=0):
+    """The slot of a vehicle that was heard, or is expired (2): the heard octet, the stamp and the one before it, the telegram and zeros behind it."""
+    return bytes([heard]) + clock.to_bytes(4, "big") + previous.to_bytes(4, "big") + telegram + bytes(TELEGRAM - len(telegram))
 
 
 SLOT = len(slot(0, b""))
@@ -18,9 +18,10 @@ def store(*slots):
 
 
 def taken(before, vehicle, clock, telegram):
-    """The store after a telegram was taken: the vehicle's slot is another, and no other octet."""
+    """The store after a telegram was taken: the vehicle's slot is another, with the stamp that a slot heard before had, and no other octet."""
     at = SLOT * (vehicle - 1)
-    return before[:at] + slot(clock, telegram) + before[at + SLOT:]
+    previous = int.from_bytes(before[at + 1:at + 5], "big") if before[at] in (1, 2) else 0
+    return before[:at] + slot(clock, telegram, 1, previous) + before[at + SLOT:]
 
 
 def expired(before, *vehicles):

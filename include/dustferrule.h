@@ -31,7 +31,7 @@ extern "C" {
 #endif
 
 /* The store: a slot for each of 63 vehicles, vehicle 1 first. A store of zeros has heard nobody. */
-#define DF_STORE_OCTETS 8379
+#define DF_STORE_OCTETS 8631
 
 /* The forms of a list: signal entries of 16 octets, and of 18, with a serial number behind each. */
 enum df_form { DF_FORM_1 = 1, DF_FORM_2 = 2 };
@@ -42,7 +42,7 @@ enum df_form { DF_FORM_1 = 1, DF_FORM_2 = 2 };
     X(COUNT_ABOVE, 2, "count above its limit") \
     X(ENTRY_BROKEN, 3, "entry breaks its rule") \
     X(OCTETS_AFTER, 4, "octets after the routes") \
-    X(STORE_LENGTH, 5, "store not 8,379 octets") \
+    X(STORE_LENGTH, 5, "store not 8,631 octets") \
     X(VEHICLE, 6, "vehicle not 1-63") \
     X(TELEGRAM_SHORT, 7, "R-telegram under 2 octets") \
     X(APPLICATION_TYPE, 8, "application type not 1") \
@@ -120,6 +120,9 @@ typedef struct { uint32_t refusal; uint64_t carried; uint64_t serial; } df_seria
 
 typedef struct { uint32_t refusal; uint64_t place; } df_place;
 
+/* gap: ms, modulo 2^32 */
+typedef struct { uint32_t refusal; uint32_t gap; } df_gap_ms;
+
 /* reason: a number of DF_REASONS; with 2 to 8 the value is the replacement; a value is below 2^width, so with width 64 any number */
 typedef struct { uint32_t refusal; uint32_t reason; uint64_t carried; uint64_t value; } df_reading;
 
@@ -159,6 +162,10 @@ df_place df_check_place(uint64_t bit);
 
 /* Takes an R-telegram of a vehicle (1-63) at a clock value into the store. Refusals 5-10. */
 df_outcome df_take(uint8_t *store, size_t store_len, uint64_t vehicle, uint32_t clock, const uint8_t *telegram, size_t telegram_len);
+
+/* The gap between the last two telegrams taken from a vehicle (1-63), in ms modulo 2^32, whatever was swept between; after its first telegram
+ * the clock value that it was taken at, and 0 if none was. Refusals 5, 6. */
+df_gap_ms df_gap(const uint8_t *store, size_t store_len, uint64_t vehicle);
 
 /* Marks every slot as expired that was heard and is more than 600,000 ms old, the longest time limit of a list. From then on, until a new
  * telegram is taken, its signals with a limit are too old; those with none are read as before. Swept at least every 2,147,483,648 ms

@@ -34,6 +34,7 @@ TWICE = "is given twice"
 LIST = "reads as a signal list"
 AS_LONG = "as long as a telegram; the word `anyway` marshals into it all the same"
 NO_STORE = f"5: store not {slots.STORE:,} octets"
+OLDER = NO_STORE + ": it has the 8,379 of the older layout; `take new` makes a new one"
 
 
 def data(name):
@@ -47,6 +48,9 @@ TRAIN = slots.store(slots.slot(6000, R1), slots.slot(7500, R2), slots.slot(1000,
 FULL = slots.store(*[slots.slot(5000, R1)] * slots.VEHICLES)
 # vehicles 1 and 2 are expired, though the counter has come round to where 1 looks new; 3 is heard
 PARKED = slots.store(slots.slot(6000, R1, 2), slots.slot(7500, R2, 2), slots.slot(1000, R3))
+# the last two arrivals: 1,500 ms apart, at one millisecond, over the counter's end, and expired; octets that are neither heard nor expired have none
+GAPS = slots.store(slots.slot(6000, R1, 1, 4500), slots.slot(7500, R2, 1, 7500), slots.slot(400, R3, 1, 4294967000), slots.slot(6000, R1, 2, 1), slots.slot(6000, R1, 7, 1))
+
 # any heard octet and any head, at ages of 600,000 ms, one more, and one less: at the clock 600,000 only 4, 6 and 9 are swept
 OCTETS = slots.store(*(slots.slot(stamp, telegram, heard) for heard, stamp, telegram in (
     (1, 0, R1), (0, 4294967295, R1), (2, 4294967295, R1), (1, 4294967295, R1), (1, 1, R2), (1, 600001, b"\x24"), (3, 4294967295, R3), (7, 4294967295, R3), (1, 2147483648, R3),
@@ -94,7 +98,7 @@ FILES = {
     "huge.list": lists.LONGEST + bytes(1000), "longest.list": lists.LONGEST,
     "r1": R1, "r2": R2, "r3": R3, "values": data("scene/1-R1.values"),
     "empty": b"", "one": b"\x11", "app": b"\x21" + R1[1:], "kind": b"\x14" + R1[1:], "r1-127": R1[:127], "r1-129": R1 + b"\0", "r3-128": R3 + bytes(88), "r2-2": R2[:2], "r3-5000": R3 + bytes(4960),
-    "train": TRAIN, "full": FULL, "parked": PARKED, "octets": OCTETS, "store-1": NEW[1:], "store+1": NEW + b"\0", "store": NEW, "locked": NEW, "locked.new": b"left\n",
+    "train": TRAIN, "full": FULL, "parked": PARKED, "octets": OCTETS, "store-1": NEW[1:], "store+1": NEW + b"\0", "store-older": bytes(8379), "gaps": GAPS, "store": NEW, "locked": NEW, "locked.new": b"left\n",
     # what a writer left that is gone: no process has a number as high
     "gone": NEW, "gone.new": b"cut", "gone.lock": f"2147483647 {socket.gethostname()} {os.readlink('/proc/self/ns/pid')}\n".encode(),
     "at-0": slots.store(slots.slot(0, R1)), "at-4294967000": slots.store(slots.slot(4294967000, R1)),
@@ -212,10 +216,13 @@ def take_table():
     yield ["take", "store", "2", "0", "r2"], says("taken R2 version 2 vehicle 2 at 0", store=slots.taken(NEW, 2, 0, R2))
     yield ["take", "store", "63", "4294967295", "r3"], says("taken R3 version 1 vehicle 63 at 4294967295", store=slots.taken(NEW, 63, 4294967295, R3))
     yield ["take", "full", "7", "7", "r3"], says("taken R3 version 1 vehicle 7 at 7", full=slots.taken(FULL, 7, 7, R3))
+    yield ["take", "gaps", "4", "7000", "r1"], says("taken R1 version 3 vehicle 4 at 7000", gaps=slots.taken(GAPS, 4, 7000, R1))
+    yield ["take", "gaps", "5", "7000", "r1"], says("taken R1 version 3 vehicle 5 at 7000", gaps=slots.taken(GAPS, 5, 7000, R1))
     yield ["take", "store", "007", "7", "r3"], says("taken R3 version 1 vehicle 7 at 7", store=slots.taken(NEW, 7, 7, R3))
     yield ["take", "store", "1", "6000", "r1-wide"], says("taken R1 version 1 vehicle 1 at 6000", store=WIDE_HEARD)
     yield ["take", "store-1", "99", "1", "one"], refused(NO_STORE)
     yield ["take", "store+1", "1", "1", "r1"], refused(NO_STORE)
+    yield ["take", "store-older", "1", "1", "r1"], refused(OLDER)
     yield ["take", "store", "0", "1", "one"], refused("6: vehicle not 1-63")
     yield ["take", "store", "64", "1", "r1"], refused("6: vehicle not 1-63")
     yield ["take", "store", "4294967295", "1", "r1"], refused("6: vehicle not 1-63")
@@ -264,6 +271,7 @@ def sweep_table():
     yield ["sweep", "octets", "600000"], says("swept at 600000, expired 3: 4 6 9", octets=slots.expired(OCTETS, 4, 6, 9))
     yield ["sweep", "store-1", "1"], refused(NO_STORE)
     yield ["sweep", "store+1", "1"], refused(NO_STORE)
+    yield ["sweep", "store-older", "1"], refused(OLDER)
     yield ["sweep", "next.list", "1"], refused(NO_STORE)
     yield ["sweep", "empty", "1"], refused(NO_STORE)
     yield from no_number("CLOCK", words, 2)
@@ -296,15 +304,15 @@ def believe_table():
     yield ["believe", "long.list", "store", CLOCK, "1"], as_in("believe-long")
     yield ["believe", "L.list", "store", CLOCK, "5"], as_in("believe-never")
     yield ["believe", "L.list", "full", CLOCK], as_in("believe-full")
-    yield words, says("vehicle 1: R1 version 3 age 3000 ms\n 1   94  R1 octet 54 bits 0-3                  3  0 live ok")
-    yield ["believe", "L.list", "train", "5999", "1", "0"], says("vehicle 1: R1 version 3 age 4294967295 ms (stamp after the clock)\n 1    0  R1 octet 54 bits 0-3                  0  3 too old")
+    yield words, says("vehicle 1: R1 version 3 age 3000 ms gap 6000 ms\n 1   94  R1 octet 54 bits 0-3                  3  0 live ok")
+    yield ["believe", "L.list", "train", "5999", "1", "0"], says("vehicle 1: R1 version 3 age 4294967295 ms (stamp after the clock) gap 6000 ms\n 1    0  R1 octet 54 bits 0-3                  0  3 too old")
     yield words[:4] + ["table"], as_in("believe-table")
     yield words[:5] + ["table"], as_in("believe-table-1")
-    yield words + ["table"], table("vehicle telegram version age signal type start width value reason", "1 R1 3 3000 94 R1 424 4 3 0")
-    yield ["believe", "coach.list", "store", CLOCK, "table"], table("vehicle telegram version age signal type start width value reason")
-    yield ["believe", "L.list", "store", CLOCK, "5", "table"], table("vehicle telegram version age signal type start width value reason", "5 - - - 0 R1 424 4 0 2")
+    yield words + ["table"], table("vehicle telegram version age signal type start width value reason gap", "1 R1 3 3000 94 R1 424 4 3 0 6000")
+    yield ["believe", "coach.list", "store", CLOCK, "table"], table("vehicle telegram version age signal type start width value reason gap")
+    yield ["believe", "L.list", "store", CLOCK, "5", "table"], table("vehicle telegram version age signal type start width value reason gap", "5 - - - 0 R1 424 4 0 2 -")
     yield ["believe", "across.list", "train", "5999", "1", "1", "table"], table(
-        "vehicle telegram version age signal type start width value reason", "1 R1 3 4294967295 1 R1 384 8 0 3")
+        "vehicle telegram version age signal type start width value reason gap", "1 R1 3 4294967295 1 R1 384 8 0 3 6000")
     yield ["believe", "coach.list", "train", CLOCK, "1", "165", "table"], refused("11: no such signal")
     yield ["believe", "coach.list", "train", CLOCK, "0", "table"], refused("6: vehicle not 1-63")
     yield ["believe", "coach.list", "train", CLOCK, "0"], refused("6: vehicle not 1-63")
@@ -312,28 +320,33 @@ def believe_table():
     yield ["believe", "coach.list", "train", CLOCK, "1", "165"], refused("11: no such signal")
     yield ["believe", "coach.list", "store-1", CLOCK, "64", "999"], refused(NO_STORE)
     yield ["believe", "coach.list", "store+1", CLOCK], refused(NO_STORE)
+    yield ["believe", "coach.list", "store-older", CLOCK], refused(OLDER)
     # an age of half of the counter's range, and one less; and a counter that went over its end in time
     for stamp, clock, age in ((0, 2**31, "2147483648 ms (stamp after the clock)"), (0, 2**31 - 1, "2147483647 ms"), (4294967000, 4000, "4296 ms")):
         yield ["believe", "L.list", f"at-{stamp}", str(clock), "1", "0"], says(
-            f"vehicle 1: R1 version 3 age {age}\n 1    0  R1 octet 54 bits 0-3                  " + ("3  0 live ok" if age == "4296 ms" else "0  3 too old"))
+            f"vehicle 1: R1 version 3 age {age} gap {stamp} ms\n 1    0  R1 octet 54 bits 0-3                  " + ("3  0 live ok" if age == "4296 ms" else "0  3 too old"))
+    # the gap beside the age, and beside `expired`; after the first telegram, as in the stores above, it is the stamp
+    for vehicle, head in ((1, "R1 version 3 age 3000 ms gap 1500 ms"), (2, "R2 version 2 age 1500 ms gap 0 ms"), (3, "R3 version 1 age 8600 ms gap 696 ms"), (4, "R1 version 3 expired gap 5999 ms"),
+                          (5, "never heard")):
+        yield ["believe", "zeros-8", "gaps", CLOCK, str(vehicle)], says(f"vehicle {vehicle}: {head}")
     # expired: with a limit too old, with none as before; and no age is said
     yield ["believe", "across.list", "parked", CLOCK], as_in("believe-expired")
     yield ["believe", "across.list", "parked", CLOCK, "1", "table"], as_in("believe-expired-table")
     yield ["believe", "unlimited.list", "parked", CLOCK, "1"], says(
-        "vehicle 1: R1 version 3 expired\n 1    0  R1 octet 49                          32  0 live ok\n 1    1  R1 octets 51-52                       0  3 too old\n"
+        "vehicle 1: R1 version 3 expired gap 6000 ms\n 1    0  R1 octet 49                          32  0 live ok\n 1    1  R1 octets 51-52                       0  3 too old\n"
         "total      1  0 live ok\ntotal      1  3 too old")
     yield ["believe", "L.list", "parked", CLOCK, "1"], says(
-        "vehicle 1: R1 version 3 expired\n 1    0  R1 octet 54 bits 0-3                  0  3 too old\ntotal      1  3 too old")
+        "vehicle 1: R1 version 3 expired gap 6000 ms\n 1    0  R1 octet 54 bits 0-3                  0  3 too old\ntotal      1  3 too old")
     # in form 2, with the serial number beside the place, and as the last column of the table
     words_2 = ["believe", "coach-2.list", "train", CLOCK, "1", "94"]
     yield words_2[:4] + ["form2"], as_in("believe-form2")
     for both in (["table", "form2"], ["form2", "table"]):
         yield words_2[:4] + both, as_in("believe-form2-table")
-    yield words_2 + ["form2"], says("vehicle 1: R1 version 3 age 3000 ms\n 1   94  R1 octet 54 bits 0-3 (4.3)                       3  0 live ok")
-    yield ["believe", "coach.moved", *words_2[2:], "form2"], says("vehicle 1: R1 version 3 age 3000 ms\n 1   94  R1 octet 54 bits 0-3 (no serial number)          3  0 live ok")
-    yield words_2 + ["table", "form2"], table("vehicle telegram version age signal type start width value reason serial", "1 R1 3 3000 94 R1 424 4 3 0 4.3")
+    yield words_2 + ["form2"], says("vehicle 1: R1 version 3 age 3000 ms gap 6000 ms\n 1   94  R1 octet 54 bits 0-3 (4.3)                       3  0 live ok")
+    yield ["believe", "coach.moved", *words_2[2:], "form2"], says("vehicle 1: R1 version 3 age 3000 ms gap 6000 ms\n 1   94  R1 octet 54 bits 0-3 (no serial number)          3  0 live ok")
+    yield words_2 + ["table", "form2"], table("vehicle telegram version age signal type start width value reason gap serial", "1 R1 3 3000 94 R1 424 4 3 0 6000 4.3")
     yield ["believe", "L.moved", "train", CLOCK, "9", "form2", "table"], table(
-        "vehicle telegram version age signal type start width value reason serial", "9 - - - 0 R1 424 4 0 2 -")
+        "vehicle telegram version age signal type start width value reason gap serial", "9 - - - 0 R1 424 4 0 2 - -")
     yield ["believe", "wide.form2", "wide-heard", CLOCK, "form2"], as_in("believe-form2-wide")
     yield words_2 + ["form2", "form2"], error("usage: " + text)
     yield words_2 + ["form2", "table", "form2"], error("usage: " + text)
@@ -359,7 +372,7 @@ def differ_table():
     words = ["differ", "coach.list", "next.list", "train", CLOCK, "1"]
     yield ["differ", "help"], as_in("differ-help")
     text = "differ LIST LIST STORE CLOCK [VEHICLE] [only] [table] [first-form2] [second-form2]"
-    names = "vehicle telegram version age type start differs width_1 value_1 reason_1 width_2 value_2 reason_2"
+    names = "vehicle telegram version age type start differs width_1 value_1 reason_1 width_2 value_2 reason_2 gap"
     yield from usage("differ", (4, 5), text)
     yield words + ["1", "only"], error("usage: " + text)
     yield words[:5] + ["only", "1"], error(f"VEHICLE 'only': {MOST}")
@@ -371,11 +384,11 @@ def differ_table():
     yield words + ["only"], as_in("differ-only-1")
     yield words[:5] + ["table"], as_in("differ-table")
     for both in (["only", "table"], ["table", "only"]):
-        yield words + both, table(names, "1 R1 3 3000 R1 380 1 4 0 8 4 2 0", "1 R1 3 3000 R1 424 1 4 3 0 4 15 3", "1 R1 3 3000 R1 524 1 - - - 4 2 0")
+        yield words + both, table(names, "1 R1 3 3000 R1 380 1 4 0 8 4 2 0 6000", "1 R1 3 3000 R1 424 1 4 3 0 4 15 3 6000", "1 R1 3 3000 R1 524 1 - - - 4 2 0 6000")
     yield ["differ", "L.list", "L.list", "train", CLOCK, "only", "table"], table(names)
-    yield ["differ", "L.list", "L.list", "train", CLOCK, "9", "table"], table(names, "9 - - - R1 424 0 4 0 2 4 0 2")
+    yield ["differ", "L.list", "L.list", "train", CLOCK, "9", "table"], table(names, "9 - - - R1 424 0 4 0 2 4 0 2 -")
     yield ["differ", "L.list", "L.list", "train", CLOCK, "1", "only"], says(
-        "first  'L.list' signals 1 version 1\nsecond 'L.list' signals 1 version 1\nvehicle 1: R1 version 3 age 3000 ms\nvehicle 1 differs on 0 of 1 lines\ndiffer: 0 of 1 lines")
+        "first  'L.list' signals 1 version 1\nsecond 'L.list' signals 1 version 1\nvehicle 1: R1 version 3 age 3000 ms gap 6000 ms\nvehicle 1 differs on 0 of 1 lines\ndiffer: 0 of 1 lines")
     yield ["differ", "coach.list", "next.list", "train", CLOCK, "64", "only", "table"], refused("6: vehicle not 1-63")
     yield ["differ", "next.list", "coach.list", "train", CLOCK, "2"], as_in("differ-turned")
     yield ["differ", "across.list", "across-2.list", "train", "12000"], as_in("differ-widths")
@@ -388,6 +401,7 @@ def differ_table():
     yield ["differ", "across.list", "across-2.list", "parked", CLOCK, "1", "table"], as_in("differ-expired-table")
     yield ["differ", "coach.list", "next.list", "train", CLOCK, "64"], refused("6: vehicle not 1-63")
     yield ["differ", "coach.list", "next.list", "store+1", CLOCK, "64"], refused(NO_STORE)
+    yield ["differ", "coach.list", "next.list", "store-older", CLOCK, "64"], refused(OLDER)
     yield ["differ", "broken.list", "ends.list", "store+1", CLOCK], refused("3 at 2 (first list): entry breaks its rule")
     # either list in form 2 or both: a line has the serial numbers of those that are, both where they differ, and no * for that
     first, second = "first-form2", "second-form2"
@@ -404,7 +418,7 @@ def differ_table():
     ):
         column = max(45, len(f"   1  R1 octet 54 bits 0-3 {serials} 15"))
         yield ["differ", *lists_2, "train", CLOCK, "1", *behind], says(
-            f"first  '{lists_2[0]}' signals 1 version 1\nsecond '{lists_2[1]}' signals 1 version 1\nvehicle 1: R1 version 3 age 3000 ms\n"
+            f"first  '{lists_2[0]}' signals 1 version 1\nsecond '{lists_2[1]}' signals 1 version 1\nvehicle 1: R1 version 3 age 3000 ms gap 6000 ms\n"
             + f"   1  R1 octet 54 bits 0-3 {serials}".ljust(column - 1) + "3  0 live ok".ljust(29) + "|" + "3".rjust(16) + "  0 live ok\n"
             "vehicle 1 differs on 0 of 1 lines\ndiffer: 0 of 1 lines")
     numbers_2 = names + " serial_1 serial_2"
@@ -412,9 +426,9 @@ def differ_table():
         (("L.form2", "L.moved"), [first, second], "10.1R -"), (("L.moved", "L.form2"), [first, second], "- 10.1R"), (("L.form2", "L.list"), [first], "10.1R -"),
         (("L.list", "L.form2"), [second], "- 10.1R"), (("L.moved", "L.list"), [first], "- -"),
     ):
-        yield ["differ", *lists_2, "train", CLOCK, "1", "table", *behind], table(numbers_2, f"1 R1 3 3000 R1 424 0 4 3 0 4 3 0 {serials}")
+        yield ["differ", *lists_2, "train", CLOCK, "1", "table", *behind], table(numbers_2, f"1 R1 3 3000 R1 424 0 4 3 0 4 3 0 6000 {serials}")
     yield ["differ", "coach-2.list", "next-2.list", "train", CLOCK, "1", "only", "table", first, second], table(
-        numbers_2, "1 R1 3 3000 R1 380 1 4 0 8 4 2 0 4.35 4.35", "1 R1 3 3000 R1 424 1 4 3 0 4 15 3 4.3 4.5", "1 R1 3 3000 R1 524 1 - - - 4 2 0 - 0xFFFF")
+        numbers_2, "1 R1 3 3000 R1 380 1 4 0 8 4 2 0 6000 4.35 4.35", "1 R1 3 3000 R1 424 1 4 3 0 4 15 3 6000 4.3 4.5", "1 R1 3 3000 R1 524 1 - - - 4 2 0 6000 - 0xFFFF")
     yield words[:5] + [first, first], error(f"VEHICLE '{first}': {MOST}")
     yield words[:5] + [first, "1"], error(f"VEHICLE '{first}': {MOST}")
     yield words + [second, first, second], error("usage: " + text)
@@ -467,6 +481,7 @@ def marshal_table():
     yield ["marshal", "longest.list", "full", CLOCK, "bus"], refused("12: data shorter than a route's end: 20 octets, 256 needed")
     yield ["marshal", "L.list", "full", CLOCK, "empty"], refused("12: data shorter than a route's end: 0 octets, 1 needed")
     yield ["marshal", "coach.list", "store-1", CLOCK, "empty"], refused(NO_STORE)
+    yield ["marshal", "coach.list", "store-older", CLOCK, "empty"], refused(OLDER)
     yield words[:4] + ["bus-4097"], error("DATA 'bus-4097': more than 4096 octets")
     yield words[:4] + ["none"], error("DATA 'none': " + NO_FILE)
     yield words[:4] + ["folder"], error("DATA 'folder': is a folder")
@@ -744,7 +759,7 @@ def numbers_of_a():
 def column_of(folder, file):
     """The column `serial` of what is believed of vehicle 1 under a list in form 2."""
     lines = [line.split("\t") for line in run(folder, ["believe", file, "store", CLOCK, "1", "table", "form2"])[0].splitlines()]
-    return {(line[5], line[6]): line[10] for line in lines[1:]}
+    return {(line[5], line[6]): line[11] for line in lines[1:]}
 
 
 def badly_numbered(folder):

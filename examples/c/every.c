@@ -151,6 +151,31 @@ static void parked(void)
     expect("df_take after df_sweep", !o.refusal && !r.refusal && r.reason == 0 && r.value == 4);
 }
 
+/* two telegrams of a vehicle, the first expired before the second comes and the counter come round between: the gap is that of the two */
+static void arrivals(void)
+{
+    static uint8_t store[DF_STORE_OCTETS];
+    static const uint8_t r3[40] = {0x13, 1};
+    df_gap_ms g = df_gap(store, sizeof store, 1);
+    expect("df_gap", !g.refusal && g.gap == 0);
+    df_outcome o = df_take(store, sizeof store, 1, 4294967000u, r3, sizeof r3);
+    g = df_gap(store, sizeof store, 1);
+    expect("df_gap after df_take", !o.refusal && !g.refusal && g.gap == 4294967000u);
+    o = df_sweep(store, sizeof store, 700000);
+    g = df_gap(store, sizeof store, 1);
+    expect("df_gap after df_sweep", !o.refusal && store[0] == 2 && !g.refusal && g.gap == 4294967000u);
+    o = df_take(store, sizeof store, 2, 800000, r3, sizeof r3);
+    o = df_take(store, sizeof store, 1, 900000, r3, sizeof r3);
+    g = df_gap(store, sizeof store, 1);
+    expect("df_gap of two", !o.refusal && !g.refusal && g.gap == 900296);
+    g = df_gap(store, sizeof store, 2);
+    expect("df_gap of two", !g.refusal && g.gap == 800000);
+    g = df_gap(store, 8379, 64);
+    expect("df_gap", g.refusal == DF_REFUSAL_STORE_LENGTH && !g.gap);
+    g = df_gap(store, sizeof store, 64);
+    expect("df_gap", g.refusal == DF_REFUSAL_VEHICLE && !g.gap);
+}
+
 /* 64 bits from R1 octet 54 bit 1 on, replacement 010203040506, routed from vehicle 1 to data bits 4-67: nine octets on either side */
 static const uint8_t W[30] = {0, 0, 0, 1, 0x01, 0xA9, 64, 1, 0, 1, 0, 0, 0x13, 0x88, 1, 2, 3, 4, 5, 6, 0, 0, 0, 1, 0, 0, 1, 0, 0, 4};
 
@@ -206,6 +231,7 @@ static void train(void)
 static void texts(void)
 {
     expect("df_refusal_text", !strcmp(df_refusal_text(DF_REFUSAL_LIST_ENDS), "list ends inside a count or a section"));
+    expect("df_refusal_text", !strcmp(df_refusal_text(DF_REFUSAL_STORE_LENGTH), "store not 8,631 octets"));
     expect("df_refusal_text", !strcmp(df_refusal_text(27), "no check place in the table") && DF_REFUSAL_NO_CHECK_PLACE == 27);
     expect("df_refusal_text", !strcmp(df_refusal_text(33), "output not of the needed length") && DF_REFUSAL_FORM_OUTPUT == 33);
     expect("df_refusal_text", !strcmp(df_refusal_text(DF_NOT_REFUSED), "not refused") && df_refusal_text(UINT32_MAX));
@@ -220,6 +246,7 @@ int main(void)
     in_form_2();
     telegrams();
     parked();
+    arrivals();
     wide_fields();
     shown();
     train();

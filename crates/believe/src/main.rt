@@ -40,20 +40,22 @@ STORE     a store; `take` makes one and fills it
 CLOCK     the millisecond counter now, 0 to 4294967295
 
 Prints for each vehicle a line with type, version and age of its telegram, for
-the age `expired` where `sweep` has marked it, then a line for each signal,
-VEHICLE SIGNAL PLACE VALUE REASON.  At the end stand, without VEHICLE, the
-vehicles never heard, and, without SIGNAL, how often each reason was given:
+the age `expired` where `sweep` has marked it, and the gap, the time from the
+telegram before it; for a vehicle's first it is the clock at which that came.
+Then a line for each signal, VEHICLE SIGNAL PLACE VALUE REASON.  At the end
+stand, without VEHICLE, the vehicles never heard, and, without SIGNAL, how often
+each reason was given:
   0 live ok        3 too old                   6 mark error
   1 live forced    4 type does not carry it    7 mark undefined
   2 never heard    5 newer than the telegram   8 code not known
 With 2 to 8 the value is the list's replacement. A common signal is called R3.
 An age above half of the counter's range is called a stamp after the clock.
 With the word `table` it prints a line of names, then a line for each signal,
-each of ten columns with a tab between: vehicle, its telegram, version and age
-(or `expired`; a dash each where it was never heard), signal, type, start,
-width, value, reason.
+each of eleven columns with a tab between: vehicle, its telegram, version and
+age (or `expired`; a dash each where it was never heard), signal, type, start,
+width, value, reason, and the vehicle's gap.
 With the word `form2` LIST is in form 2: each PLACE has the serial number of the
-signal behind it, as `(4.3)` or `(no serial number)`, and the table an eleventh
+signal behind it, as `(4.3)` or `(no serial number)`, and the table a twelfth
 column, serial, with a dash for none. `convert help` says how one is printed.
 Bad input gets one line that begins with `refused` and the number of document
 01, or with `error`.
@@ -75,6 +77,7 @@ fn print_row(
     let l = saying::say_tab(words::say_telegram(l, s.kind), s.start as u64);
     let l = saying::say_tab(saying::say_tab(l, s.width as u64), r.value);
     let l = saying::say_tab(l, r.reason as u64);
+    let l = words::say_gap_tab(l, store, asked.vehicle);
     saying::add(page, words::say_serial_tab(l, asked.form, serial));
 }
 
@@ -191,7 +194,7 @@ fn print_names(page: &mut Page, asked: Asked) {
     if asked.table {
         let l = saying::say(
             saying::empty(),
-            b"vehicle\ttelegram\tversion\tage\tsignal\ttype\tstart\twidth\tvalue\treason",
+            b"vehicle\ttelegram\tversion\tage\tsignal\ttype\tstart\twidth\tvalue\treason\tgap",
         );
         saying::add(page, words::say_serial_name(l, asked.form, b"serial"));
     }
@@ -234,7 +237,7 @@ fn judge(list: &[u8], store: &[u8], asked: Asked) {
         Judged::Accepted(n) => {
             let held = gateway::holding(store, asked.clock, asked.vehicle);
             if let HeldOutcome::Refused(f) = held {
-                words::print_refused(f);
+                words::print_refused_store(f, store.len());
                 return;
             }
             let column = words::value_column(list, asked.form, n.signals, 9, true, 48);

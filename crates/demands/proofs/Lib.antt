@@ -1,3 +1,4 @@
 pub mod ReadBack
 pub mod ReadLive
 pub mod TrueClock
+pub mod TwoArrivals

@@ -68,18 +68,18 @@ LIST      a signal list; `judge LIST` says what is wrong with one
 STORE     a store; `take` makes one and fills it
 CLOCK     the millisecond counter now, 0 to 4294967295
 
-Prints for each vehicle a line with type, version and age of its telegram, for
-the age `expired` where `sweep` has marked it, then a line for each signal,
+Prints for each vehicle a line with type, version, age and gap of its telegram,
+as `believe` does, then a line for each signal,
 VEHICLE PLACE VALUE REASON | VALUE REASON,  the first list on the left. Signals
 of the two are matched by type and start. A line on which value, reason or width
 differ, or that only one list has, begins with *. A line behind each vehicle
 counts those of it, the last line all of them: `differ: 7 of 498 lines`. With
 the word `only` the other lines are left out.
 With the word `table` it prints a line of names, then a line for each signal,
-each of 13 columns with a tab between: vehicle, its telegram, version and age
+each of 14 columns with a tab between: vehicle, its telegram, version and age
 (or `expired`; a dash each where it was never heard), type, start, differs (1 or
 0), then width, value and reason of the first list and of the second (a dash
-where a list has no such signal).
+where a list has no such signal), and the vehicle's gap.
 With the words `first-form2` and `second-form2` that list is in form 2: each
 PLACE has the signal's serial number behind it, as `(4.3)`, or, where the two
 lists have different ones, both, as `(4.3, no serial number)`. No answer differs
@@ -218,6 +218,7 @@ fn print_row(
     let l = words::say_telegram(saying::put(l, b'\t'), place.kind);
     let l = saying::say_tab(saying::say_tab(l, place.start as u64), differs);
     let l = say_columns(say_columns(l, a), b);
+    let l = words::say_gap_tab(l, store, asked.vehicle);
     let form = form_of_table(asked);
     let l = words::say_serial_tab(l, form, a.serial);
     saying::add(page, words::say_serial_tab(l, form, b.serial));
@@ -442,7 +443,7 @@ fn print_names(page: &mut Page, form: u8) {
         b"vehicle\ttelegram\tversion\tage\ttype\tstart\tdiffers",
     );
     let l = saying::say(l, b"\twidth_1\tvalue_1\treason_1");
-    let l = saying::say(l, b"\twidth_2\tvalue_2\treason_2");
+    let l = saying::say(l, b"\twidth_2\tvalue_2\treason_2\tgap");
     saying::add(page, words::say_serial_name(l, form, b"serial_1\tserial_2"));
 }
 
@@ -491,7 +492,7 @@ fn compare(first: &[u8], second: &[u8], store: &[u8], asked: Asked) {
     };
     let held = gateway::holding(store, asked.clock, asked.vehicle);
     if let HeldOutcome::Refused(f) = held {
-        words::print_refused(f);
+        words::print_refused_store(f, store.len());
         return;
     }
     let placed = in_columns(asked, first, second, n, store);

@@ -11,7 +11,7 @@ use Rattle.paper.specs.SignalList.{Counts, judge, OfTwo, ofBoth, firstRefused, 
 use Rattle.paper.specs.Extends.{extendsLists}
 use Rattle.paper.specs.Pairs.{Entry, entryOf, finding}
 use Rattle.paper.specs.Forms.{serialOf, toForm2, toForm1}
-use Rattle.paper.specs.Store.{taking, sweeping}
+use Rattle.paper.specs.Store.{taking, gapping, sweeping}
 use Rattle.paper.specs.Reading.{Reading, reading}
 use Rattle.paper.specs.Marshalling.{Marshalled, marshalling}
 use Rattle.paper.specs.Composing.{composing}
@@ -21,7 +21,7 @@ use Rattle.paper.specs.ETelegrams.{EReading, eReading, answering}
 use Rattle.paper.proofs.RefusalLaws as laws
 use Rattle.dustferrule.specs.declared.DfOutcome.{DfOutcome}
 use Rattle.dustferrule.specs.declared.DfMarshalled.{DfMarshalled}
-use Rattle.dustferrule.specs.Results.{outcomeC, judgedC, extendingC, entryC, foundC, serialC, livesC, placeC, readingC, shownC, membersC, eReadC, WrittenC, DeliveredC}
+use Rattle.dustferrule.specs.Results.{outcomeC, judgedC, extendingC, entryC, foundC, serialC, gapC, livesC, placeC, readingC, shownC, membersC, eReadC, WrittenC, DeliveredC}
 
 -- ---- each result, of any answer
 
@@ -45,6 +45,9 @@ found-given = laws.zero-given (λ a. foundC a .refusal) (λ a. refl) (λ n at. r
 
 pub serial-c-given : (a : Answer ℕ) → Numbered a → (serialC a .refusal ≡ 0) ↔ Given a
 serial-c-given = laws.zero-given (λ a. serialC a .refusal) (λ a. refl) (λ n at. refl)
+
+pub gap-c-given : (a : Answer ℕ) → Numbered a → (gapC a .refusal ≡ 0) ↔ Given a
+gap-c-given = laws.zero-given (λ a. gapC a .refusal) (λ a. refl) (λ n at. refl)
 
 pub lives-given : (a : Answer ℕ) → Numbered a → (livesC a .refusal ≡ 0) ↔ Given a
 lives-given = laws.zero-given (λ a. livesC a .refusal) (λ a. refl) (λ n at. refl)
@@ -117,6 +120,9 @@ module _ (xs out : List ℕ) (room : ℕ) (r : DfOutcome) (new : List ℕ) where
 
 pub check-place-given : (b : ℕ) → (placeC (checkPlace b) .refusal ≡ 0) ↔ Given (checkPlace b)
 check-place-given b = place-given _ (laws.numbered-place b)
+
+pub gap-given : (store : List ℕ) (v : ℕ) → (gapC (gapping store v) .refusal ≡ 0) ↔ Given (gapping store v)
+gap-given store v = gap-c-given _ (laws.numbered-gapping store v)
 
 pub read-given : (form : ℕ) (xs store : List ℕ) (now v k : ℕ) → (readingC (reading form xs store now v k) .refusal ≡ 0) ↔ Given (reading form xs store now v k)
 read-given form xs store now v k = reading-given _ (laws.numbered-reading form xs store now v k)

@@ -18,6 +18,7 @@ use Rattle.dustferrule.specs.declared.DfExtending.{DfExtending}
 use Rattle.dustferrule.specs.declared.DfEntry.{DfEntry}
 use Rattle.dustferrule.specs.declared.DfFound.{DfFound}
 use Rattle.dustferrule.specs.declared.DfSerial.{DfSerial}
+use Rattle.dustferrule.specs.declared.DfGap.{DfGap}
 use Rattle.dustferrule.specs.declared.DfMarshalled.{DfMarshalled}
 use Rattle.dustferrule.specs.declared.DfPlace.{DfPlace}
 use Rattle.dustferrule.specs.declared.DfReading.{DfReading}
@@ -67,6 +68,10 @@ serialC (refused n at) = record { refusal = n; carried = at; serial = 0 }
 abbrev pub foundC : Answer ℕ → DfFound
 foundC (gives k) = record { refusal = 0; carried = 0; signal = k }
 foundC (refused n at) = record { refusal = n; carried = at; signal = 0 }
+
+abbrev pub gapC : Answer ℕ → DfGap
+gapC (gives n) = record { refusal = 0; gap = n }
+gapC (refused n at) = record { refusal = n; gap = 0 }
 
 abbrev pub livesC : Answer ℕ → DfMarshalled
 livesC (gives n) = record { refusal = 0; carried = 0; lives = n }

@@ -9,7 +9,7 @@ ghost use Rattle.paper.specs.SignalList.{judge as judging};
 ghost use Rattle.paper.specs.Extends.{extendsLists};
 ghost use Rattle.paper.specs.Pairs.{entryOf, finding};
 ghost use Rattle.paper.specs.Forms.{serialOf, toForm2, toForm1};
-ghost use Rattle.paper.specs.Store.{taking, sweeping};
+ghost use Rattle.paper.specs.Store.{taking, gapping, sweeping};
 ghost use Rattle.paper.specs.Reading.{reading};
 ghost use Rattle.paper.specs.Marshalling.{marshalling};
 ghost use Rattle.paper.specs.Composing.{composing};
@@ -22,17 +22,19 @@ ghost use Rattle.lists.specs.Judged.{judgedAnswer};
 ghost use Rattle.extending.specs.Extending.{extendsAnswer};
 ghost use Rattle.finding.specs.Finding.{entryAnswer, foundAnswer};
 ghost use Rattle.forms.specs.Forms.{serialAnswer};
+ghost use Rattle.store.specs.Store.{gapAnswer};
 ghost use Rattle.marshalling.specs.Marshalling.{liveAnswer};
 ghost use Rattle.grouping.specs.Place.{placeAnswer};
 ghost use Rattle.reading.specs.Reading.{readAnswer};
 ghost use Rattle.shown.specs.Show.{kindOf, shownOf, showingAnswer};
 ghost use Rattle.train.specs.Marks.{vehicleOf, resolvedAnswer};
 ghost use Rattle.etelegrams.specs.Answers.{eReadAnswer};
-ghost use Rattle.dustferrule.specs.Results.{yesNo, floatOf, outcomeC, judgedC, extendingC, entryC, foundC, serialC, livesC, placeC, readingC, shownC, membersC, eReadC, WrittenC, DeliveredC};
+ghost use Rattle.dustferrule.specs.Results.{yesNo, floatOf, outcomeC, judgedC, extendingC, entryC, foundC, serialC, gapC, livesC, placeC, readingC, shownC, membersC, eReadC, WrittenC, DeliveredC};
 use gateway::ERead;
 use gateway::EntryOutcome;
 use gateway::ExtendsOutcome;
 use gateway::Found;
+use gateway::GapOutcome;
 use gateway::Judged;
 use gateway::Kind;
 use gateway::Marshalled;
@@ -99,6 +101,12 @@ pub struct DfSerial {
     pub refusal: u32,
     pub carried: u64,
     pub serial: u64,
+}
+
+#[repr(C)]
+pub struct DfGap {
+    pub refusal: u32,
+    pub gap: u32,
 }
 
 #[repr(C)]
@@ -294,6 +302,18 @@ fn serial_c(o: SerialOutcome) -> DfSerial
     }
 }
 
+fn gap_c(o: GapOutcome) -> DfGap
+    ensures { λ r. ⌜ r ≡ gapC (gapAnswer o) ⌝ }
+{
+    match o {
+        GapOutcome::Gap(n) => DfGap { refusal: 0, gap: n },
+        GapOutcome::Refused(f) => DfGap {
+            refusal: number(f),
+            gap: 0,
+        },
+    }
+}
+
 fn lives_c(o: Marshalled) -> DfMarshalled
     ensures { λ r. ⌜ r ≡ livesC (liveAnswer o) ⌝ }
 {
@@ -474,6 +494,13 @@ pub extern "C" fn df_take(store: &mut [u8], vehicle: u64, clock: u32, telegram: 
     ensures { λ r. ⌜ WrittenC (taking (now (store .entry)) vehicle clock (now (telegram .entry))) (now (store .entry)) r (now (store .exit)) ⌝ }
 {
     outcome_c(gateway::take(store, vehicle as usize, clock, telegram))
+}
+
+#[no_mangle]
+pub extern "C" fn df_gap(store: &[u8], vehicle: u64) -> DfGap
+    ensures { λ r. ⌜ r ≡ gapC (gapping (now (store .entry)) vehicle) ⌝ }
+{
+    gap_c(gateway::gap(store, vehicle as usize))
 }
 
 #[no_mangle]

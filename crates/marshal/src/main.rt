@@ -190,8 +190,8 @@ fn needed(list: &[u8], form: u8, routes: usize) -> usize {
 }
 
 // Data that are too short: how long they are, and how long they have to be.
-fn print_refused(f: Refusal, list: &[u8], form: u8, n: Counts, octets: usize) {
-    let l = words::say_refused(f, b"");
+fn print_refused(f: Refusal, list: &[u8], form: u8, n: Counts, store: usize, octets: usize) {
+    let l = words::say_refused_store(f, store);
     if gateway::number(f) != 12 {
         saying::print(l);
         return;
@@ -215,7 +215,7 @@ fn marshal_bus(
     match outcome {
         Marshalled::Refused(f) => {
             files::drop_new(path, fd);
-            print_refused(f, list, order.form, n, bus.len());
+            print_refused(f, list, order.form, n, store.len(), bus.len());
         }
         Marshalled::Live(live) => {
             if files::commit(4, b"DATA", path, fd, bus) {

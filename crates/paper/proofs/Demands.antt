@@ -26,7 +26,7 @@ use Rattle.paper.proofs.FieldLaws.{field-front}
 use Rattle.paper.specs.Accepted.{Kept}
 use Rattle.paper.proofs.ListLaws.{kept}
 use Rattle.paper.proofs.StoreLaws.{type-least, takes-it, padded, stood, standing-slot, standing-whole}
-use Rattle.paper.proofs.ReadingLaws.{mark-lt, reads-it}
+use Rattle.paper.proofs.ReadingLaws.{mark-lt, unseen, reads-it}
 use Rattle.paper.proofs.ExtendsLaws.{agree-itself, agree, only-newer, same-of}
 use Rattle.paper.proofs.ComposingLaws.{version-least, version-at, composes, carried-within, named-written, length-composed, composed-application, composed-type, composed-version, composed-signal, composed-check}
 
@@ -76,7 +76,7 @@ module _ (w : SignalList) (hw : Kept w) (type : ℕ) (values marks : List ℕ) (
   telegram = composed w type values marks
 
   abbrev Sent : ℕ → Slot
-  Sent stamp = record { heard = 1; stamp = stamp; telegram = padded (composed w type values marks) }
+  Sent stamp = record { heard = 1; stamp = stamp; previous = 0; telegram = padded (composed w type values marks) }
 
   long : 2 ≤ length (composed w type values marks)
   long = omega (arith, length-composed w hw type values marks fit, type-least type)
@@ -204,12 +204,14 @@ module _ (form : ℕ) (xs : List ℕ) (type : ℕ) (values marks : List ℕ) (ro
   module _ (form′ : ℕ) (ys : List ℕ) (n : Counts) (reader : judge form′ ys ≡ gives n) (v stamp now j : ℕ) (store : List ℕ) (hj : j < n .signals)
       (stands : Standing v stamp now (listOf ys n .signal j .limit) telegram store) where
     arrived : (given : Reading)
-        → readingOf (listOf ys n) (record { heard = 1; stamp = stamp; telegram = padded (composed (listOf xs m) type values marks) }) now j ≡ given
+        → readingOf (listOf ys n) (record { heard = 1; stamp = stamp; previous = 0; telegram = padded (composed (listOf xs m) type values marks) }) now j ≡ given
         → reading form′ ys store now v j ≡ gives given
     arrived given e =
         let t = stood v stamp now _ telegram store stands in
         reads-it form′ ys store now v j n reader (standing-whole v stamp now _ telegram store stands) (t .first) (t .last) hj
-        ∙ ap gives (ap (λ (s : Slot). readingOf (listOf ys n) s now j) (standing-slot v stamp now _ telegram store stands) ∙ rw (← is-composed) e)
+        ∙ ap gives (ap (λ (s : Slot). readingOf (listOf ys n) s now j) (standing-slot v stamp now _ telegram store stands)
+        ∙ unseen (listOf ys n) 1 stamp _ (padded telegram) now j
+        ∙ rw (← is-composed) e)
 
     -- DEMAND 3, a signal that both lists have and the type carries: the written value with its mark, or the reader's own replacement
     -- with 6 or 7 exactly when the mark is error or undefined, or with 8 exactly when it is neither and the code is unknown to the reader

@@ -10,6 +10,7 @@ pub mod ListLaws
 pub mod BrokenLaws
 pub mod SweepLaws
 pub mod StoreLaws
+pub mod GapLaws
 pub mod ReadingLaws
 pub mod MarshallingLaws
 pub mod ComposingLaws

@@ -15,7 +15,7 @@ use Rattle.paper.specs.First.{firstOf, FirstAt, None}
 use Rattle.paper.specs.Telegrams.{ok, forced, markWidth}
 use Rattle.paper.specs.SignalList.{Signal, SignalList, Counts, judge, listOf, placeOf}
 use Rattle.paper.specs.Store.{vehicles, storeOctets, Slot, slotOf}
-use Rattle.paper.specs.Reading.{Reading, markOf, codeOf, hindrances, reasonOf, readingOf, readingAt, reading, Live, Reads}
+use Rattle.paper.specs.Reading.{Reading, markOf, codeOf, heard, hindrances, reasonOf, readingOf, readingAt, reading, Live, Reads}
 use Rattle.paper.proofs.AnswerLaws.{not-refused, gives-one, and-then}
 use Rattle.paper.proofs.FieldLaws.{field-lt}
 use Rattle.bools.proofs.Tests.{both}
@@ -52,6 +52,13 @@ first-of-told n (false ∷ ts) other = by (first-of-told n ts other)
     by (inr h) = inr (nowhere h)
 
 -- ---- reading
+
+-- C-16: no reading sees the previous stamp
+pub unseen : (l : SignalList) (mark stamp previous : ℕ) (telegram : List ℕ) (now k : ℕ)
+    → readingOf l (record { heard = mark; stamp = stamp; previous = previous; telegram = telegram }) now k
+    ≡ readingOf l (record { heard = mark; stamp = stamp; previous = 0; telegram = telegram }) now k
+unfolding readingOf reasonOf hindrances heard
+unseen l mark stamp previous telegram now k = refl
 
 module _ (l : SignalList) (slot : Slot) (now k : ℕ) where
   live-reason : ℕ

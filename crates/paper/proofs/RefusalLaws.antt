@@ -11,7 +11,7 @@ use Rattle.paper.specs.SignalList
 use Rattle.paper.specs.SignalList.{Counts, judge, judgeTo, OfTwo, ofTwo, firstRefused, secondRefused, NumberedTwo}
 use Rattle.paper.specs.Forms.{serialOf, toForm2, toForm1}
 use Rattle.paper.specs.Pairs.{entryOf, finding}
-use Rattle.paper.specs.Store.{taking, sweeping}
+use Rattle.paper.specs.Store.{taking, gapping, sweeping}
 use Rattle.paper.specs.Reading.{reading}
 use Rattle.paper.specs.Marshalling.{marshalling}
 use Rattle.paper.specs.Composing.{composing}
@@ -119,6 +119,10 @@ unfolding taking
 numbered-taking store v now telegram =
     numbered-if _ 5 _ _ (omega arith) (numbered-if _ 6 _ _ (omega arith) (numbered-if _ 7 _ _ (omega arith)
     (numbered-if _ 8 _ _ (omega arith) (numbered-if _ 9 _ _ (omega arith) (numbered-if _ 10 _ _ (omega arith) (numbered-gives _))))))
+
+pub numbered-gapping : (store : List ℕ) (v : ℕ) → Numbered (gapping store v)
+unfolding gapping
+numbered-gapping store v = numbered-if _ 5 _ _ (omega arith) (numbered-if _ 6 _ _ (omega arith) (numbered-gives _))
 
 pub numbered-sweeping : (store : List ℕ) (now : ℕ) → Numbered (sweeping store now)
 unfolding sweeping

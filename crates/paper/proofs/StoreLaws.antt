@@ -1,5 +1,5 @@
 -- The laws of the store: a slot that was written says what was written, and every other slot is as before. Assumes nothing.
-use Prim.Native.Nat.{ℕ, _+_, _-_, _≤_, _<_}
+use Prim.Native.Nat.{ℕ, _+_, _-_, _%_, _≤_, _<_}
 use mathlib.Core.Path.{_≡_, refl, sym, ap, ap₂, _∙_}
 use mathlib.Core.Logic.{_⊎_, inl, inr}
 use mathlib.Core.Bool.{Bool, true, false, cond}
@@ -8,13 +8,13 @@ use native.Mathlib.Nat.{mod-eq-of-lt}
 use native.Mathlib.Omega.{arith}
 use native.Mathlib.Decide.{decLt}
 use lib.ListN.{length, take, drop, replicate, length-append, length-replicate}
-use lib.Seq.{drop-at}
+use lib.Seq.{drop-at, drop-drop}
 use lib.Dec.{eqb}
 use borrow.Author.Tests.{eq-eqb, le-leb, le-ltb, leb-true, eqb-true, not-false}
 use Rattle.paper.specs.Octets.{number, octetsOf, over}
 use Rattle.paper.specs.Answer.{Answer, gives, refused, refuseIf, after}
 use Rattle.paper.specs.Telegrams.{telegramType, typeLength, carries}
-use Rattle.paper.specs.Store.{vehicles, telegramOctets, slotOctets, storeOctets, slotStart, slotFrom, slotTo, slotOf, taken, taking, turn, inTime, Takes, sweeping}
+use Rattle.paper.specs.Store.{vehicles, telegramOctets, slotOctets, storeOctets, slotStart, slotFrom, slotTo, slotOf, moved, taken, taking, turn, inTime, Takes, sweeping}
 use Rattle.paper.specs.Demands.{Step, offer, sweep, step, run, Passes, NoneLater, Spares, NoneExpired, Standing}
 use Rattle.paper.proofs.AnswerLaws.{not-refused, never-both}
 use Rattle.bools.proofs.Tests.{both}
@@ -28,9 +28,11 @@ pub limit-reached : (inTime 5000 5000 ≡ true) × (inTime 5001 5000 ≡ false) 
 limit-reached = (refl, refl, refl)
 
 -- "stamps and codes too, has its high octet first": 01 02 03 04, read and written
-pub stamp-high-first : (slotFrom (1 ∷ 1 ∷ 2 ∷ 3 ∷ 4 ∷ []) .stamp ≡ 0x01020304) × (take 5 (slotTo 0x01020304 []) ≡ 1 ∷ 1 ∷ 2 ∷ 3 ∷ 4 ∷ [])
+pub stamp-high-first : (slotFrom (1 ∷ 1 ∷ 2 ∷ 3 ∷ 4 ∷ []) .stamp ≡ 0x01020304)
+    × (slotFrom (1 ∷ 1 ∷ 2 ∷ 3 ∷ 4 ∷ 5 ∷ 6 ∷ 7 ∷ 8 ∷ []) .previous ≡ 0x05060708)
+    × (take 9 (slotTo 0x01020304 0x05060708 []) ≡ 1 ∷ 1 ∷ 2 ∷ 3 ∷ 4 ∷ 5 ∷ 6 ∷ 7 ∷ 8 ∷ [])
 unfolding number octetsOf
-stamp-high-first = (refl, refl)
+stamp-high-first = (refl, refl, refl)
 
 -- "only R1 carries type 1, only R2 type 2", though the octets are there in the other too
 pub only-its-type : (carries 1 1 ≡ true) × (carries 2 1 ≡ false) × (carries 3 1 ≡ false) × (carries 2 2 ≡ true) × (carries 1 2 ≡ false) × (carries 3 2 ≡ false)
@@ -89,41 +91,57 @@ takes-it store v now telegram t =
     )
 
 -- the octets of a slot: as many as a slot has
-pub length-slot : (now : ℕ) (telegram : List ℕ) → length telegram ≤ telegramOctets → length (slotTo now telegram) ≡ slotOctets
-length-slot now telegram h =
+pub length-slot : (now previous : ℕ) (telegram : List ℕ) → length telegram ≤ telegramOctets → length (slotTo now previous telegram) ≡ slotOctets
+length-slot now previous telegram h =
     let zeros : List ℕ = replicate (telegramOctets - length telegram) 0 in
     let z : length zeros ≡ telegramOctets - length telegram = length-replicate (telegramOctets - length telegram) 0 in
-    omega (arith, length-append (octetsOf 4 now) (telegram ++ zeros), length-octetsOf 4 now, length-append telegram zeros)
+    let back : List ℕ = octetsOf 4 previous ++ (telegram ++ zeros) in
+    let p = length-append (octetsOf 4 previous) (telegram ++ zeros) in
+    omega (arith, length-append (octetsOf 4 now) back, length-octetsOf 4 now, p, length-octetsOf 4 previous, length-append telegram zeros)
 
 -- the telegram as it stands in a slot: followed by zeros
 abbrev pub padded : List ℕ → List ℕ
 padded telegram = telegram ++ replicate (telegramOctets - length telegram) 0
 
--- what a slot that was written says
-pub slot-says : (now : ℕ) (telegram : List ℕ) → now < turn
-    → slotFrom (slotTo now telegram) ≡ record { heard = 1; stamp = now; telegram = padded telegram }
-slot-says now telegram h =
-    let s : number (1 ∷ (octetsOf 4 now ++ padded telegram)) 1 4 ≡ now =
-    number-back (1 ∷ []) (octetsOf 4 now ++ padded telegram) 0 4 ∙ number-octetsOf-front 4 now (padded telegram) ∙ mod-eq-of-lt h in
-    let d : drop 5 (1 ∷ (octetsOf 4 now ++ padded telegram)) ≡ padded telegram = drop-at (octetsOf 4 now) (padded telegram) 4 (length-octetsOf 4 now) in
-    ap₂ (λ (x : ℕ) (y : List ℕ). record { heard = 1; stamp = x; telegram = y }) s d
+-- what a slot that was written says; what is no stamp comes round, so that nothing need be known of the store
+pub slot-says : (now previous : ℕ) (telegram : List ℕ) → now < turn
+    → slotFrom (slotTo now previous telegram) ≡ record { heard = 1; stamp = now; previous = previous % turn; telegram = padded telegram }
+slot-says now previous telegram h =
+    let back : List ℕ = octetsOf 4 previous ++ padded telegram in
+    let s : number (1 ∷ (octetsOf 4 now ++ back)) 1 4 ≡ now =
+    number-back (1 ∷ []) (octetsOf 4 now ++ back) 0 4 ∙ number-octetsOf-front 4 now back ∙ mod-eq-of-lt h in
+    let p : number (1 ∷ (octetsOf 4 now ++ back)) 5 4 ≡ previous % turn =
+    number-back (1 ∷ []) (octetsOf 4 now ++ back) 4 4
+    ∙ ap (λ (k : ℕ). number (octetsOf 4 now ++ back) (k + 0) 4) (sym (length-octetsOf 4 now))
+    ∙ number-back (octetsOf 4 now) back 0 4
+    ∙ number-octetsOf-front 4 previous (padded telegram) in
+    let d : drop 9 (1 ∷ (octetsOf 4 now ++ back)) ≡ padded telegram =
+    sym (drop-drop 4 4 (octetsOf 4 now ++ back))
+    ∙ ap (drop 4) (drop-at (octetsOf 4 now) back 4 (length-octetsOf 4 now))
+    ∙ drop-at (octetsOf 4 previous) (padded telegram) 4 (length-octetsOf 4 previous) in
+    rw (s, p, d)
 
 module _ (store : List ℕ) (v now : ℕ) (telegram : List ℕ) (whole : length store ≡ storeOctets) (first : 1 ≤ v) (last : v ≤ vehicles)
     (short : length telegram ≤ telegramOctets) where
-  fits : slotStart v + length (slotTo now telegram) ≤ length store
-  fits = omega (arith, length-slot now telegram short)
+  abbrev written : List ℕ
+  written = slotTo now (moved (slotOf store v)) telegram
+
+  long : length written ≡ slotOctets
+  long = length-slot now (moved (slotOf store v)) telegram short
+
+  fits : slotStart v + length written ≤ length store
+  fits = omega (arith, long)
 
   pub length-taken : length (taken store v now telegram) ≡ length store
   unfolding taken
-  length-taken = length-over store (slotStart v) (slotTo now telegram) fits
+  length-taken = length-over store (slotStart v) written fits
 
   -- the slot of the vehicle says what was written
-  pub slot-taken : slotOf (taken store v now telegram) v ≡ slotFrom (slotTo now telegram)
+  pub slot-taken : slotOf (taken store v now telegram) v ≡ slotFrom (slotTo now (moved (slotOf store v)) telegram)
   unfolding taken slotOf
   slot-taken =
-      let written = over store (slotStart v) (slotTo now telegram) in
       ap slotFrom
-      (ap (λ (n : ℕ). take n (drop (slotStart v) written)) (sym (length-slot now telegram short)) ∙ part-over store (slotStart v) (slotTo now telegram) fits)
+      (ap (λ (n : ℕ). take n (drop (slotStart v) (over store (slotStart v) written))) (sym long) ∙ part-over store (slotStart v) written fits)
 
   -- C-12: "A new telegram sets the octet to 1", whatever it was
   pub heard-taken : slotOf (taken store v now telegram) v .heard ≡ 1
@@ -132,11 +150,11 @@ module _ (store : List ℕ) (v now : ℕ) (telegram : List ℕ) (whole : length 
   -- and every other vehicle's slot is as before
   pub slot-other : (w : ℕ) → 1 ≤ w → (v ≡ w → ⊥) → slotOf (taken store v now telegram) w ≡ slotOf store w
   unfolding taken slotOf
-  slot-other w h ne = ap slotFrom (other-over store (slotStart v) (slotTo now telegram) fits (slotStart w) slotOctets (side (decLt w v)))
+  slot-other w h ne = ap slotFrom (other-over store (slotStart v) written fits (slotStart w) slotOctets (side (decLt w v)))
     where
-      side : Dec (w < v) → (slotStart w + slotOctets ≤ slotStart v) ⊎ (slotStart v + length (slotTo now telegram) ≤ slotStart w)
+      side : Dec (w < v) → (slotStart w + slotOctets ≤ slotStart v) ⊎ (slotStart v + length written ≤ slotStart w)
       side (yes lt) = inl (omega arith)
-      side (no ge) = inr (omega (arith, length-slot now telegram short))
+      side (no ge) = inr (omega (arith, long))
 
 -- ---- steps
 
@@ -191,14 +209,15 @@ module _ (v stamp now limit : ℕ) (telegram store : List ℕ) (h : Standing v s
   pub stood : Takes (h .before) v telegram
   stood = takes (h .before) v stamp telegram (taken (h .before) v stamp telegram) (h .took) .0
 
-  pub standing-slot : slotOf store v ≡ record { heard = 1; stamp = stamp; telegram = padded telegram }
+  pub standing-slot : slotOf store v
+      ≡ record { heard = 1; stamp = stamp; previous = moved (slotOf (h .before) v) % turn; telegram = padded telegram }
   standing-slot =
       let g = stood in
       let short : length telegram ≤ telegramOctets = omega (arith, g .long, type-short (telegramType telegram)) in
       rw (← h .reached)
       (run-other v (taken (h .before) v stamp telegram) (h .steps) (g .first) (g .last) (h .later) (h .unexpired)
       ∙ slot-taken (h .before) v stamp telegram (g .whole) (g .first) (g .last) short
-      ∙ slot-says stamp telegram (h .clock))
+      ∙ slot-says stamp (moved (slotOf (h .before) v)) telegram (h .clock))
 
   pub standing-whole : length store ≡ storeOctets
   standing-whole =

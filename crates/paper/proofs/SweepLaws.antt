@@ -23,7 +23,7 @@ use Rattle.paper.proofs.AnswerLaws.{not-refused, gives-one}
 
 -- a slot with this heard octet and this octet 1 of its telegram, stamped 0
 abbrev marked : ℕ → ℕ → Slot
-marked mark head = record { heard = mark; stamp = 0; telegram = head ∷ [] }
+marked mark head = record { heard = mark; stamp = 0; previous = 0; telegram = head ∷ [] }
 
 -- "above 600,000 ms": 600,000 are not, and the head is not looked at
 pub above-600000 : (stale (marked 1 0x11) 600000 ≡ false) × (stale (marked 1 0x11) 600001 ≡ true) × (stale (marked 1 0x21) 600001 ≡ true)
@@ -49,11 +49,11 @@ expired-untimely = (refl, refl, refl)
 
 -- as a sweep leaves it: the heard octet goes from 1 to 2, or nothing changes
 abbrev pub aged : Slot → ℕ → Slot
-aged s now = record { heard = cond (stale s now) 2 (s .heard); stamp = s .stamp; telegram = s .telegram }
+aged s now = record { heard = cond (stale s now) 2 (s .heard); stamp = s .stamp; previous = s .previous; telegram = s .telegram }
 
 -- the octets of a slot with the first of them replaced
 first-set : (m : List ℕ) (x : ℕ) → 0 < length m
-    → slotFrom (set m 0 x) ≡ record { heard = x; stamp = slotFrom m .stamp; telegram = slotFrom m .telegram }
+    → slotFrom (set m 0 x) ≡ record { heard = x; stamp = slotFrom m .stamp; previous = slotFrom m .previous; telegram = slotFrom m .telegram }
 unfolding number
 first-set [] x h = absurd (omega arith)
 first-set (y ∷ m) x h = refl
@@ -61,7 +61,8 @@ first-set (y ∷ m) x h = refl
 -- a store with the heard octet of vehicle v replaced
 module _ (store : List ℕ) (v x : ℕ) (first : 1 ≤ v) where
   slot-set : slotStart v < length store
-      → slotOf (set store (slotStart v) x) v ≡ record { heard = x; stamp = slotOf store v .stamp; telegram = slotOf store v .telegram }
+      → slotOf (set store (slotStart v) x) v
+      ≡ record { heard = x; stamp = slotOf store v .stamp; previous = slotOf store v .previous; telegram = slotOf store v .telegram }
   unfolding slotOf
   slot-set h =
       let z : slotStart v + 0 ≡ slotStart v = omega arith in
@@ -97,7 +98,7 @@ module _ (store : List ℕ) (now v : ℕ) (first : 1 ≤ v) where
   slot-one h = by (stale (slotOf store v) now)
     where
       by : (b : Bool) → slotOf (cond b (set store (slotStart v) 2) store) v
-          ≡ record { heard = cond b 2 (slotOf store v .heard); stamp = slotOf store v .stamp; telegram = slotOf store v .telegram }
+          ≡ record { heard = cond b 2 (slotOf store v .heard); stamp = slotOf store v .stamp; previous = slotOf store v .previous; telegram = slotOf store v .telegram }
       by true = slot-set store v 2 first h
       by false = refl
 

@@ -16,7 +16,7 @@ use Rattle.paper.specs.First.{FirstAt}
 use Rattle.paper.specs.Telegrams.{applicationType, telegramType, isType}
 use Rattle.paper.specs.SignalList
 use Rattle.paper.specs.SignalList.{SignalList, Counts, longestLimit, judge, listOf}
-use Rattle.paper.specs.Store.{vehicles, telegramOctets, storeOctets, slotStart, Slot, slotOf, taken, taking, turn, age, Takes, stale, timely}
+use Rattle.paper.specs.Store.{vehicles, telegramOctets, storeOctets, slotStart, Slot, slotOf, moved, taken, taking, turn, age, Takes, stale, timely}
 use Rattle.paper.specs.Reading.{Reading, heard, hindrances, reasonOf, readingOf, reading}
 use Rattle.paper.specs.Demands.{Step, offer, sweep, step, run, NoneLater, NoneExpired, halfTurn, onClock, Orderly, TrueClock, LastTaken}
 use Rattle.paper.specs.Bench.{listL, countsL, judged}
@@ -127,8 +127,10 @@ module _ (start : List ℕ) (begun : ℕ) (steps : List Step) (now : ℕ) (timed
   last-kept =
       let g = last-takes in
       let o = orderly-from (h .before) last-steps begun begun now (omega arith) (rw (h .parts) timed) in
-      let is : slotOf (taken last-store v (t % turn) (h .telegram)) v ≡ record { heard = 1; stamp = t % turn; telegram = padded (h .telegram) } =
-      slot-taken _ v (t % turn) (h .telegram) (g .whole) (g .first) (g .last) short ∙ slot-says (t % turn) (h .telegram) (omega arith) in
+      let before = moved (slotOf last-store v) in
+      let is : slotOf (taken last-store v (t % turn) (h .telegram)) v
+      ≡ record { heard = 1; stamp = t % turn; previous = before % turn; telegram = padded (h .telegram) } =
+      slot-taken _ v (t % turn) (h .telegram) (g .whole) (g .first) (g .last) short ∙ slot-says (t % turn) before (h .telegram) (omega arith) in
       rw (← last-run)
       (run-keeps v t now (padded (h .telegram)) (g .first) (g .last) (h .later) (taken last-store v (t % turn) (h .telegram)) t (o .1 .0)
       (length-taken _ v (t % turn) (h .telegram) (g .whole) (g .first) (g .last) short ∙ g .whole)

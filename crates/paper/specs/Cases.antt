@@ -12,7 +12,7 @@ use Rattle.paper.specs.Broken.{Fault, faultOf}
 use Rattle.paper.specs.Forms.{serialOf, toForm2, toForm1}
 use Rattle.paper.specs.Extends.{extendsLists}
 use Rattle.paper.specs.Pairs.{Entry, Pair, entryOf, routeEntry, finding, pairing}
-use Rattle.paper.specs.Store.{taking, sweeping}
+use Rattle.paper.specs.Store.{taking, gapping, sweeping}
 use Rattle.paper.specs.Reading.{Reading, Held, holding, reading}
 use Rattle.paper.specs.Marshalling.{marshalling}
 use Rattle.paper.specs.Composing.{composing}
@@ -86,6 +86,8 @@ pub data Question : Type 0 where
   places : ℕ → Question
   -- a store, a vehicle, the clock and a telegram; the elements of the store that are looked at afterwards
   takes : List ℕ → ℕ → ℕ → List ℕ → List ℕ → Question
+  -- a store and a vehicle
+  gaps : List ℕ → ℕ → Question
   -- a store and the clock; the elements of the store that are looked at afterwards
   sweeps : List ℕ → ℕ → List ℕ → Question
   -- a store, the clock and a vehicle
@@ -220,6 +222,7 @@ ask (movesTo1 xs out) = wroteAll out (toForm1 xs (length out))
 ask (pairsIn form xs form′ ys from) = saidOfTwo (ofSought ofPair) (pairing form xs form′ ys from)
 ask (places b) = said (λ p. p ∷ []) (checkPlace b)
 ask (takes store v now telegram at) = wrote store (taking store v now telegram) at
+ask (gaps store v) = said (λ n. n ∷ []) (gapping store v)
 ask (sweeps store now at) = wrote store (sweeping store now) at
 ask (holds store now v) = said ofHeld (holding store now v)
 ask (readsIn form xs store now v k) = said ofReading (reading form xs store now v k)

@@ -1,4 +1,4 @@
--- Each limit that document 01 or request C-18 names, at its edge: what is answered at it, and past it. One table, one computed test.
+-- Each limit that document 01 or a request of document 02 names, at its edge: what is answered at it, and past it. One table, one computed test.
 use Prim.Native.Nat.{ℕ, zero, suc, _+_, _*_}
 use mathlib.Core.Path.{_≡_, refl}
 use mathlib.Core.List.{List, [], _∷_, _++_, map}
@@ -11,7 +11,7 @@ use Rattle.paper.specs.Telegrams.{applicationType, telegramType, version
 use Rattle.paper.specs.SignalList
 use Rattle.paper.specs.SignalList.{Signal, judgeTo, version, hasCodes, inRange, knownIn, knows, placeOf}
 use Rattle.paper.specs.Forms.{serialAt, serialOf, narrowed, droppedFrom, dropped, spread, widenedFrom, widened, toForm2, toForm1}
-use Rattle.paper.specs.Store.{slotOf, taken, taking, age, stale, sweptOne, sweptTo, sweeping}
+use Rattle.paper.specs.Store.{slotOf, taken, taking, age, gap, gapping, stale, sweptOne, sweptTo, swept, sweeping}
 use Rattle.paper.specs.Reading.{heard, markOf, codeOf, hindrances, reasonOf, readingOf, readingAt, reading}
 use Rattle.paper.specs.Marshalling.{routed, marshalled, live, marshalling}
 use Rattle.paper.specs.Composing.{headed, composed, markFits, valueFits, composing}
@@ -20,7 +20,7 @@ use Rattle.paper.specs.Train.{noVehicle, consistRule, meets, member, set
 use Rattle.paper.specs.ETelegrams.{requests, isRequest, isReport, eReading, answerTo, answering}
 use Rattle.paper.specs.Bench.{listL, listL2}
 use Rattle.paper.specs.Marked.{telegram, silent, heardAt}
-use Rattle.paper.specs.Cases.{joined, made, made2, signal, code, route, Question, judges, judgesIn, serialsIn, movesTo2, movesTo1, places, takes, sweeps, reads, marshals, composes, shows, resolves, eReads, gave, refuses, ask}
+use Rattle.paper.specs.Cases.{joined, made, made2, signal, code, route, Question, judges, judgesIn, serialsIn, movesTo2, movesTo1, places, takes, gaps, sweeps, reads, marshals, composes, shows, resolves, eReads, gave, refuses, ask}
 
 pub record Edge : Type 0 where
   pub at : Question
@@ -95,6 +95,21 @@ long head n = head ∷ replicate n 0
 
 abbrev offered : ℕ → List ℕ → Question
 offered v t = takes silent v 0 t []
+
+-- C-16: vehicle 1 with this heard octet, stamp and previous stamp
+abbrev stamped : ℕ → ℕ → ℕ → List ℕ
+stamped mark stamp previous = over silent 0 (mark ∷ octetsOf 4 stamp ++ octetsOf 4 previous)
+
+-- the low octet of the previous stamp once a telegram was taken from vehicle 1 with this heard octet and the stamp 9
+abbrev renewed : ℕ → Question
+renewed mark = takes (stamped mark 9 4) 1 20 (telegram 0 0) (8 ∷ [])
+
+abbrev again : ℕ → List ℕ → List ℕ
+again now store = taken store 1 now (telegram 0 0)
+
+-- a store of n octets
+abbrev zeros : ℕ → List ℕ
+zeros n = replicate n 0
 
 -- one signal of so many bits, from a bit that starts no octet, composed with a value
 abbrev composesWide : ℕ → ℕ → Question
@@ -196,6 +211,29 @@ edges =
     ∷ between (λ head. offered 1 (long head 39)) 0x13 (gave []) 0x14 (refuses 9 0)
     ∷ between (λ n. offered 1 (long 0x11 n)) 127 (gave []) 126 (refuses 10 0)
     ∷ between (λ n. offered 1 (long 0x13 n)) 39 (gave []) 40 (refuses 10 0)
+    -- C-16: "Taking a telegram into a slot with heard octet 1 or 2 moves its stamp there; into any other it writes 0"
+    ∷ between renewed 1 (gave (9 ∷ [])) 0 (gave (0 ∷ []))
+    ∷ between renewed 2 (gave (9 ∷ [])) 3 (gave (0 ∷ []))
+    ∷ between renewed 2 (gave (9 ∷ [])) 255 (gave (0 ∷ []))
+    -- "A read of the gap gives stamp less previous stamp, modulo 4,294,967,296. For any other heard octet the gap is 0."
+    ∷ between (λ mark. gaps (stamped mark 9 4) 1) 1 (gave (5 ∷ [])) 0 (gave (0 ∷ []))
+    ∷ between (λ mark. gaps (stamped mark 9 4) 1) 2 (gave (5 ∷ [])) 3 (gave (0 ∷ []))
+    ∷ between (λ mark. gaps (stamped mark 9 4) 1) 2 (gave (5 ∷ [])) 255 (gave (0 ∷ []))
+    ∷ between (λ stamp. gaps (stamped 1 stamp 4) 1) 4 (gave (0 ∷ [])) 3 (gave (4294967295 ∷ []))
+    ∷ between (λ previous. gaps (stamped 1 4294967295 previous) 1) 0 (gave (4294967295 ∷ [])) 4294967295 (gave (0 ∷ []))
+    -- the first telegram and the second, the counter having come round; a sweep after the first, and the second behind it
+    ∷ edge (gaps (heardAt 0 0 4294967294) 1) (gave (4294967294 ∷ [])) (gaps (again 3 (heardAt 0 0 4294967294)) 1) (gave (5 ∷ []))
+    ∷ edge (gaps (swept (heardAt 0 0 9) 600010) 1) (gave (9 ∷ [])) (gaps (again 600020 (swept (heardAt 0 0 9) 600010)) 1) (gave (600011 ∷ []))
+    -- "Refusal 5 now means not 8,631 octets", everywhere, and not the 8,379 of before; 6; of both, 5
+    ∷ between (gaps silent) 1 (gave (0 ∷ [])) 0 (refuses 6 0)
+    ∷ between (gaps silent) 63 (gave (0 ∷ [])) 64 (refuses 6 0)
+    ∷ between (λ n. gaps (zeros n) 1) 8631 (gave (0 ∷ [])) 8379 (refuses 5 0)
+    ∷ between (λ n. gaps (zeros n) 1) 8631 (gave (0 ∷ [])) 8630 (refuses 5 0)
+    ∷ between (λ n. gaps (zeros n) 64) 8631 (refuses 6 0) 8632 (refuses 5 0)
+    ∷ between (λ n. takes (zeros n) 1 0 (telegram 0 0) []) 8631 (gave []) 8379 (refuses 5 0)
+    ∷ between (λ n. sweeps (zeros n) 0 []) 8631 (gave []) 8379 (refuses 5 0)
+    ∷ between (λ n. reads listL (zeros n) 0 1 0) 8631 (gave (0 ∷ 2 ∷ [])) 8379 (refuses 5 0)
+    ∷ between (λ n. marshals listL (zeros n) 0 (0 ∷ [])) 8631 (gave (0 ∷ 0 ∷ [])) 8379 (refuses 5 0 ++ (0 ∷ []))
     -- C-12: "a heard slot whose age is above 600,000 ms"; "Refusals: 5"
     ∷ between (λ now. sweeps (heardAt 0x10 0x40 0) now (0 ∷ [])) 600000 (gave (1 ∷ [])) 600001 (gave (2 ∷ []))
     ∷ edge (sweeps silent 0 []) (gave []) (sweeps (0 ∷ silent) 0 []) (refuses 5 0)
@@ -236,7 +274,7 @@ unfolding edges evens joined made made2 ask listL listL2 serialAt serialOf narro
     some count greatest applicationType telegramType versionOf rows placeIn SignalList.checkAt SignalList.signalSize SignalList.signalAt SignalList.among SignalList.codeAt SignalList.routeAt
     SignalList.checkRule SignalList.signalRuleTo SignalList.codeRule SignalList.routeRule SignalList.opening SignalList.judgeEntries SignalList.judgeSection
     SignalList.greatestSince SignalList.ending SignalList.fromRoutes SignalList.fromCodes SignalList.fromSignalsTo judgeTo hasCodes inRange knownIn knows
-    placeOf version slotOf taken taking age stale sweptOne sweptTo sweeping heard markOf codeOf hindrances reasonOf readingOf readingAt reading routed marshalled live marshalling headed
+    placeOf version slotOf taken taking age gap gapping stale sweptOne sweptTo sweeping heard markOf codeOf hindrances reasonOf readingOf readingAt reading routed marshalled live marshalling headed
     composed markFits valueFits composing showing ofBits round toBits consistRule meets member setTo membersOf resolving requests isRequest isReport
     eReading answerTo answering
 at-each-edge = refl

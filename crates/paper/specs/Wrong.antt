@@ -20,7 +20,7 @@ use Rattle.paper.specs.Forms.{serialAt, serialOf, narrowed, droppedFrom,
 use Rattle.paper.specs.Extends.{codesKept, keeps, stands, newer, extendsLists}
 use Rattle.paper.specs.Extends as Extending
 use Rattle.paper.specs.Pairs.{entryOf, routeEntry, signalFound, finding, has, index, nextPair, pairing}
-use Rattle.paper.specs.Store.{slotHead, slotOctets, storeOctets, slotStart, slotOf, taken, taking, age, stale, sweptOne, sweptTo, sweeping}
+use Rattle.paper.specs.Store.{slotHead, slotOctets, storeOctets, slotStart, slotOf, taken, taking, age, gap, gapping, stale, sweptOne, sweptTo, sweeping}
 use Rattle.paper.specs.Reading.{heard, heldIn, holding, markOf, codeOf, hindrances, reasonOf, readingOf, readingAt, reading}
 use Rattle.paper.specs.Marshalling.{routed, marshalled, live, marshalling}
 use Rattle.paper.specs.Composing.{headed, composed, markFits, valueFits, composing}
@@ -29,7 +29,7 @@ use Rattle.paper.specs.Train.{Vehicle, consistRule, meets, member, setTo
 use Rattle.paper.specs.ETelegrams.{requests, isRequest, isReport, eReading, answerTo, answering}
 use Rattle.paper.specs.Bench.{listL, listL2}
 use Rattle.paper.specs.Marked.{telegram, silent, heardAt}
-use Rattle.paper.specs.Cases.{joined, made, made2, signal, code, route, Question, judges, judgesIn, faults, faultsIn, extends, extendsIn, serialsIn, movesTo2, movesTo1, readsIn, signalEntries, routeEntries, finds, pairs, places, takes, sweeps, holds, reads, marshals, composes, shows, resolves, eReads, eAnswers, gave, refuses, ask}
+use Rattle.paper.specs.Cases.{joined, made, made2, signal, code, route, Question, judges, judgesIn, faults, faultsIn, extends, extendsIn, serialsIn, movesTo2, movesTo1, readsIn, signalEntries, routeEntries, finds, pairs, places, takes, gaps, sweeps, holds, reads, marshals, composes, shows, resolves, eReads, eAnswers, gave, refuses, ask}
 
 -- ---- A wrong gateway
 
@@ -96,6 +96,30 @@ swept-to one stamp two three last = gave (one ∷ stamp ++ (0x11 ∷ two ∷ thr
 
 abbrev stamp : List ℕ
 stamp = 1 ∷ 2 ∷ 3 ∷ 4 ∷ []
+
+-- C-16: vehicle 1 with this heard octet, stamp and previous stamp
+abbrev stamped : ℕ → ℕ → ℕ → List ℕ
+stamped mark stamp previous = over silent 0 (mark ∷ octetsOf 4 stamp ++ (octetsOf 4 previous ++ telegram 0x10 0x40))
+
+-- a telegram taken at 0A 0B 0C 0D from vehicle 1 with this heard octet, the stamp 01 02 03 04 and the previous stamp 05 06 07 08. Looked at: both
+-- stamps, octets 1 to 4 of the telegram, and the heard octet of vehicle 2
+abbrev renewed : List ℕ → Question
+renewed store = takes store 1 0x0A0B0C0D (telegram 0 0) (1 ∷ 2 ∷ 3 ∷ 4 ∷ 5 ∷ 6 ∷ 7 ∷ 8 ∷ 9 ∷ 10 ∷ 11 ∷ 12 ∷ slotOctets ∷ [])
+
+abbrev renewed-to : List ℕ → List ℕ → ℕ → List ℕ
+renewed-to previous head next = gave (0x0A ∷ 0x0B ∷ 0x0C ∷ 0x0D ∷ previous ++ (head ++ (next ∷ [])))
+
+abbrev heard-before : ℕ → List ℕ
+heard-before mark = stamped mark 0x01020304 0x05060708
+
+abbrev earlier : List ℕ
+earlier = 5 ∷ 6 ∷ 7 ∷ 8 ∷ []
+
+abbrev head : List ℕ
+head = 0x11 ∷ 1 ∷ 0 ∷ 0 ∷ []
+
+abbrev gap-is : ℕ → List ℕ
+gap-is n = gave (n ∷ [])
 
 -- L without a time limit
 abbrev no-limit : List ℕ
@@ -327,10 +351,39 @@ table =
     (refuses 9 0 ++ (1 ∷ 0x14 ∷ []))
     ∷ saying "length-before-type" (takes silent 1 0 (0x14 ∷ 0 ∷ []) []) (refuses 9 0) (refuses 10 0)
     ∷ saying "new-telegram-left-expired" (takes (mark 2) 1 5 (telegram 0 0) (0 ∷ [])) (gave (1 ∷ [])) (gave (2 ∷ []))
+    -- C-16, taking: what becomes of the stamp that was there
+    ∷ saying "expired-not-moved" (renewed (heard-before 2)) (renewed-to stamp head 0) (renewed-to (replicate 4 0) head 0)
+    ∷ asked-as "unheard-moved"
+    (renewed (heard-before 3)) (renewed-to (replicate 4 0) head 0)
+    (renewed (heard-before 1)) (renewed-to stamp head 0)
+    ∷ saying "moved-by-its-head"
+    (renewed (set (heard-before 1) slotHead 0x21)) (renewed-to stamp head 0)
+    (renewed-to (replicate 4 0) head 0)
+    ∷ saying "new-stamp-moved" (renewed (heard-before 1)) (renewed-to stamp head 0) (renewed-to (0x0A ∷ 0x0B ∷ 0x0C ∷ 0x0D ∷ []) head 0)
+    ∷ saying "previous-left" (renewed (heard-before 1)) (renewed-to stamp head 0) (renewed-to earlier head 0)
+    ∷ saying "previous-over-the-telegram" (renewed (heard-before 1)) (renewed-to stamp head 0) (renewed-to earlier stamp 0)
+    ∷ saying "previous-over-the-neighbour" (renewed (heard-before 1)) (renewed-to stamp head 0) (renewed-to earlier head 1)
+    ∷ saying "slots-133-apart"
+    (takes silent 2 0x0A0B0C0D (telegram 0 0) (133 ∷ slotOctets ∷ [])) (gave (0 ∷ 1 ∷ []))
+    (gave (1 ∷ 0x0D ∷ []))
+    ∷ saying "old-store-taken" (takes (replicate 8379 0) 1 0 (telegram 0 0) (0 ∷ [])) (refuses 5 0 ++ (0 ∷ [])) (gave (1 ∷ []))
+    -- C-16, the gap
+    ∷ saying "gap-of-itself" (gaps (stamped 1 9 4) 1) (gap-is 5) (gap-is 0)
+    ∷ saying "gap-backwards" (gaps (stamped 1 9 4) 1) (gap-is 5) (gap-is 4294967291)
+    ∷ saying "gap-wrap-lost" (gaps (stamped 1 3 4294967294) 1) (gap-is 5) (gap-is 0)
+    ∷ asked-as "gap-unheard" (gaps (stamped 0 9 4) 1) (gap-is 0) (gaps (stamped 1 9 4) 1) (gap-is 5)
+    ∷ asked-as "gap-gone-when-expired" (gaps (stamped 2 9 4) 1) (gap-is 5) (gaps (stamped 0 9 4) 1) (gap-is 0)
+    ∷ saying "gap-by-its-head" (gaps (set (stamped 1 9 4) slotHead 0x21) 1) (gap-is 5) (gap-is 0)
+    ∷ saying "first-gap-0" (gaps (heardAt 0x10 0x40 9) 1) (gap-is 9) (gap-is 0)
+    ∷ asked-as "gap-of-the-next-vehicle" (gaps (stamped 1 9 4) 1) (gap-is 5) (gaps (stamped 1 9 4) 2) (gap-is 0)
+    ∷ saying "gap-vehicle-before-store" (gaps (0 ∷ silent) 64) (refuses 5 0) (refuses 6 0)
     -- sweeping
     ∷ saying "expired-at-600000" parked (swept-to 2 stamp 7 1 2) (swept-to 2 stamp 7 2 2)
     ∷ saying "first-vehicle-swept" parked (swept-to 2 stamp 7 1 2) (swept-to 2 stamp 7 1 1)
     ∷ saying "stamp-cleared" parked (swept-to 2 stamp 7 1 2) (swept-to 2 (replicate 4 0) 7 1 2)
+    ∷ saying "previous-cleared"
+    (sweeps (heard-before 1) 600000 (0 ∷ 4 ∷ 5 ∷ 6 ∷ 7 ∷ 8 ∷ [])) (gave (2 ∷ 4 ∷ earlier))
+    (gave (2 ∷ 4 ∷ replicate 4 0))
     ∷ saying "octet-7-swept" parked (swept-to 2 stamp 7 1 2) (swept-to 2 stamp 2 1 2)
     ∷ saying "swept-though-refused" (sweeps (heardAt 0x10 0x40 0 ++ (0 ∷ [])) 600001 (0 ∷ [])) (refuses 5 0 ++ (1 ∷ [])) (refuses 5 0 ++ (2 ∷ []))
     -- what a slot holds: heard, expired, type, version, age
@@ -467,7 +520,7 @@ unfolding table answered sameNumbers joined made made2 ask listL listL2 serialAt
     SignalList.codeAt SignalList.routeAt SignalList.checkRule SignalList.signalRuleTo SignalList.codeRule SignalList.routeRule SignalList.opening
     SignalList.judgeEntries SignalList.judgeSection SignalList.greatestSince SignalList.ending SignalList.fromRoutes SignalList.fromCodes
     SignalList.fromSignalsTo judgeTo faultIn faultFromRoutes faultFromCodes faultFromSignals faultOf hasCodes inRange knownIn knows placeOf version codesKept keeps stands newer Extending.extends extendsLists entryOf
-    routeEntry signalFound finding has index nextPair pairing slotOf taken taking age stale sweptOne sweptTo sweeping heard heldIn holding markOf codeOf hindrances reasonOf readingOf
+    routeEntry signalFound finding has index nextPair pairing slotOf taken taking age gap gapping stale sweptOne sweptTo sweeping heard heldIn holding markOf codeOf hindrances reasonOf readingOf
     readingAt reading routed marshalled live marshalling headed composed markFits valueFits composing showing ofBits round toBits consistRule meets member
     setTo membersOf resolving requests isRequest isReport eReading answerTo answering
 wrong = refl

@@ -1,4 +1,4 @@
--- Four runs of octets are one slot, and the tests of a taking are its refusals. Assumes nothing.
+-- Five runs of octets are one slot, and the tests of a taking are its refusals. Assumes nothing.
 use Prim.Native.Nat.{ℕ, _+_, _-_, _%_, _≤_, _<_}
 use mathlib.Core.Path.{_≡_, refl, sym, ap, _∙_}
 use mathlib.Core.List.{List, [], _∷_, _++_, append-assoc}
@@ -20,7 +20,9 @@ use Rattle.refusals.specs.Outcome.{Written}
 use Rattle.refusals.proofs.Laws.{numbered, numbered-of}
 use Rattle.store.specs.declared.HeldOutcome.{HeldOutcome}
 use Rattle.store.specs.declared.HeldOutcome.the-variants as H
-use Rattle.store.specs.Store.{heldAnswer, telegramTests, takingTests}
+use Rattle.store.specs.declared.GapOutcome.{GapOutcome}
+use Rattle.store.specs.declared.GapOutcome.the-variants as G
+use Rattle.store.specs.Store.{heldAnswer, gapAnswer, telegramTests, takingTests}
 
 -- ---- the slot
 
@@ -32,24 +34,31 @@ over-one l k a h = rw add-one (set-split l k a (omega arith))
 run : (l : List ℕ) (a : ℕ) (x y : List ℕ) (b : ℕ) → a + length x ≡ b → b + length y ≤ length l → over (over l a x) b y ≡ over l a (x ++ y)
 run l a x y b e h = ap (λ (n : ℕ). over (over l a x) n y) (sym e) ∙ over-over l a x y (omega arith)
 
--- heard, stamp, telegram and zeros
-pub four-runs : (store : List ℕ) (at now : ℕ) (telegram : List ℕ) → at + slotOctets ≤ length store → length telegram ≤ telegramOctets
+-- heard, stamp, previous stamp, telegram and zeros
+pub five-runs : (store : List ℕ) (at now before : ℕ) (telegram : List ℕ) → at + slotOctets ≤ length store → length telegram ≤ telegramOctets
     → let n = length telegram in
-    over (over (over (set store at 1) (at + 1) (octetsOf 4 now)) (at + slotHead) telegram) (at + slotHead + n) (replicate (telegramOctets - n) 0)
-    ≡ over store at (slotTo now telegram)
-four-runs store at now telegram h short =
+    let head = over (over (set store at 1) (at + 1) (octetsOf 4 now)) (at + 5) (octetsOf 4 before) in
+    over (over head (at + slotHead) telegram) (at + slotHead + n) (replicate (telegramOctets - n) 0)
+    ≡ over store at (slotTo now before telegram)
+five-runs store at now before telegram h short =
     let stamp : List ℕ = 1 ∷ octetsOf 4 now in
-    let s : length stamp ≡ slotHead = omega (arith, length-octetsOf 4 now) in
-    let t : length (stamp ++ telegram) ≡ slotHead + length telegram = length-append stamp telegram ∙ omega arith in
+    let s : length stamp ≡ 5 = omega (arith, length-octetsOf 4 now) in
+    let stamps : List ℕ = stamp ++ octetsOf 4 before in
+    let p : length stamps ≡ slotHead = length-append stamp (octetsOf 4 before) ∙ omega (arith, length-octetsOf 4 before) in
+    let t : length (stamps ++ telegram) ≡ slotHead + length telegram = length-append stamps telegram ∙ omega arith in
     let zeros : List ℕ = replicate (telegramOctets - length telegram) 0 in
     let z : length zeros ≡ telegramOctets - length telegram = length-replicate (telegramOctets - length telegram) 0 in
     rw (
       over-one store at 1 (omega arith),
       run store at (1 ∷ []) (octetsOf 4 now) (at + 1) refl (omega (arith, length-octetsOf 4 now)),
-      run store at stamp telegram (at + slotHead) (omega arith) (omega arith),
-      run store at (stamp ++ telegram) zeros (at + slotHead + length telegram) (omega arith) (omega arith),
+      run store at stamp (octetsOf 4 before) (at + 5) (omega arith) (omega (arith, length-octetsOf 4 before)),
+      run store at stamps telegram (at + slotHead) (omega arith) (omega arith),
+      run store at (stamps ++ telegram) zeros (at + slotHead + length telegram) (omega arith) (omega arith),
     )
-    (ap (λ (x : List ℕ). over store at (1 ∷ x)) (append-assoc (octetsOf 4 now) telegram zeros))
+    (ap (λ (x : List ℕ). over store at (1 ∷ x))
+    (ap (λ (x : List ℕ). x ++ zeros) (append-assoc (octetsOf 4 now) (octetsOf 4 before) telegram)
+    ∙ append-assoc (octetsOf 4 now) (octetsOf 4 before ++ telegram) zeros
+    ∙ ap (λ (x : List ℕ). octetsOf 4 now ++ x) (append-assoc (octetsOf 4 before) telegram zeros)))
 
 -- a vehicle's slot is whole
 pub slot-whole : (store : List ℕ) (v : ℕ) → length store ≡ storeOctets → 1 ≤ v → v ≤ vehicles → length (take slotOctets (drop (slotStart v) store)) ≡ slotOctets
@@ -86,6 +95,20 @@ told-of (H.Refused f) = ap H.Refused (numbered-of f)
 
 pub one-held : (a : Answer paper.Held) (v w : HeldOutcome) → heldAnswer v ≡ a → heldAnswer w ≡ a → v ≡ w
 one-held = one-answer heldAnswer told told-of
+
+-- ---- the gap
+
+gapTold : Answer ℕ → GapOutcome
+gapTold (gives n) = G.Gap n
+gapTold (refused n at) = G.Refused (numbered n at)
+
+gapTold-of : (r : GapOutcome) → gapTold (gapAnswer r) ≡ r
+unfolding gapTold
+gapTold-of (G.Gap n) = refl
+gapTold-of (G.Refused f) = ap G.Refused (numbered-of f)
+
+pub one-gap : (a : Answer ℕ) (v w : GapOutcome) → gapAnswer v ≡ a → gapAnswer w ≡ a → v ≡ w
+one-gap = one-answer gapAnswer gapTold gapTold-of
 
 -- ---- age
 

@@ -12,6 +12,8 @@ use Rattle.refusals.specs.Refusal.{refusalOf}
 use Rattle.store.specs.declared.Held.{Held}
 use Rattle.store.specs.declared.HeldOutcome.{HeldOutcome}
 use Rattle.store.specs.declared.HeldOutcome.the-variants as H
+use Rattle.store.specs.declared.GapOutcome.{GapOutcome}
+use Rattle.store.specs.declared.GapOutcome.the-variants as G
 
 abbrev pub asHeld : Held → paper.Held
 asHeld h = record { heard = h .heard; expired = h .expired; type = h .kind; version = h .version; age = h .age }
@@ -19,6 +21,10 @@ asHeld h = record { heard = h .heard; expired = h .expired; type = h .kind; vers
 abbrev pub heldAnswer : HeldOutcome → Answer paper.Held
 heldAnswer (H.Held h) = gives (asHeld h)
 heldAnswer (H.Refused f) = refusalOf f
+
+abbrev pub gapAnswer : GapOutcome → Answer ℕ
+gapAnswer (G.Gap n) = gives n
+gapAnswer (G.Refused f) = refusalOf f
 
 -- the tests of `taking`: those of the telegram alone, then all on a store of n octets
 unfoldable pub telegramTests : List ℕ → Answer (Unit {0})

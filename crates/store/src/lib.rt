@@ -1,13 +1,14 @@
-// The store: one slot a vehicle, taking a telegram into it, the age of what it holds, and the sweep that marks what is too old for any limit. The
-// layout of a slot stands in this crate alone.
+// The store: one slot a vehicle, taking a telegram into it, the age of what it holds, the gap between its last two telegrams, and the sweep that
+// marks what is too old for any limit. The layout of a slot stands in this crate alone.
 ghost use mathlib.Core.Path.{_≡_};
 ghost use Prim.Native.Nat.{_<_, _≤_};
 ghost use lib.ListN.{length, take, drop};
 ghost use mathlib.Core.Bool.{cond};
-ghost use Rattle.paper.specs.Store.{vehicles, telegramOctets, slotOctets, storeOctets, isStore, isVehicle, slotStart, slotFrom, taken, taking, age, inTime, stale, sweptOne, swept, sweeping, expired, timely};
+ghost use Rattle.paper.specs.Store.{vehicles, telegramOctets, slotOctets, storeOctets, isStore, isVehicle, slotStart, slotFrom, slotTo, everHeard, moved, taken, taking, age, gap, gapping, inTime, stale, sweptOne, swept, sweeping, expired, timely};
+ghost use Rattle.paper.specs.Octets.{over};
 ghost use Rattle.paper.specs.Reading.{heard, heldIn, holding as heldOf};
 ghost use Rattle.refusals.specs.Outcome.{outcomeOf, Written};
-ghost use Rattle.store.specs.Store.{asHeld, heldAnswer, telegramTests, takingTests};
+ghost use Rattle.store.specs.Store.{asHeld, heldAnswer, gapAnswer, telegramTests, takingTests};
 use refusals::Outcome;
 use refusals::Refusal;
 
@@ -16,8 +17,10 @@ pub const VEHICLES: usize = 63;
 // The longest telegram.
 pub const TELEGRAM: usize = 128;
 
-// The heard octet and the stamp.
-const HEAD: usize = 5;
+// The heard octet, the stamp and the previous stamp.
+const HEAD: usize = 9;
+
+const PREVIOUS: usize = 5;
 
 const SLOT: usize = HEAD + TELEGRAM;
 
@@ -44,6 +47,12 @@ pub struct Held {
 
 pub enum HeldOutcome {
     Held(Held),
+    Refused(Refusal),
+}
+
+// Stamp less previous stamp, in ms.
+pub enum GapOutcome {
+    Gap(u32),
     Refused(Refusal),
 }
 
@@ -77,6 +86,14 @@ fn stamp(slot: &[u8]) -> u32
     octets::read32(slot, 1) as u32
 }
 
+// Inner: the stamp before it.
+fn previous(slot: &[u8]) -> u32
+    requires { ⌜ length (now slot) ≡ slotOctets ⌝ }
+    ensures { λ r. ⌜ r ≡ slotFrom (now (slot .entry)) .previous ⌝ }
+{
+    octets::read32(slot, PREVIOUS) as u32
+}
+
 // Inner: the telegram of a slot.
 pub fn telegram(slot: &[u8]) -> &[u8]
     requires { ⌜ length (now slot) ≡ slotOctets ⌝ }
@@ -85,14 +102,30 @@ pub fn telegram(slot: &[u8]) -> &[u8]
     &slot[HEAD..]
 }
 
+// Inner: a slot that was heard, expired since or not, whatever its telegram's head.
+fn was_heard(slot: &[u8]) -> bool
+    requires { ⌜ length (now slot) ≡ slotOctets ⌝ }
+    ensures { λ r. ⌜ r ≡ everHeard (slotFrom (now (slot .entry))) ⌝ }
+{
+    let mark = slot[0];
+    (mark == HEARD) | (mark == EXPIRED)
+}
+
+// Inner: the stamp that a telegram taken into the slot moves, 0 where none was heard.
+fn moved(slot: &[u8]) -> u32
+    requires { ⌜ length (now slot) ≡ slotOctets ⌝ }
+    ensures { λ r. ⌜ r ≡ moved (slotFrom (now (slot .entry))) ⌝ }
+{
+    if was_heard(slot) { stamp(slot) } else { 0 }
+}
+
 // Inner: a slot that was heard, expired since or not, and whose head is an R-telegram's.
 pub fn is_heard(slot: &[u8]) -> bool
     requires { ⌜ length (now slot) ≡ slotOctets ⌝ }
     ensures { λ r. ⌜ r ≡ heard (slotFrom (now (slot .entry))) ⌝ }
 {
-    let mark = slot[0];
     let t = telegram(slot);
-    ((mark == HEARD) | (mark == EXPIRED))
+    was_heard(slot)
         & (telegrams::application_type(t) == 1)
         & telegrams::is_type(telegrams::telegram_type(t))
 }
@@ -153,6 +186,30 @@ pub fn holding(store: &[u8], clock: u32, vehicle: usize) -> HeldOutcome
     HeldOutcome::Held(held_in(slot(store, vehicle), clock))
 }
 
+// Inner: the gap between the last two telegrams of a slot, 0 where none was heard.
+fn gap_in(slot: &[u8]) -> u32
+    requires { ⌜ length (now slot) ≡ slotOctets ⌝ }
+    ensures { λ r. ⌜ r ≡ gap (slotFrom (now (slot .entry))) ⌝ }
+{
+    if was_heard(slot) {
+        return age(stamp(slot), previous(slot));
+    }
+    0
+}
+
+// The gap between the last two telegrams taken from a vehicle; after the first, its stamp. Refused: 5 and 6.
+pub fn gap(store: &[u8], vehicle: usize) -> GapOutcome
+    ensures { λ r. ⌜ gapAnswer r ≡ gapping (now (store .entry)) vehicle ⌝ }
+{
+    if !is_store(store) {
+        return GapOutcome::Refused(Refusal::STORE_LENGTH);
+    }
+    if !is_vehicle(vehicle) {
+        return GapOutcome::Refused(Refusal::VEHICLE);
+    }
+    GapOutcome::Gap(gap_in(slot(store, vehicle)))
+}
+
 // A clock that went back gives a large age.
 fn age(clock: u32, stamp: u32) -> u32
     ensures { λ r. ⌜ r ≡ age clock stamp ⌝ }
@@ -208,16 +265,26 @@ fn taking_tests(octets: usize, vehicle: usize, telegram: &[u8]) -> Outcome
 }
 
 // Inner: the whole slot, the octets behind a short telegram too.
-fn write_slot(store: &mut [u8], vehicle: usize, clock: u32, telegram: &[u8])
+fn write_slot(store: &mut [u8], vehicle: usize, clock: u32, before: u32, telegram: &[u8])
     requires { ⌜ (length (now store) ≡ storeOctets) × (1 ≤ vehicle) × (vehicle ≤ vehicles) × (length (now telegram) ≤ telegramOctets) ⌝ }
-    ensures { λ _. ⌜ now (store .exit) ≡ taken (now (store .entry)) vehicle clock (now (telegram .entry)) ⌝ }
+    ensures { λ _. ⌜ now (store .exit) ≡ over (now (store .entry)) (slotStart vehicle) (slotTo clock before (now (telegram .entry))) ⌝ }
 {
     let at = SLOT * (vehicle - 1);
     let n = telegram.len();
     store[at] = HEARD;
     octets::write32(store, at + 1, clock);
+    octets::write32(store, at + PREVIOUS, before);
     octets::copy_over(store, at + HEAD, telegram);
     octets::fill_zero(store, at + HEAD + n, TELEGRAM - n);
+}
+
+// Inner: the slot with the new telegram, and the stamp that it had behind the new one.
+fn renew_slot(store: &mut [u8], vehicle: usize, clock: u32, telegram: &[u8])
+    requires { ⌜ (length (now store) ≡ storeOctets) × (1 ≤ vehicle) × (vehicle ≤ vehicles) × (length (now telegram) ≤ telegramOctets) ⌝ }
+    ensures { λ _. ⌜ now (store .exit) ≡ taken (now (store .entry)) vehicle clock (now (telegram .entry)) ⌝ }
+{
+    let before = moved(slot(store, vehicle));
+    write_slot(store, vehicle, clock, before, telegram);
 }
 
 // Takes a telegram of a vehicle, heard at `clock`, into the store. Refused: 5 to 10, and the store stays as it was.
@@ -228,7 +295,7 @@ pub fn take(store: &mut [u8], vehicle: usize, clock: u32, telegram: &[u8]) -> Ou
     match tested {
         Outcome::Refused(f) => Outcome::Refused(f),
         Outcome::Done => {
-            write_slot(store, vehicle, clock, telegram);
+            renew_slot(store, vehicle, clock, telegram);
             Outcome::Done
         }
     }

@@ -79,7 +79,7 @@ fn sweep_store(fd: i32, path: &[u8], clock: u32, old: &[u8], store: &mut [u8]) {
     match outcome {
         Outcome::Refused(f) => {
             files::drop_new(path, fd);
-            words::print_refused(f);
+            words::print_refused_store(f, store.len());
         }
         Outcome::Done => {
             if files::commit(1, b"STORE", path, fd, store) {

@@ -75,8 +75,8 @@ fn say_lengths(line: Line, telegram: &[u8]) -> Line {
     saying::say_number(l, if kind == 3 { 40 } else { 128 })
 }
 
-fn print_refused(f: Refusal, telegram: &[u8]) {
-    let l = words::say_refused(f, b"");
+fn print_refused(f: Refusal, octets: usize, telegram: &[u8]) {
+    let l = words::say_refused_store(f, octets);
     if gateway::number(f) == 10 {
         saying::print(say_lengths(l, telegram));
         return;
@@ -89,7 +89,7 @@ fn take_store(fd: i32, path: &[u8], vehicle: usize, clock: u32, telegram: &[u8],
     match outcome {
         Outcome::Refused(f) => {
             files::drop_new(path, fd);
-            print_refused(f, telegram);
+            print_refused(f, store.len(), telegram);
         }
         Outcome::Done => {
             if files::commit(1, b"STORE", path, fd, store) {

@@ -5,6 +5,7 @@ use crate::vehicles::Vehicles;
 use crate::vehicles::no_vehicles;
 use crate::vehicles::say_vehicles;
 use crate::vehicles::with_vehicle;
+use gateway::GapOutcome;
 use gateway::Held;
 use gateway::HeldOutcome;
 use gateway::VEHICLES;
@@ -33,6 +34,22 @@ fn held_of(store: &[u8], clock: u32, vehicle: usize) -> Held {
     }
 }
 
+// From the previous telegram of a vehicle to its last, after the first its stamp; 0 in what is no store.
+fn gap_of(store: &[u8], vehicle: usize) -> u64 {
+    let found = gateway::gap(store, vehicle);
+    match found {
+        GapOutcome::Gap(g) => g as u64,
+        GapOutcome::Refused(_) => 0,
+    }
+}
+
+fn say_gap(line: Line, store: &[u8], vehicle: usize) -> Line {
+    say(
+        say_number(say(line, b" gap "), gap_of(store, vehicle)),
+        b" ms",
+    )
+}
+
 // An age above half of the counter's range: the stamp is after the clock rather than so long before it.
 fn say_age(line: Line, age: u64) -> Line {
     let l = say(say_number(say(line, b" age "), age), b" ms");
@@ -51,11 +68,12 @@ pub fn print_head(page: &mut Page, store: &[u8], clock: u32, vehicle: usize) {
         return;
     }
     let l = say_number(say(say_telegram(l, h.kind), b" version "), h.version as u64);
-    if h.expired {
-        add(page, say(l, b" expired"));
-        return;
-    }
-    add(page, say_age(l, h.age as u64));
+    let l = if h.expired {
+        say(l, b" expired")
+    } else {
+        say_age(l, h.age as u64)
+    };
+    add(page, say_gap(l, store, vehicle));
 }
 
 // The same as columns of a table, behind the vehicle's: telegram, version and age, or `expired` for the age; a dash each where it was never
@@ -71,6 +89,14 @@ pub fn say_head(line: Line, store: &[u8], clock: u32, vehicle: usize) -> Line {
         return say(l, b"\texpired");
     }
     say_tab(l, h.age as u64)
+}
+
+// The gap as the next column of a table, a dash where the vehicle was never heard.
+pub fn say_gap_tab(line: Line, store: &[u8], vehicle: usize) -> Line {
+    if is_heard(store, vehicle) {
+        return say_tab(line, gap_of(store, vehicle));
+    }
+    say(line, b"\t-")
 }
 
 pub fn is_heard(store: &[u8], vehicle: usize) -> bool {

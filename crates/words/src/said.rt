@@ -8,6 +8,9 @@ use saying::put;
 use saying::say;
 use saying::say_number;
 
+// A store's octets before a slot had a previous stamp.
+const OLDER_STORE: usize = 8379;
+
 pub fn say_reason(line: Line, reason: u8) -> Line {
     match reason {
         0 => say(line, b"0 live ok"),
@@ -169,6 +172,22 @@ pub fn say_refused(f: Refusal, of: &[u8]) -> Line {
     let l = say_number(say(empty(), b"refused "), number as u64);
     let l = say(say_carried(l, number, gateway::carried(f)), of);
     say_refusal(say(l, b": "), number)
+}
+
+// The same of a call that is given a store of so many octets, with what can be said of one of the older layout.
+pub fn say_refused_store(f: Refusal, octets: usize) -> Line {
+    let l = say_refused(f, b"");
+    if (gateway::number(f) == 5) & (octets == OLDER_STORE) {
+        return say(
+            l,
+            b": it has the 8,379 of the older layout; `take new` makes a new one",
+        );
+    }
+    l
+}
+
+pub fn print_refused_store(f: Refusal, octets: usize) {
+    print(say_refused_store(f, octets));
 }
 
 pub fn print_refused_of(f: Refusal, of: &[u8]) {

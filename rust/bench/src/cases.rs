@@ -270,6 +270,20 @@ fn take(name: &str, telegram: Vec<u8>) -> Case {
     )
 }
 
+/// Of a vehicle that was heard twice.
+fn gap() -> Case {
+    let mut store = lists::store(&lists::telegram());
+    let again = reference::take(&mut store, 32, NOW, &lists::telegram());
+    again.expect("the telegram of the bench is taken again");
+    let store = leak(store);
+    said(
+        "gap",
+        vec![],
+        move |_| proved::gap(black_box(store), black_box(32)),
+        move |_| rust::gap(black_box(store), black_box(32)),
+    )
+}
+
 /// What a sweep marks stays marked: all heard again, for the next.
 #[inline(always)]
 fn hear(store: &mut [u8]) {
@@ -432,6 +446,7 @@ fn refused_alike_in(form: Form, list: Vec<u8>) {
             proved::to_form_1(short, &mut []).said(),
             reference::to_form_1(short, &mut [])
         );
+        assert_eq!(proved::gap(short, 1).said(), reference::gap(short, 1));
         assert_eq!(proved::e_read(short).said(), reference::e_read(short));
         assert_eq!(
             proved::resolve(short, 66).said(),
@@ -462,6 +477,7 @@ pub fn all() -> Vec<Case> {
         ),
         take("take R1", telegram),
         take("take R3", r3),
+        gap(),
         extends,
     ]);
     cases.extend(sweeps());

@@ -59,6 +59,12 @@ pub struct Resolved {
 }
 
 #[repr(C)]
+pub struct Gap {
+    refusal: u32,
+    gap: u32,
+}
+
+#[repr(C)]
 pub struct Placed {
     refusal: u32,
     place: u64,
@@ -135,6 +141,7 @@ extern "C" {
         telegram: *const u8,
         telegram_len: usize,
     ) -> Outcome;
+    fn df_gap(store: *const u8, store_len: usize, vehicle: u64) -> Gap;
     fn df_sweep(store: *mut u8, store_len: usize, clock: u32) -> Outcome;
     fn df_check_place(bit: u64) -> Placed;
     fn df_resolve(marks: *const u8, marks_len: usize, address: u64) -> Resolved;
@@ -245,6 +252,11 @@ pub fn compose(
 pub fn take(store: &mut [u8], vehicle: u64, now: u32, telegram: &[u8]) -> Outcome {
     let (slots, octets) = (store.as_mut_ptr(), telegram.as_ptr());
     unsafe { df_take(slots, store.len(), vehicle, now, octets, telegram.len()) }
+}
+
+#[inline(always)]
+pub fn gap(store: &[u8], vehicle: u64) -> Gap {
+    unsafe { df_gap(store.as_ptr(), store.len(), vehicle) }
 }
 
 #[inline(always)]
@@ -362,6 +374,13 @@ impl Said for Resolved {
                 size: self.size,
             },
         )
+    }
+}
+
+impl Said for Gap {
+    type As = Result<u32, Refusal>;
+    fn said(self) -> Self::As {
+        unless_refused(self.refusal, 0, self.gap)
     }
 }
 

@@ -68,6 +68,11 @@ pub fn take(store: &mut [u8], vehicle: u64, now: u32, telegram: &[u8]) -> Result
 }
 
 #[inline(never)]
+pub fn gap(store: &[u8], vehicle: u64) -> Result<u32, Refusal> {
+    reference::gap(store, vehicle)
+}
+
+#[inline(never)]
 pub fn sweep(store: &mut [u8], now: u32) -> Result<(), Refusal> {
     reference::sweep(store, now)
 }

@@ -15,6 +15,7 @@ pub enum Call {
     ToForm1,
     CheckPlace,
     Take,
+    Gap,
     Sweep,
     Read,
     Marshal,
@@ -48,7 +49,7 @@ const fn takes(
 }
 
 impl Call {
-    pub const ALL: [Call; 17] = [
+    pub const ALL: [Call; 18] = [
         Call::Judge,
         Call::Extends,
         Call::SignalEntry,
@@ -58,6 +59,7 @@ impl Call {
         Call::ToForm1,
         Call::CheckPlace,
         Call::Take,
+        Call::Gap,
         Call::Sweep,
         Call::Read,
         Call::Marshal,
@@ -80,6 +82,7 @@ impl Call {
             Call::ToForm1 => takes("to_form_1", &["list", "out"], Some(1), &[]),
             Call::CheckPlace => takes("check_place", &[], None, &["bit"]),
             Call::Take => takes("take", &["store", "telegram"], Some(0), &["vehicle", "clock"]),
+            Call::Gap => takes("gap", &["store"], None, &["vehicle"]),
             Call::Sweep => takes("sweep", &["store"], Some(0), &["clock"]),
             Call::Read => takes("read", &["list", "store"], None, &["form", "clock", "vehicle", "signal"]),
             Call::Marshal => takes("marshal", &["list", "store", "data"], Some(2), &["form", "clock"]),

@@ -5,8 +5,8 @@ use std::ops::Range;
 use crate::case::{Call, Case};
 use crate::generate::REQUESTS;
 use crate::list::{List, Route, Signal};
-use crate::store::plant;
-use reference::{write_field, SLOT, STORE, TELEGRAM, VEHICLES};
+use crate::store::{plant, OLD_STORE};
+use reference::{write_field, PREVIOUS, SLOT, STORE, TELEGRAM, VEHICLES};
 
 /// The list L of the bench examples.
 const L: [u8; 44] = [
@@ -37,6 +37,7 @@ pub fn each(mut try_one: impl FnMut(Case)) {
     moves(&mut try_one);
     signals(&mut try_one);
     readings(&mut try_one);
+    arrivals(&mut try_one);
     sweeps(&mut try_one);
     widths(&mut try_one);
     ends(&mut try_one);
@@ -339,6 +340,45 @@ fn readings(try_one: &mut impl FnMut(Case)) {
     }
 }
 
+/// The lengths of no store, that of before C-16 among them.
+fn other_lengths() -> [usize; 8] {
+    let around = [STORE - SLOT, STORE - 1, STORE + 1, STORE + SLOT];
+    let [a, b, c, d] = around;
+    [0, 1, SLOT, OLD_STORE, a, b, c, d]
+}
+
+/// A telegram taken and the gap read, with every heard octet, under heads of either kind, with stamps at and around the ends of the counter.
+fn arrivals(try_one: &mut impl FnMut(Case)) {
+    let mut arrive = |vehicle: usize, heard: u8, head: u8, [stamp, previous]: [u32; 2]| {
+        let mut store = vec![0xA5; STORE];
+        let slot = plant(&mut store, vehicle, heard, stamp, &[head, 1]);
+        slot[PREVIOUS].copy_from_slice(&previous.to_be_bytes());
+        let vehicle = vehicle as u64;
+        try_one(Case::new(Call::Gap, vec![store.clone()], vec![vehicle]));
+        let mut telegram = vec![0xEE; TELEGRAM];
+        telegram[0] = 0x12;
+        let areas = vec![store, telegram];
+        try_one(Case::new(Call::Take, areas, vec![vehicle, 0x0102_0304]));
+    };
+    let ends = [0, 1, 5_000, 1 << 31, u32::MAX - 1, u32::MAX];
+    for heard in 0..=255 {
+        for head in [0x11, 0x14, 0x21] {
+            arrive(1, heard, head, [0x0506_0708, 0x0506_0000]);
+        }
+    }
+    for heard in [0, 1, 2, 3] {
+        for stamps in ends.iter().flat_map(|&a| ends.map(|b| [a, b])) {
+            arrive(2, heard, 0x11, stamps);
+        }
+        (1..=VEHICLES).for_each(|v| arrive(v, heard, 0x11, [1_000 * v as u32, v as u32]));
+    }
+    for vehicle in [0, 1, 63, 64].into_iter().chain(large()) {
+        for len in [STORE].into_iter().chain(other_lengths()) {
+            try_one(Case::new(Call::Gap, vec![vec![1; len]], vec![vehicle]));
+        }
+    }
+}
+
 /// Every heard octet in every slot, one slot at a time and then all, at the ages around 600,000 ms and at clocks on either side of 0.
 fn sweeps(try_one: &mut impl FnMut(Case)) {
     let ages = [0, 600_000, 600_001, 1 << 31, u32::MAX];
@@ -365,7 +405,7 @@ fn sweeps(try_one: &mut impl FnMut(Case)) {
         all.iter()
             .for_each(|&vehicle| sweep(&[vehicle], 1, age, now));
     }
-    for len in [0, 1, SLOT, STORE - SLOT, STORE - 1, STORE + 1, STORE + SLOT] {
+    for len in other_lengths() {
         try_one(Case::new(
             Call::Sweep,
             vec![vec![1; len]],

@@ -15,7 +15,7 @@ pub const REQUESTS: [u16; 25] = [
 ];
 
 pub fn case(r: &Random) -> Case {
-    match r.below(110) {
+    match r.below(114) {
         0..=13 => {
             let (list, form) = any_list(r);
             Case::new(Call::Judge, vec![list], vec![form])
@@ -38,7 +38,8 @@ pub fn case(r: &Random) -> Case {
         95..=99 => e_answer(r),
         100..=102 => serial(r),
         103..=105 => moved(r, Call::ToForm2, [1, 2]),
-        _ => moved(r, Call::ToForm1, [2, 1]),
+        106..=109 => moved(r, Call::ToForm1, [2, 1]),
+        _ => gap(r),
     }
 }
 
@@ -155,7 +156,15 @@ fn resized(r: &Random, mut octets: Vec<u8>, len: usize) -> Vec<u8> {
 fn any_store(r: &Random, store: Vec<u8>) -> Vec<u8> {
     match r.below(24) {
         0 => {
-            let len = r.of(&[STORE - 1, STORE + 1, STORE - SLOT, STORE + SLOT, 0]);
+            let len = r.of(&[
+                STORE - 1,
+                STORE + 1,
+                STORE - SLOT,
+                STORE + SLOT,
+                0,
+                store::OLD_STORE,
+                store::OLD_STORE,
+            ]);
             resized(r, store, len)
         }
         _ => store,
@@ -176,6 +185,12 @@ fn take(r: &Random) -> Case {
     let store = any_store(r, store);
     let numbers = vec![vehicle(r), store::clock(r).into()];
     Case::new(Call::Take, vec![store, telegram], numbers)
+}
+
+fn gap(r: &Random) -> Case {
+    let (list, now) = (make::list(r), store::clock(r));
+    let store = store::store(r, &list, now);
+    Case::new(Call::Gap, vec![any_store(r, store)], vec![vehicle(r)])
 }
 
 fn sweep(r: &Random) -> Case {

@@ -5,7 +5,8 @@ use std::fmt;
 
 use crate::case::{Answer, Call, Case};
 use crate::list::{longest, sizes, Route, Signal, MOST};
-use reference::{Form, HEARD, SIGNAL_SIZE, SLOT, STAMP, VEHICLES};
+use crate::store::{stamp_at, OLD_STORE};
+use reference::{Form, HEAD, HEARD, PREVIOUS, SIGNAL_SIZE, SLOT, STAMP, VEHICLES};
 
 /// What an answer shows, with a number where there are several.
 type Row = (&'static str, u64);
@@ -98,7 +99,16 @@ fn wanted(call: Call) -> Vec<Row> {
         Call::Take => [
             each("type", &[1, 2, 3]),
             refusals(&[5, 6, 7, 8, 9, 10]),
-            vec![],
+            [
+                each("into heard octet", &[1, 2]),
+                vec![("into any other", 0), ("over a head of no R-telegram", 0)],
+            ]
+            .concat(),
+        ],
+        Call::Gap => [
+            GAPS.map(|what| (what, 0)).to_vec(),
+            refusals(&[5, 6]),
+            vec![("5 before 6", 0)],
         ],
         Call::Sweep => [
             vec![("none", 0), ("one", 0), ("several", 0), ("all", 0)],
@@ -150,7 +160,11 @@ fn wanted(call: Call) -> Vec<Row> {
         ],
         Call::EAnswer => [vec![("ok", 0)], refusals(&[21, 22, 23, 24, 25]), vec![]],
     };
-    rows.concat()
+    let old = match call.parameters().areas.contains(&"store") {
+        true => each("store refused, octets", &[OLD_STORE as u64]),
+        false => vec![],
+    };
+    [rows.concat(), old].concat()
 }
 
 /// What one answer shows.
@@ -191,7 +205,8 @@ fn rows(case: &Case, answer: &Answer) -> Vec<Row> {
         Call::Serial => vec![("set", 0)],
         Call::ToForm2 | Call::ToForm1 => vec![("moved", 0)],
         Call::CheckPlace => vec![("place", first)],
-        Call::Take => vec![("type", (case.areas[1][0] & 15).into())],
+        Call::Take => take_rows(&case.areas, case.numbers[0]),
+        Call::Gap => gap_rows(slot_of(&case.areas[0], case.numbers[0]), first),
         Call::Sweep => sweep_rows(&case.areas[0], case.numbers[0] as u32),
         Call::Read => read_rows(case, second),
         Call::Marshal => vec![(lives(case, first), 0)],
@@ -201,6 +216,77 @@ fn rows(case: &Case, answer: &Answer) -> Vec<Row> {
         Call::ERead => vec![(["request", "report"][second as usize], 0)],
         Call::EAnswer => vec![("ok", 0)],
     }
+}
+
+/// A vehicle's slot, and what is behind it.
+fn slot_of(store: &[u8], vehicle: u64) -> &[u8] {
+    &store[SLOT * (vehicle as usize - 1)..]
+}
+
+fn is_r_head(head: u8) -> bool {
+    matches!(head, 0x11..=0x13)
+}
+
+/// The type that is taken, and what it is taken into.
+fn take_rows(areas: &[Vec<u8>], vehicle: u64) -> Vec<Row> {
+    let slot = slot_of(&areas[0], vehicle);
+    let into = match slot[HEARD] {
+        heard @ (1 | 2) => ("into heard octet", heard.into()),
+        _ => ("into any other", 0),
+    };
+    let over = into.1 != 0 && !is_r_head(slot[HEAD]);
+    [("type", (areas[1][0] & 15).into()), into]
+        .into_iter()
+        .chain(over.then_some(("over a head of no R-telegram", 0)))
+        .collect()
+}
+
+/// What a gap can be of.
+const GAPS: [&str; 8] = [
+    "heard",
+    "expired",
+    "any other octet, stamps apart",
+    "none",
+    "the stamp",
+    "round the counter",
+    "over 2^31",
+    "with a head of no R-telegram",
+];
+
+fn gap_rows(slot: &[u8], gap: u64) -> Vec<Row> {
+    let (stamp, previous) = (stamp_at(slot, STAMP), stamp_at(slot, PREVIOUS));
+    let heard = matches!(slot[HEARD], 1 | 2);
+    let met = [
+        slot[HEARD] == 1,
+        slot[HEARD] == 2,
+        !heard && stamp != previous,
+        heard && gap == 0,
+        heard && previous == 0 && stamp != 0,
+        gap != 0 && stamp < previous,
+        gap > 1 << 31,
+        gap != 0 && !is_r_head(slot[HEAD]),
+    ];
+    let met = GAPS.into_iter().zip(met).filter(|&(_, met)| met);
+    met.map(|(what, _)| (what, 0)).collect()
+}
+
+/// What it shows of stores of another length.
+fn length_rows(case: &Case, answer: &Answer) -> Vec<Row> {
+    let areas = case.call.parameters().areas.iter().zip(&case.areas);
+    let store = areas
+        .filter(|(&name, _)| name == "store")
+        .map(|(_, area)| area.len());
+    let old = answer.refusal == 5 && store.into_iter().any(|len| len == OLD_STORE);
+    let early = answer.refusal == 5
+        && case.call == Call::Gap
+        && !(1..=VEHICLES as u64).contains(&case.numbers[0]);
+    [
+        old.then_some(("store refused, octets", OLD_STORE as u64)),
+        early.then_some(("5 before 6", 0)),
+    ]
+    .into_iter()
+    .flatten()
+    .collect()
 }
 
 /// How many slots a sweep expires, and what is said of those at its edge: the areas of a case are those before the call.
@@ -222,13 +308,12 @@ fn sweep_rows(store: &[u8], now: u32) -> Vec<Row> {
 }
 
 fn age(slot: &[u8], now: u32) -> u32 {
-    let stamp = slot[STAMP].try_into().map_or(0, u32::from_be_bytes);
-    now.wrapping_sub(stamp)
+    now.wrapping_sub(stamp_at(slot, STAMP))
 }
 
 fn read_rows(case: &Case, reason: u64) -> Vec<Row> {
     let (now, vehicle, signal) = (case.numbers[1], case.numbers[2], case.numbers[3]);
-    let slot = &case.areas[1][SLOT * (vehicle as usize - 1)..];
+    let slot = slot_of(&case.areas[1], vehicle);
     let mut rows = vec![("reason", reason)];
     if slot[HEARD] == 2 {
         rows.push(("expired, reason", reason));
@@ -403,7 +488,7 @@ impl Reached {
     }
 
     pub fn count(&mut self, case: &Case, answer: &Answer) {
-        let all = [rows, wide_rows, form_rows].map(|rows| rows(case, answer));
+        let all = [rows, wide_rows, form_rows, length_rows].map(|rows| rows(case, answer));
         for row in all.concat() {
             let row = (case.call, row);
             match self.wanted.get_mut(&row) {

@@ -83,6 +83,9 @@ macro_rules! side {
                 (Call::Take, [store, telegram], &[vehicle, clock]) => {
                     $library::take(store, vehicle, clock as u32, telegram).map(done)
                 }
+                (Call::Gap, [store], &[vehicle]) => {
+                    $library::gap(store, vehicle).map(|gap| Answer::gives([gap.into()]))
+                }
                 (Call::Sweep, [store], &[clock]) => $library::sweep(store, clock as u32).map(done),
                 (Call::Read, [list, store], &[said, clock, vehicle, signal]) => {
                     $library::read(list, form(said), store, clock as u32, vehicle, signal)
@@ -186,6 +189,10 @@ pub fn by_header(call: Call, mut lent: Lent) -> Answer {
             outcome(unsafe {
                 raw::df_take(to, store.len(), vehicle, clock as u32, from, telegram.len())
             })
+        }
+        (Call::Gap, [store], &[vehicle]) => {
+            let r = unsafe { raw::df_gap(store.as_ptr(), store.len(), vehicle) };
+            Answer::with(r.refusal, 0, [r.gap.into()])
         }
         (Call::Sweep, [store], &[clock]) => {
             outcome(unsafe { raw::df_sweep(store.as_mut_ptr(), store.len(), clock as u32) })

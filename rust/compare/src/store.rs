@@ -1,8 +1,14 @@
 //! Clocks, telegrams and stores: stores that takes left, and stores that no taking could leave.
 
+use std::ops::Range;
+
 use crate::list::{List, Signal};
 use crate::random::Random;
-use reference::{write_field, HEAD, HEARD, SLOT, STAMP, STORE, VEHICLES};
+use reference::{write_field, HEAD, HEARD, PREVIOUS, SLOT, STAMP, STORE, VEHICLES};
+
+/// The length of a store before C-16, without the previous stamps.
+pub const OLD_STORE: usize = STORE - VEHICLES * 4;
+const _: () = assert!(OLD_STORE == 8_379);
 
 // The wrappers spell the store's length themselves, since they depend on nothing: they must not differ.
 const _: () = assert!(dustferrule::STORE_OCTETS == STORE);
@@ -80,7 +86,7 @@ fn kind(r: &Random, list: &List) -> u64 {
     }
 }
 
-/// Fills a vehicle's slot: the heard octet, the stamp, the telegram and zeros behind it. Gives the slot.
+/// Fills a vehicle's slot: the heard octet, the stamp, the previous stamp 0, the telegram and zeros behind it. Gives the slot.
 pub fn plant<'a>(
     store: &'a mut [u8],
     vehicle: usize,
@@ -94,6 +100,24 @@ pub fn plant<'a>(
     slot[STAMP].copy_from_slice(&stamp.to_be_bytes());
     slot[HEAD..HEAD + telegram.len()].copy_from_slice(telegram);
     slot
+}
+
+/// A stamp of a slot: where it stands, or the previous one.
+pub fn stamp_at(slot: &[u8], place: Range<usize>) -> u32 {
+    slot[place].try_into().map_or(0, u32::from_be_bytes)
+}
+
+/// Gives a slot a previous stamp: none, the stamp itself, one shortly before or behind it, or any.
+fn precede(r: &Random, slot: &mut [u8]) {
+    let stamp = stamp_at(slot, STAMP);
+    let previous = match r.below(6) {
+        0 => 0,
+        1 => stamp,
+        2 => stamp.wrapping_add(1 + r.below(1_000) as u32),
+        3 => r.word() as u32,
+        _ => stamp.wrapping_sub(1 + r.below(10_000) as u32),
+    };
+    slot[PREVIOUS].copy_from_slice(&previous.to_be_bytes());
 }
 
 /// A store as read at a clock value: vehicles 1 to 3 were heard most of the time.
@@ -111,6 +135,7 @@ pub fn store(r: &Random, list: &List, now: u32) -> Vec<u8> {
         let stamp = now.wrapping_sub(age(r, list));
         let heard = if r.one_in(5) { 2 } else { 1 };
         let slot = plant(&mut store, vehicle, heard, stamp, &telegram);
+        precede(r, slot);
         if r.one_in(8) {
             unsettle(r, slot);
         }

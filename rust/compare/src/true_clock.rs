@@ -1,5 +1,6 @@
 //! Takes, sweeps and reads in sequences, against a model that goes by the true clock and knows neither stamps nor heard octets. C-12: "A read
 //! given the true clock .. of a vehicle taken from and a signal with a limit, gives reason 3 exactly when the true age is above the limit."
+//! And C-16: the gap is that between the last two telegrams taken from a vehicle, whatever happened between them.
 
 use std::fmt;
 
@@ -16,6 +17,7 @@ const HALF: u64 = 1 << 31;
 #[derive(Default)]
 pub struct Met {
     counts: [u64; 8],
+    gaps: [u64; 4],
 }
 
 const NAMES: [&str; 8] = [
@@ -29,6 +31,13 @@ const NAMES: [&str; 8] = [
     "never taken from",
 ];
 
+const GAPS: [&str; 4] = [
+    "gap after none",
+    "gap after one",
+    "gap of two",
+    "of two a turn apart",
+];
+
 /// One sequence: both libraries' stores, and what the model knows.
 struct Sequence<'a> {
     r: &'a Random,
@@ -38,6 +47,8 @@ struct Sequence<'a> {
     other: Vec<u8>,
     /// The true time of the last telegram that was taken from each vehicle.
     taken: [Option<u64>; VEHICLES + 1],
+    /// And of the one before it.
+    earlier: [Option<u64>; VEHICLES + 1],
     /// The true times of the step before and of the sweep before; of the start, where there is none.
     last: u64,
     swept: u64,
@@ -76,6 +87,7 @@ impl<'a> Sequence<'a> {
             proved: store.clone(),
             other: store,
             taken: [None; VEHICLES + 1],
+            earlier: [None; VEHICLES + 1],
             last: begun,
             swept: begun,
         }
@@ -126,7 +138,8 @@ impl<'a> Sequence<'a> {
         let other = reference::take(&mut self.other, vehicle, t as u32, &telegram).is_ok();
         self.last = t;
         if took {
-            self.taken[vehicle as usize] = Some(t);
+            let v = vehicle as usize;
+            self.earlier[v] = self.taken[v].replace(t);
         }
         match took == other {
             true => self.same("a telegram"),
@@ -144,9 +157,27 @@ impl<'a> Sequence<'a> {
         }
     }
 
+    /// The gap of some vehicles: from the telegram before the last, or from 0 where there is none.
+    fn gaps(&self, met: &mut Met) -> Result<(), String> {
+        for v in [1, 2, 3, 63] {
+            let (taken, earlier) = (self.taken[v].unwrap_or(0), self.earlier[v].unwrap_or(0));
+            let wanted = (taken - earlier) as u32;
+            let gap = dustferrule::gap(&self.proved, v as u64).ok();
+            if gap != Some(wanted) || reference::gap(&self.other, v as u64).ok() != gap {
+                return Err(format!("vehicle {v}: gap {gap:?}, by the clock {wanted}"));
+            }
+            let arrivals =
+                usize::from(self.taken[v].is_some()) + usize::from(self.earlier[v].is_some());
+            met.gaps[arrivals] += 1;
+            met.gaps[3] += u64::from(arrivals == 2 && taken - earlier >= TURN);
+        }
+        Ok(())
+    }
+
     /// Every signal of some vehicles, at a true time.
     fn read(&mut self, t: u64, met: &mut Met) -> Result<(), String> {
         self.last = t;
+        self.gaps(met)?;
         let (ours, theirs) = forms(self.list.form);
         for vehicle in [1, 2, 3, 63] {
             for (signal, limit) in self.list.signals.iter().map(|s| s.limit).enumerate() {
@@ -247,8 +278,13 @@ impl Met {
         self.counts[0] + self.counts[1]
     }
 
+    fn named(&self) -> impl Iterator<Item = (&'static str, u64)> + '_ {
+        let names = NAMES.into_iter().chain(GAPS);
+        names.zip(self.counts.into_iter().chain(self.gaps))
+    }
+
     pub fn faults(&self) -> Vec<String> {
-        let met = NAMES.iter().zip(self.counts);
+        let met = self.named();
         met.filter(|&(_, count)| count == 0)
             .map(|(name, _)| format!("UNREACHED: by the true clock, {name}"))
             .collect()
@@ -257,8 +293,8 @@ impl Met {
 
 impl fmt::Display for Met {
     fn fmt(&self, f: &mut fmt::Formatter) -> fmt::Result {
-        let counts = NAMES.iter().zip(self.counts);
-        let said: Vec<String> = counts
+        let said: Vec<String> = self
+            .named()
             .map(|(name, count)| format!("{name}: {count}"))
             .collect();
         writeln!(f, "{:12}{}", "true clock", said.join(", "))

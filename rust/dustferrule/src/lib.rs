@@ -16,7 +16,7 @@ pub use numbers::{Error, Reason, Refusal};
 
 /// The length of a store: a slot for each of 63 vehicles, vehicle 1 first. A store of zeros has heard nobody.
 // Spelled here too, since a program that links the library needs no other crate; `compare` does not build where `reference` has another.
-pub const STORE_OCTETS: usize = 8379;
+pub const STORE_OCTETS: usize = 8631;
 
 /// The answer, or the refusal where its number is not 0.
 fn unless_refused<T>(number: u32, carried: u64, answer: T) -> Result<T, Error> {
@@ -132,6 +132,13 @@ pub fn take(store: &mut [u8], vehicle: u64, now: u32, telegram: &[u8]) -> Result
         )
     };
     unless_refused(r.refusal, r.carried, ())
+}
+
+/// The gap between the last two telegrams taken from a vehicle (1-63), in ms modulo 2^32, whatever was swept between; after its first telegram
+/// the clock value that it was taken at, and 0 if none was. Refusals 5, 6.
+pub fn gap(store: &[u8], vehicle: u64) -> Result<u32, Error> {
+    let r = unsafe { raw::df_gap(store.as_ptr(), store.len(), vehicle) };
+    unless_refused(r.refusal, 0, r.gap)
 }
 
 /// Marks every slot as expired that was heard and is more than 600,000 ms old, the longest time limit of a list. From then on, until a new

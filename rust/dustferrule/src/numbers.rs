@@ -54,7 +54,7 @@ numbered! {
         CountAbove = 2, "count above its limit";
         EntryBroken = 3, "entry breaks its rule";
         OctetsAfter = 4, "octets after the routes";
-        StoreLength = 5, "store not 8,379 octets";
+        StoreLength = 5, "store not 8,631 octets";
         Vehicle = 6, "vehicle not 1-63";
         TelegramShort = 7, "R-telegram under 2 octets";
         ApplicationType = 8, "application type not 1";

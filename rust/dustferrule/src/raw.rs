@@ -77,6 +77,13 @@ pub struct df_place {
 
 #[repr(C)]
 #[derive(Debug, Clone, Copy)]
+pub struct df_gap_ms {
+    pub refusal: u32,
+    pub gap: u32,
+}
+
+#[repr(C)]
+#[derive(Debug, Clone, Copy)]
 pub struct df_reading {
     pub refusal: u32,
     pub reason: u32,
@@ -165,6 +172,8 @@ extern "C" {
         telegram: *const u8,
         telegram_len: usize,
     ) -> df_outcome;
+
+    pub fn df_gap(store: *const u8, store_len: usize, vehicle: u64) -> df_gap_ms;
 
     pub fn df_sweep(store: *mut u8, store_len: usize, clock: u32) -> df_outcome;
 

@@ -54,6 +54,7 @@ calls! {
     to_form_1(list: &[u8], out: &mut [u8]) -> ();
     check_place(bit: u64) -> u64;
     take(store: &mut [u8], vehicle: u64, now: u32, telegram: &[u8]) -> ();
+    gap(store: &[u8], vehicle: u64) -> u32;
     sweep(store: &mut [u8], now: u32) -> ();
     marshal(list: &[u8], form: Form, store: &[u8], now: u32, bus: &mut [u8]) -> u64;
     compose(list: &[u8], form: Form, kind: u64, values: &[u64], marks: &[u8], out: &mut [u8]) -> ();

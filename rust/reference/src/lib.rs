@@ -1,5 +1,5 @@
 //! The gateway library of document 01, written a second time and independently: taking R-telegrams into
-//! a store, sweeping it, reading and marshalling signals, composing R-telegrams, judging signal lists and moving
+//! a store, the gap between two of them, sweeping it, reading and marshalling signals, composing R-telegrams, judging signal lists and moving
 //! them from one form to the other, resolving addresses, and reading and answering E-telegrams.
 //!
 //! Every function is total: it answers or refuses for every input and never panics. Every public call
@@ -36,6 +36,8 @@ pub use octets::{read_field, write_field};
 pub use reading::{read, Reading};
 pub use refusal::Refusal;
 pub use shown::{show, Kind, Shown};
-pub use sizes::{HEAD, HEARD, SERIAL_SIZE, SIGNAL_SIZE, SLOT, STAMP, STORE, TELEGRAM, VEHICLES};
-pub use store::{sweep, take};
+pub use sizes::{
+    HEAD, HEARD, PREVIOUS, SERIAL_SIZE, SIGNAL_SIZE, SLOT, STAMP, STORE, TELEGRAM, VEHICLES,
+};
+pub use store::{gap, sweep, take};
 pub use train::{resolve, Members};

@@ -10,8 +10,10 @@ pub const VEHICLES: usize = 63;
 pub const HEARD: usize = 0;
 /// Where the "4-octet stamp" of a slot stands.
 pub const STAMP: Range<usize> = 1..5;
+/// Where "a 4-octet previous stamp after the stamp" stands.
+pub const PREVIOUS: Range<usize> = STAMP.end..STAMP.end + 4;
 /// The octets of a slot before its telegram.
-pub const HEAD: usize = STAMP.end;
+pub const HEAD: usize = PREVIOUS.end;
 /// "128 telegram octets".
 pub const TELEGRAM: usize = 128;
 /// The octets of a slot.

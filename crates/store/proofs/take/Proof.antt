@@ -21,8 +21,8 @@ passed : (c : tie.After-enum-told) →
     gives tt ≡ takingTests (length (now (a .store))) (a .vehicle) (now (a .telegram))
 passed c = sym (ap outcomeOf (c .enum-told .given .1)) ∙ c .before .before .taking-tests .ensures
 
-write-slot-requires : tie.Need-write-slot-requires
-write-slot-requires c κs =
+renew-slot-requires : tie.Need-renew-slot-requires
+renew-slot-requires c κs =
     let a = start (c .before) .args in
     let t = tested-takes (now (a .store)) (a .vehicle) (a .clock) (now (a .telegram)) (passed (c .before)) in
     (t .whole, t .first, t .last, omega (arith, t .long, type-short (telegramType (now (a .telegram)))))
@@ -35,7 +35,7 @@ returns c =
 returns-2 : tie.Need-returns-2
 returns-2 c =
     let w = c .before .before in
-    rw (w .write-slot .ensures) (took-done _ _ _ _ (passed (w .before .before)))
+    rw (w .renew-slot .ensures) (took-done _ _ _ _ (passed (w .before .before)))
 
 pub take-spec : {M : Type 1} → statement M
 take-spec =
@@ -44,7 +44,7 @@ take-spec =
     (λ c κs. search needs)
     (λ c. search needs)
     (λ c. search needs)
-    write-slot-requires
+    renew-slot-requires
     returns
     (λ c. search needs)
     returns-2)
