@@ -1,4 +1,4 @@
-# C: every call of the header, once, against the proved library; and the example, built by what pkg-config says of an installed library.
+# C: every call of the header, once, against the proved library; telegrams in either order; and the example, built by what pkg-config says of an installed library.
 . .ci/native.sh
 need pkg-config pkgconf
 library >/dev/null 2>&1 || { echo "no library"; exit 1; }
@@ -8,6 +8,9 @@ strict=(-std=c99 -pedantic -Wall -Wextra -Werror -O2)
 # shellcheck disable=SC2086 # STATIC and RUN are words, or nothing
 $CC "${strict[@]}" $STATIC -Iinclude examples/c/every.c -Ltarget/staticlib -ldustferrule -o target/examples/every &&
     $RUN target/examples/every || exit 1
+# shellcheck disable=SC2086
+$CC "${strict[@]}" $STATIC -Iinclude examples/c/order.c -Ltarget/staticlib -ldustferrule -o target/examples/order &&
+    $RUN target/examples/order || exit 1
 
 # Installed, then moved: the pkg-config file finds the rest from where it stands.
 there=$(mktemp -d) || exit 1

@@ -2,3 +2,4 @@ pub mod ReadBack
 pub mod ReadLive
 pub mod TrueClock
 pub mod TwoArrivals
+pub mod Orders

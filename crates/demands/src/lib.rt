@@ -1,5 +1,8 @@
-// Demands 2 and 3 as a function: what is composed under one list, taken from a vehicle, swept, and read under another.
+// Demands 2 and 3 as a function: what is composed under one list, taken from a vehicle, swept, and read under another. And C-22's two: telegrams taken
+// one after the other, and a marshalling made twice.
+ghost use Rattle.demands.specs.Orders.{TakenBoth, MarshalledTwice};
 ghost use Rattle.demands.specs.Told.{Told};
+use marshalling::Marshalled;
 use reading::ReadOutcome;
 use refusals::Outcome;
 
@@ -40,4 +43,40 @@ pub fn told(
         swept,
         read,
     }
+}
+
+// What two takings answer, in the order in which they are made.
+pub struct Both {
+    pub one: Outcome,
+    pub two: Outcome,
+}
+
+pub fn take_both(
+    store: &mut [u8],
+    vehicle: usize,
+    clock: u32,
+    telegram: &[u8],
+    other: usize,
+    later: u32,
+    next: &[u8],
+) -> Both
+    ensures { λ r. ⌜ TakenBoth (now (store .entry)) vehicle clock (now (telegram .entry)) other later (now (next .entry)) (now (store .exit)) r ⌝ }
+{
+    let one = store::take(store, vehicle, clock, telegram);
+    let two = store::take(store, other, later, next);
+    Both { one, two }
+}
+
+// What two marshallings answer that are asked the same.
+pub struct Twice {
+    pub once: Marshalled,
+    pub again: Marshalled,
+}
+
+pub fn marshal_twice(list: &[u8], form: u8, store: &[u8], clock: u32, bus: &mut [u8]) -> Twice
+    ensures { λ r. ⌜ MarshalledTwice form (now (list .entry)) (now (store .entry)) clock (now (bus .entry)) (now (bus .exit)) r ⌝ }
+{
+    let once = marshalling::marshal(list, form, store, clock, bus);
+    let again = marshalling::marshal(list, form, store, clock, bus);
+    Twice { once, again }
 }

@@ -76,7 +76,7 @@ ever-aged s now = by (stale s now) refl
     by true e = let was : eqb (s .heard) 1 ≡ true = both _ _ e .0 in rw was refl
     by false e = refl
 
-moved-aged : (s : Slot) (now : ℕ) → moved (aged s now) ≡ moved s
+pub moved-aged : (s : Slot) (now : ℕ) → moved (aged s now) ≡ moved s
 moved-aged s now = ap (λ (b : Bool). cond b (s .stamp) 0) (ever-aged s now)
 
 gap-aged : (s : Slot) (now : ℕ) → gap (aged s now) ≡ gap s

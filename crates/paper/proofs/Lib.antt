@@ -13,6 +13,8 @@ pub mod StoreLaws
 pub mod GapLaws
 pub mod ReadingLaws
 pub mod MarshallingLaws
+pub mod OrderLaws
+pub mod TwiceLaws
 pub mod ComposingLaws
 pub mod ExtendsLaws
 pub mod FormLaws

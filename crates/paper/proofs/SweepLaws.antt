@@ -71,7 +71,7 @@ module _ (store : List ℕ) (v x : ℕ) (first : 1 ≤ v) where
       ∙ ap slotFrom (take-set-lt slotOctets (drop (slotStart v) store) 0 x (omega arith))
       ∙ first-set (take slotOctets (drop (slotStart v) store)) x (simp (length-take, length-drop) (omega arith))
 
-  set-other : (w : ℕ) → 1 ≤ w → (v ≡ w → ⊥) → slotOf (set store (slotStart v) x) w ≡ slotOf store w
+  pub set-other : (w : ℕ) → 1 ≤ w → (v ≡ w → ⊥) → slotOf (set store (slotStart v) x) w ≡ slotOf store w
   unfolding slotOf
   set-other w h ne = ap slotFrom (side (decLt w v))
     where
@@ -93,7 +93,7 @@ module _ (store : List ℕ) (now v : ℕ) (first : 1 ≤ v) where
       by true = length-set store (slotStart v) 2
       by false = refl
 
-  slot-one : slotStart v < length store → slotOf (sweptOne store now v) v ≡ aged (slotOf store v) now
+  pub slot-one : slotStart v < length store → slotOf (sweptOne store now v) v ≡ aged (slotOf store v) now
   unfolding sweptOne
   slot-one h = by (stale (slotOf store v) now)
     where

@@ -19,6 +19,7 @@ pub mod Shown
 pub mod Train
 pub mod ETelegrams
 pub mod Demands
+pub mod Order
 pub mod Bench
 pub mod Marked
 pub mod Parked

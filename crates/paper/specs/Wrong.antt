@@ -1,7 +1,7 @@
 -- Wrong gateways: those that document 01 names, the slips that have been shipped, and for each call the mistakes nearest at hand. Each is
 -- shown at a question where it answers otherwise than the contract fixes: one table, one computed test. A contract is an equation, so no
 -- code that answers so can meet it.
-use Prim.Native.Nat.{ℕ, _+_, _-_}
+use Prim.Native.Nat.{ℕ, _+_, _-_, _*_}
 use Prim.Native.String.{String}
 use mathlib.Core.Path.{_≡_, refl}
 use mathlib.Core.Bool.{Bool, true, false, _&&_}
@@ -349,6 +349,11 @@ table =
     ∷ saying "written-though-refused"
     (takes silent 1 0 (0x14 ∷ replicate 127 0) (0 ∷ slotHead ∷ [])) (refuses 9 0 ++ (0 ∷ 0 ∷ []))
     (refuses 9 0 ++ (1 ∷ 0x14 ∷ []))
+    -- C-22: vehicle 2 is heard behind vehicle 1. A count of arrivals in the last octet of its slot, and a stamp that never goes behind another's,
+    -- would be others were it heard first
+    ∷ saying "arrivals-counted" (takes (heardAt 0x10 0x40 0) 2 0 (0x13 ∷ replicate 39 7) ((2 * slotOctets - 1) ∷ [])) (gave (0 ∷ [])) (gave (2 ∷ []))
+    ∷ saying "stamp-of-the-latest"
+    (takes (heardAt 0x10 0x40 0x01020304) 2 5 (telegram 0 0) ((slotOctets + 1) ∷ (slotOctets + 4) ∷ [])) (gave (0 ∷ 5 ∷ [])) (gave (1 ∷ 4 ∷ []))
     ∷ saying "length-before-type" (takes silent 1 0 (0x14 ∷ 0 ∷ []) []) (refuses 9 0) (refuses 10 0)
     ∷ saying "new-telegram-left-expired" (takes (mark 2) 1 5 (telegram 0 0) (0 ∷ [])) (gave (1 ∷ [])) (gave (2 ∷ []))
     -- C-16, taking: what becomes of the stamp that was there
@@ -432,6 +437,9 @@ table =
     ∷ saying "leaves-the-data" (marshal listL) (filled 1 0x4B) (filled 1 0xAB)
     ∷ asked-as "first-route-only" (marshal two-routes) (filled 1 0x40) (marshal listL) (filled 1 0x4B)
     ∷ asked-as "first-vehicle-served" (marshal (set listL 40 2)) (filled 0 0x0B) (marshal listL) (filled 1 0x4B)
+    -- C-22: into data that have been marshalled already
+    ∷ saying "adds-to-the-field" (marshals listL (heardAt 0x10 0x40 0) 0 (0x4B ∷ [])) (filled 1 0x4B) (filled 1 0x8B)
+    ∷ saying "counts-what-it-changed" (marshals listL (heardAt 0x10 0x40 0) 0 (0x4B ∷ [])) (filled 1 0x4B) (filled 0 0x4B)
     ∷ saying "made-up-count" (marshal (set listL 40 2)) (filled 0 0x0B) (filled 1 0x0B)
     ∷ saying "forced-not-counted" (marshals listL (heardAt 0x20 0x40 0) 0 (0xAB ∷ [])) (filled 1 0x4B) (filled 0 0x4B)
     ∷ saying "four-bits-write-eight" (marshal listL) (filled 1 0x4B) (filled 1 0x04)
