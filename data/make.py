@@ -2,10 +2,11 @@
 """Writes the signal lists of this folder from signals.csv. data/README.md says what is the sources' and what is a choice.
 
     data/make.py            writes coach.list, coach-2.list, coach-next.list, coach-wrong.list, counters.list and L.list
-    data/make.py --check    only says whether they are as they would be written
+    data/make.py --check    only says whether they are as they would be written, and whether the programs' table of kinds is the column `kind`
 """
 import csv
 import os
+import re
 import sys
 
 from files import HERE, settle
@@ -15,6 +16,8 @@ TYPES = {"R3": 0, "R1": 1, "R2": 2}
 # every check place printed in Appendix B: octets 3-8, and octets 41-46
 CHECKS = list(range(16, 64, 2)) + list(range(320, 368, 2))
 LIMIT = 5000
+# a function for each telegram, in it a row for each start, with its serial number
+KINDS = os.path.join(HERE, "..", "crates", "words", "src", "kinds.rt")
 
 # routes of the coach: signal (telegram, start), vehicle, destination start
 ROUTES = [
@@ -81,6 +84,32 @@ COUNTERS = bytes.fromhex(
     "0000 0003 0000 01 00 0000 0000 02 00 0040 0002 01 00 0084")
 
 
+def kinds_of_code():
+    """Telegram, start, kind and serial number of each row of the programs' table."""
+    with open(KINDS) as f:
+        tables = re.findall(r"^fn kind_in_(r\d)\(.*?\{\n(.*?)^\}", f.read(), re.M | re.S)
+    for telegram, body in tables:
+        for row in re.findall(r"^ *(\S.* => .*)$", body, re.M):
+            if row != "_ => Kind::Code,":
+                start, kind, serial = re.fullmatch(r"(\d+) => Kind::(\w+), // (\S+)", row).groups()
+                yield telegram.upper(), int(start), " ".join(re.findall("[A-Z][a-z]+", kind)).lower(), serial
+
+
+def kinds_of_signals():
+    with open(os.path.join(HERE, "signals.csv"), newline="") as f:
+        rows = [r for r in csv.DictReader(f) if r["kind"]]
+    assert all(r["width"] == "16" for r in rows)
+    return [(r["telegram"], int(r["start"]), r["kind"], r["serial_of_A"]) for r in rows]
+
+
+def check_kinds():
+    code, signals = sorted(kinds_of_code()), sorted(kinds_of_signals())
+    if code == signals:
+        return 0
+    print(f"only crates/words/src/kinds.rt has {[row for row in code if row not in signals]}, only signals.csv {[row for row in signals if row not in code]}")
+    return 1
+
+
 def main():
     files = {
         "L.list": L,
@@ -90,7 +119,7 @@ def main():
         "coach-next.list": pack(successor(list(read_signals()), 3), ROUTES),
         "coach-wrong.list": pack(successor(list(read_signals()), 2), ROUTES),
     }
-    return settle(files, "make.py")
+    return settle(files, "make.py") or "--check" in sys.argv and check_kinds()
 
 
 if __name__ == "__main__":

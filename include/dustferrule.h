@@ -36,6 +36,12 @@ extern "C" {
 /* The forms of a list: signal entries of 16 octets, and of 18, with a serial number behind each. */
 enum df_form { DF_FORM_1 = 1, DF_FORM_2 = 2 };
 
+/* How a value is shown; a number that is none of these shows the code. */
+enum df_kind { DF_CODE = 0, DF_SPEED = 1, DF_PERCENTAGE = 2, DF_SIGNED_PERCENTAGE = 3, DF_CURRENT = 4 };
+
+/* What a shown value is in. */
+enum df_unit { DF_NO_UNIT = 0, DF_KM_PER_HOUR = 1, DF_PERCENT = 2, DF_AMPERE = 3 };
+
 /* The refusals, in the words of document 01 and, from 32 on, of document 02: X(name, number, text). A new one is a line. */
 #define DF_REFUSALS(X) \
     X(LIST_ENDS, 1, "list ends inside a count or a section") \
@@ -63,7 +69,7 @@ enum df_form { DF_FORM_1 = 1, DF_FORM_2 = 2 };
     X(ANSWER_TO_REPORT, 23, "answer to a report") \
     X(HEAD_LENGTH, 24, "head not 6 octets") \
     X(OUTPUT_SHORT, 25, "output under 9 octets") \
-    X(SCALED_KIND, 26, "scaled kind, with width not 16 or raw above 65,535") \
+    X(SCALED_KIND, 26, "scaled kind, with width not 16") \
     X(NO_CHECK_PLACE, 27, "no check place in the table") \
     X(SERIAL_SET, 32, "serial number set") \
     X(FORM_OUTPUT, 33, "output not of the needed length")
@@ -126,9 +132,11 @@ typedef struct { uint32_t refusal; uint32_t gap; } df_gap_ms;
 /* reason: a number of DF_REASONS; with 2 to 8 the value is the replacement; a value is below 2^width, so with width 64 any number */
 typedef struct { uint32_t refusal; uint32_t reason; uint64_t carried; uint64_t value; } df_reading;
 
-typedef struct { uint32_t refusal; uint64_t carried; uint64_t lives; } df_marshalled;
+/* reason: as of df_reading; code: the value where a code is shown, which has no unit, else 0; unit: a number of df_unit;
+ * value: the exact value in its unit where a scaled kind is shown, else +0 */
+typedef struct { uint32_t refusal; uint32_t reason; uint64_t carried; uint64_t code; uint32_t unit; float value; } df_shown;
 
-typedef struct { uint32_t refusal; float value; } df_shown;
+typedef struct { uint32_t refusal; uint64_t carried; uint64_t lives; } df_marshalled;
 
 /* vehicle v is bit v of the set, worth 2^v; bit 0 is never set */
 typedef struct { uint32_t refusal; uint32_t size; uint64_t set; } df_members;
@@ -176,6 +184,12 @@ df_outcome df_sweep(uint8_t *store, size_t store_len, uint32_t clock);
 df_reading df_read(const uint8_t *list, size_t list_len, uint8_t form, const uint8_t *store, size_t store_len, uint32_t clock, uint64_t vehicle,
                    uint64_t signal);
 
+/* Reads one signal (number from 0) of one vehicle and shows the value of the reading, live or replacement, as a kind: as a code, which is the
+ * value itself, or, of a signal of 16 bits, as a speed of value / 64 km/h, a percentage of value * 25 / 4096 (unsigned, or signed: the value in
+ * two's complement) or a current of value * 125 / 2048 A. Any kind but 1-4 shows the code. Refusals 1-4, then 5, 6, 11, 26. */
+df_shown df_show(const uint8_t *list, size_t list_len, uint8_t form, const uint8_t *store, size_t store_len, uint32_t clock, uint64_t vehicle,
+                 uint64_t signal, uint8_t kind);
+
 /* Writes every route's value into its field of the vehicle bus data, and counts the live ones. Refusals 1-5, 12. */
 df_marshalled df_marshal(const uint8_t *list, size_t list_len, uint8_t form, const uint8_t *store, size_t store_len, uint32_t clock, uint8_t *bus,
                          size_t bus_len);
@@ -183,13 +197,6 @@ df_marshalled df_marshal(const uint8_t *list, size_t list_len, uint8_t form, con
 /* Composes an R-telegram of type 1, 2 or 3: one value for each signal, one mark (0-3) for each check. Refusals 1-4, then 9, 13-16. */
 df_outcome df_compose(const uint8_t *list, size_t list_len, uint8_t form, uint64_t type, const uint64_t *values, size_t values_len,
                       const uint8_t *marks, size_t marks_len, uint8_t *out, size_t out_len);
-
-/* A raw value of a field of this width, shown. A code is shown as itself; the scaled kinds may be refused 26. */
-uint64_t df_show_code(uint64_t raw);
-df_shown df_show_speed(uint64_t width, uint64_t raw);             /* km/h */
-df_shown df_show_percentage(uint64_t width, uint64_t raw);        /* unsigned */
-df_shown df_show_signed_percentage(uint64_t width, uint64_t raw); /* two's complement */
-df_shown df_show_current(uint64_t width, uint64_t raw);           /* A */
 
 /* The vehicles of a train that meet an address (1-63, 64, 65, 66, 67, 70, 92). One mark octet for each vehicle, vehicle 1 first:
  * 1 leading, 2 coach, 4 tractive, 8 led, 16 sleeping; the three high bits are not read. Refusals 17-20. */

@@ -5,6 +5,8 @@
     runs/programs.py --write    writes expected/*.txt anew from what the programs print, to be read before it is kept
 """
 import csv
+import decimal
+import fractions
 import itertools
 import os
 import re
@@ -86,6 +88,51 @@ MOST_64 = 2**64 - 1
 R1_WIDE = put(b"\x11\x01" + bytes(126), (320, 2, 2), (256, 64, 2**63), (424, 64, MOST_64), (489, 49, 2**49 - 1), (539, 63, 2**63 - 1), (700, 4, 9), (955, 64, MOST_64))
 WIDE_HEARD = slots.store(slots.slot(6000, R1_WIDE))
 
+
+
+# what a raw value is on the scale of its kind, and the unit
+SCALES = {
+    "speed": (fractions.Fraction(1, 64), "km/h"), "signed percentage": (fractions.Fraction(25, 4096), "%"), "current": (fractions.Fraction(125, 2048), "A"),
+}
+
+
+def in_unit(kind, raw):
+    """The value to its last decimal, and the unit."""
+    step, unit = SCALES[kind]
+    value = step * ((raw ^ 0x8000) - 0x8000 if kind.startswith("signed") else raw)
+    return format((decimal.Decimal(value.numerator) / value.denominator).normalize(), "f"), unit
+
+
+def rows_of_signals():
+    with open(os.path.join(ROOT, "data", "signals.csv"), newline="") as f:
+        return list(csv.DictReader(f))
+
+
+# what is shown in a unit, by type and start, out of signals.csv alone
+TYPES = ("R3", "R1", "R2")
+KINDS = {(TYPES.index(row["telegram"]), int(row["start"])): row["kind"] for row in rows_of_signals() if row["kind"]}
+assert len(KINDS) == 12
+
+
+def heard(telegram, values):
+    """The telegram of version 1 with these values, by start, in 16 bits each."""
+    length = 40 if telegram == "R3" else 128
+    return put(bytes([0x10 + int(telegram[1]), 1]) + bytes(length - 2), *((start, 16, value) for start, value in values.items()))
+
+
+# a replacement for each, and a route; other lists in which a limit, a width and a signal are others, and that have nothing to show in a unit
+REPLACEMENTS = (10240, 49152, 1, 32768, 65535, 16384, 32767, 65535, 32768, 1, 57344, 8192)
+PLACES = [lists.signal(start, 16, type, replacement=r) for (type, start), r in zip(sorted(KINDS), REPLACEMENTS)]
+TO_UNITS = [lists.route(k, 3 if k < 5 else 4, 16 * k) for k in range(12)] + [lists.route(2, 9, 192)]
+UNITS = lists.pack([], PLACES, [], TO_UNITS)
+UNITS_2 = lists.pack([], [PLACES[0], lists.signal(384, 16, limit=2000), lists.signal(400, 15), *PLACES[4:], lists.signal(560, 16, 2)])
+BESIDE = lists.pack([], [lists.signal(80, 15, 0), lists.signal(96, 16, 0), lists.signal(384, 15), lists.signal(400, 17), lists.signal(433, 16), lists.signal(480, 16),
+                         lists.signal(384, 8, 2), lists.signal(401, 16, 2)], [], [lists.route(0, 3, 0), lists.route(1, 3, 16), lists.route(2, 3, 32), lists.route(5, 3, 48)])
+# nothing but zeros; each end of each scale, and one step; replacements of what is not carried, and of what is too old
+R1_UNITS = heard("R1", {80: 1, 384: 32768, 400: 10240, 432: 32768, 528: 49152})
+R2_UNITS = heard("R2", {80: 65535, 384: 65535, 400: 32767, 432: 65535, 480: 49151, 496: 16384, 528: 32769, 544: 1})
+UNITS_HEARD = slots.store(*(slots.slot(6000, telegram) for telegram in (heard("R1", {}), heard("R2", {}), R1_UNITS, R2_UNITS, heard("R3", {80: 16384}))), slots.slot(1000, R1_UNITS))
+
 # lists as long as a telegram: 22 and 8 checks, a signal, and ten code ranges and none
 LIST_128 = lists.pack([lists.check(20 + 2 * k) for k in range(22)], [lists.signal(384, 8)], [lists.code(0, 2 * k, 2 * k) for k in range(10)])
 LIST_40 = lists.pack([lists.check(20 + 2 * k) for k in range(8)], [lists.signal(384, 8)])
@@ -104,6 +151,7 @@ FILES = {
     "at-0": slots.store(slots.slot(0, R1)), "at-4294967000": slots.store(slots.slot(4294967000, R1)),
     "bus": b"\xff" * 20, "bus-17": b"\xff" * 17, "bus-18": b"\xff" * 18, "bus-4096": b"\xff" * 4096, "bus-4097": bytes(4097),
     "bus-40": b"\xff" * 40, "bus-128": b"\xff" * 128, "zeros-8": bytes(8), "zeros-128": bytes(128), "list-128": LIST_128, "list-40": LIST_40,
+    "units.list": UNITS, "units-2.list": UNITS_2, "beside.list": BESIDE, "units-heard": UNITS_HEARD,
 }
 
 
@@ -284,6 +332,8 @@ def sweep_table():
 
 def believe_table():
     words = ["believe", "coach.list", "train", CLOCK, "1", "94"]
+    names = "vehicle telegram version age signal type start width value reason gap shown unit"
+    numbers_2 = names.replace("gap", "gap serial")
     yield ["believe", "help"], as_in("believe-help")
     text = "believe LIST STORE CLOCK [VEHICLE [SIGNAL]] [table] [form2]"
     yield from usage("believe", (3, 4, 5), text)
@@ -308,11 +358,10 @@ def believe_table():
     yield ["believe", "L.list", "train", "5999", "1", "0"], says("vehicle 1: R1 version 3 age 4294967295 ms (stamp after the clock) gap 6000 ms\n 1    0  R1 octet 54 bits 0-3                  0  3 too old")
     yield words[:4] + ["table"], as_in("believe-table")
     yield words[:5] + ["table"], as_in("believe-table-1")
-    yield words + ["table"], table("vehicle telegram version age signal type start width value reason gap", "1 R1 3 3000 94 R1 424 4 3 0 6000")
-    yield ["believe", "coach.list", "store", CLOCK, "table"], table("vehicle telegram version age signal type start width value reason gap")
-    yield ["believe", "L.list", "store", CLOCK, "5", "table"], table("vehicle telegram version age signal type start width value reason gap", "5 - - - 0 R1 424 4 0 2 -")
-    yield ["believe", "across.list", "train", "5999", "1", "1", "table"], table(
-        "vehicle telegram version age signal type start width value reason gap", "1 R1 3 4294967295 1 R1 384 8 0 3 6000")
+    yield words + ["table"], table(names, "1 R1 3 3000 94 R1 424 4 3 0 6000 - -")
+    yield ["believe", "coach.list", "store", CLOCK, "table"], table(names)
+    yield ["believe", "L.list", "store", CLOCK, "5", "table"], table(names, "5 - - - 0 R1 424 4 0 2 - - -")
+    yield ["believe", "across.list", "train", "5999", "1", "1", "table"], table(names, "1 R1 3 4294967295 1 R1 384 8 0 3 6000 - -")
     yield ["believe", "coach.list", "train", CLOCK, "1", "165", "table"], refused("11: no such signal")
     yield ["believe", "coach.list", "train", CLOCK, "0", "table"], refused("6: vehicle not 1-63")
     yield ["believe", "coach.list", "train", CLOCK, "0"], refused("6: vehicle not 1-63")
@@ -333,21 +382,33 @@ def believe_table():
     yield ["believe", "across.list", "parked", CLOCK], as_in("believe-expired")
     yield ["believe", "across.list", "parked", CLOCK, "1", "table"], as_in("believe-expired-table")
     yield ["believe", "unlimited.list", "parked", CLOCK, "1"], says(
-        "vehicle 1: R1 version 3 expired gap 6000 ms\n 1    0  R1 octet 49                          32  0 live ok\n 1    1  R1 octets 51-52                       0  3 too old\n"
+        "vehicle 1: R1 version 3 expired gap 6000 ms\n 1    0  R1 octet 49                          32  0 live ok\n 1    1  R1 octets 51-52                       0  3 too old (0 km/h)\n"
         "total      1  0 live ok\ntotal      1  3 too old")
     yield ["believe", "L.list", "parked", CLOCK, "1"], says(
         "vehicle 1: R1 version 3 expired gap 6000 ms\n 1    0  R1 octet 54 bits 0-3                  0  3 too old\ntotal      1  3 too old")
-    # in form 2, with the serial number beside the place, and as the last column of the table
+    # in form 2, with the serial number beside the place, and as a column of the table, behind the gap
     words_2 = ["believe", "coach-2.list", "train", CLOCK, "1", "94"]
     yield words_2[:4] + ["form2"], as_in("believe-form2")
     for both in (["table", "form2"], ["form2", "table"]):
         yield words_2[:4] + both, as_in("believe-form2-table")
     yield words_2 + ["form2"], says("vehicle 1: R1 version 3 age 3000 ms gap 6000 ms\n 1   94  R1 octet 54 bits 0-3 (4.3)                       3  0 live ok")
     yield ["believe", "coach.moved", *words_2[2:], "form2"], says("vehicle 1: R1 version 3 age 3000 ms gap 6000 ms\n 1   94  R1 octet 54 bits 0-3 (no serial number)          3  0 live ok")
-    yield words_2 + ["table", "form2"], table("vehicle telegram version age signal type start width value reason gap serial", "1 R1 3 3000 94 R1 424 4 3 0 6000 4.3")
-    yield ["believe", "L.moved", "train", CLOCK, "9", "form2", "table"], table(
-        "vehicle telegram version age signal type start width value reason gap serial", "9 - - - 0 R1 424 4 0 2 - -")
+    yield words_2 + ["table", "form2"], table(numbers_2, "1 R1 3 3000 94 R1 424 4 3 0 6000 4.3 - -")
+    yield ["believe", "L.moved", "train", CLOCK, "9", "form2", "table"], table(numbers_2, "9 - - - 0 R1 424 4 0 2 - - - -")
     yield ["believe", "wide.form2", "wide-heard", CLOCK, "form2"], as_in("believe-form2-wide")
+    # in a unit, live and replaced; other widths and other places in none
+    shown = ["believe", "units.list", "units-heard", CLOCK]
+    yield shown, as_in("believe-units")
+    yield shown + ["table"], as_in("believe-units-table")
+    yield ["believe", "units.form2", *shown[2:], "form2"], as_in("believe-units-form2")
+    yield ["believe", "units.form2", *shown[2:], "form2", "table"], as_in("believe-units-form2-table")
+    for vehicle, k, line in ((3, 0, "R3 octets 11-12                       1  0 live ok (0.015625 km/h)"), (3, 1, "R1 octets 49-50                   32768  0 live ok (-200 %)"),
+                             (3, 3, "R1 octets 55-56                   32768  0 live ok (2000 A)"), (9, 2, "R1 octets 51-52                       1  2 never heard (0.015625 km/h)")):
+        head = "never heard" if vehicle == 9 else "R1 version 1 age 3000 ms gap 6000 ms"
+        yield shown + [str(vehicle), str(k)], says(f"vehicle {vehicle}: {head}\n {vehicle}    {k}  {line}")
+    yield shown + ["9", "1", "table"], table(names, "9 - - - 1 R1 384 16 49152 2 - -100 %")
+    yield ["believe", "beside.list", *shown[2:], "3"], as_in("believe-beside")
+    yield ["believe", "beside.list", *shown[2:], "3", "table"], as_in("believe-beside-table")
     yield words_2 + ["form2", "form2"], error("usage: " + text)
     yield words_2 + ["form2", "table", "form2"], error("usage: " + text)
     yield words_2[:4] + ["form2", "form2"], error(f"VEHICLE 'form2': {MOST}")
@@ -372,7 +433,7 @@ def differ_table():
     words = ["differ", "coach.list", "next.list", "train", CLOCK, "1"]
     yield ["differ", "help"], as_in("differ-help")
     text = "differ LIST LIST STORE CLOCK [VEHICLE] [only] [table] [first-form2] [second-form2]"
-    names = "vehicle telegram version age type start differs width_1 value_1 reason_1 width_2 value_2 reason_2 gap"
+    names = "vehicle telegram version age type start differs width_1 value_1 reason_1 width_2 value_2 reason_2 gap shown_1 shown_2 unit"
     yield from usage("differ", (4, 5), text)
     yield words + ["1", "only"], error("usage: " + text)
     yield words[:5] + ["only", "1"], error(f"VEHICLE 'only': {MOST}")
@@ -384,9 +445,10 @@ def differ_table():
     yield words + ["only"], as_in("differ-only-1")
     yield words[:5] + ["table"], as_in("differ-table")
     for both in (["only", "table"], ["table", "only"]):
-        yield words + both, table(names, "1 R1 3 3000 R1 380 1 4 0 8 4 2 0 6000", "1 R1 3 3000 R1 424 1 4 3 0 4 15 3 6000", "1 R1 3 3000 R1 524 1 - - - 4 2 0 6000")
+        yield words + both, table(
+            names, "1 R1 3 3000 R1 380 1 4 0 8 4 2 0 6000 - - -", "1 R1 3 3000 R1 424 1 4 3 0 4 15 3 6000 - - -", "1 R1 3 3000 R1 524 1 - - - 4 2 0 6000 - - -")
     yield ["differ", "L.list", "L.list", "train", CLOCK, "only", "table"], table(names)
-    yield ["differ", "L.list", "L.list", "train", CLOCK, "9", "table"], table(names, "9 - - - R1 424 0 4 0 2 4 0 2 -")
+    yield ["differ", "L.list", "L.list", "train", CLOCK, "9", "table"], table(names, "9 - - - R1 424 0 4 0 2 4 0 2 - - - -")
     yield ["differ", "L.list", "L.list", "train", CLOCK, "1", "only"], says(
         "first  'L.list' signals 1 version 1\nsecond 'L.list' signals 1 version 1\nvehicle 1: R1 version 3 age 3000 ms gap 6000 ms\nvehicle 1 differs on 0 of 1 lines\ndiffer: 0 of 1 lines")
     yield ["differ", "coach.list", "next.list", "train", CLOCK, "64", "only", "table"], refused("6: vehicle not 1-63")
@@ -421,14 +483,24 @@ def differ_table():
             f"first  '{lists_2[0]}' signals 1 version 1\nsecond '{lists_2[1]}' signals 1 version 1\nvehicle 1: R1 version 3 age 3000 ms gap 6000 ms\n"
             + f"   1  R1 octet 54 bits 0-3 {serials}".ljust(column - 1) + "3  0 live ok".ljust(29) + "|" + "3".rjust(16) + "  0 live ok\n"
             "vehicle 1 differs on 0 of 1 lines\ndiffer: 0 of 1 lines")
-    numbers_2 = names + " serial_1 serial_2"
+    numbers_2 = names.replace("gap", "gap serial_1 serial_2")
     for lists_2, behind, serials in (
         (("L.form2", "L.moved"), [first, second], "10.1R -"), (("L.moved", "L.form2"), [first, second], "- 10.1R"), (("L.form2", "L.list"), [first], "10.1R -"),
         (("L.list", "L.form2"), [second], "- 10.1R"), (("L.moved", "L.list"), [first], "- -"),
     ):
-        yield ["differ", *lists_2, "train", CLOCK, "1", "table", *behind], table(numbers_2, f"1 R1 3 3000 R1 424 0 4 3 0 4 3 0 6000 {serials}")
+        yield ["differ", *lists_2, "train", CLOCK, "1", "table", *behind], table(numbers_2, f"1 R1 3 3000 R1 424 0 4 3 0 4 3 0 6000 {serials} - - -")
     yield ["differ", "coach-2.list", "next-2.list", "train", CLOCK, "1", "only", "table", first, second], table(
-        numbers_2, "1 R1 3 3000 R1 380 1 4 0 8 4 2 0 6000 4.35 4.35", "1 R1 3 3000 R1 424 1 4 3 0 4 15 3 6000 4.3 4.5", "1 R1 3 3000 R1 524 1 - - - 4 2 0 6000 - 0xFFFF")
+        numbers_2, "1 R1 3 3000 R1 380 1 4 0 8 4 2 0 6000 4.35 4.35 - - -", "1 R1 3 3000 R1 424 1 4 3 0 4 15 3 6000 4.3 4.5 - - -",
+        "1 R1 3 3000 R1 524 1 - - - 4 2 0 6000 - 0xFFFF - - -")
+    # in a unit, of both lists, where one of them has it in 16 bits there; a dash for the other
+    shown = ["differ", "units.list", "units-2.list", "units-heard", CLOCK]
+    yield shown, as_in("differ-units")
+    yield shown + ["table"], as_in("differ-units-table")
+    yield ["differ", "units-2.list", "units.list", *shown[3:], "3", "only"], as_in("differ-units-turned")
+    yield ["differ", "units.form2", "units-2.form2", *shown[3:], "3", first, second], as_in("differ-units-form2")
+    yield ["differ", "units.form2", "units-2.form2", *shown[3:], "3", first, second, "table"], as_in("differ-units-form2-table")
+    yield ["differ", "units.list", "beside.list", *shown[3:], "3"], as_in("differ-beside")
+    yield ["differ", "beside.list", "beside.list", *shown[3:], "3", "table"], as_in("differ-beside-table")
     yield words[:5] + [first, first], error(f"VEHICLE '{first}': {MOST}")
     yield words[:5] + [first, "1"], error(f"VEHICLE '{first}': {MOST}")
     yield words + [second, first, second], error("usage: " + text)
@@ -460,7 +532,7 @@ def marshal_table():
     yield words + ["routes"], as_in("marshal-routes", bus=routed + b"\xff\xff")
     for behind in (["table"], ["routes", "table"], ["table", "routes"]):
         yield words + behind, as_in("marshal-table", bus=routed + b"\xff\xff")
-    yield ["marshal", "across-2.list", "train", CLOCK, "empty", "table"], table("route data_start vehicle signal type start width value reason")
+    yield ["marshal", "across-2.list", "train", CLOCK, "empty", "table"], table("route data_start vehicle signal type start width value reason shown unit")
     yield words[:4] + ["bus-18"], says("marshalled 14 routes, 11 live", bus_18=routed)
     yield ["marshal", "next.list", "train", CLOCK, "bus"], says("marshalled 14 routes, 10 live", bus=routed[:1] + b"\xf4" + routed[2:] + b"\xff\xff")
     yield ["marshal", "coach.list", "store", CLOCK, "bus"], says("marshalled 14 routes, 0 live", bus=b"\x03\x00" + bytes(4) + b"\x0f\xff" + bytes(10) + b"\xff\xff")
@@ -509,7 +581,19 @@ def marshal_table():
         yield words_2 + behind, as_in("marshal-form2", bus=routed + b"\xff\xff")
     yield words_2 + ["table"], as_in("marshal-form2-table", bus=routed + b"\xff\xff")
     yield ["marshal", "L.moved", "train", CLOCK, "zeros-8", "table", "form2"], table(
-        "route data_start vehicle signal type start width value reason serial", "0 0 1 0 R1 424 4 3 0 -", zeros_8=b"\x30" + bytes(7))
+        "route data_start vehicle signal type start width value reason serial shown unit", "0 0 1 0 R1 424 4 3 0 - - -", zeros_8=b"\x30" + bytes(7))
+    # in a unit; what is written are the raw values
+    shown = ["marshal", "units.list", "units-heard", CLOCK, "bus-256"]
+    raw = (1, 32768, 10240, 32768, 49152, 65535, 32767, 65535, 49151, 16384, 32769, 1, 1)
+    written = put(FILES["bus-256"], *((16 * k, 16, value) for k, value in enumerate(raw)))
+    yield shown, says("marshalled 13 routes, 12 live", bus_256=written)
+    yield shown + ["routes"], as_in("marshal-units", bus_256=written)
+    yield shown + ["table"], as_in("marshal-units-table", bus_256=written)
+    yield ["marshal", "units.form2", *shown[2:], "routes", "form2"], as_in("marshal-units-form2", bus_256=written)
+    yield ["marshal", "units.form2", *shown[2:], "table", "form2"], as_in("marshal-units-form2-table", bus_256=written)
+    beside = put(FILES["bus-256"], (0, 15, 0), (16, 16, 0), (32, 15, 16384), (48, 16, 0))
+    yield ["marshal", "beside.list", *shown[2:], "routes"], as_in("marshal-beside", bus_256=beside)
+    yield ["marshal", "beside.list", *shown[2:], "table"], as_in("marshal-beside-table", bus_256=beside)
     yield words + ["form2"], refused("3 at 118: entry breaks its rule")
     yield words_2[:-1], refused("3 at 116: entry breaks its rule")
     yield ["marshal", "ends.form2", "store-1", CLOCK, "none", "form2"], refused("1 at 38: list ends inside a count or a section")
@@ -694,7 +778,9 @@ SAME = [
     ["believe", "coach.list", "train", CLOCK], ["believe", "next.list", "train", CLOCK, "table"], ["believe", "coach.list", "train", "6000", "3"],
     ["believe", "across.list", "parked", CLOCK], ["believe", "wide.list", "wide-heard", CLOCK], ["believe", "wide.list", "wide-heard", CLOCK, "1", "table"],
     ["believe", "long.list", "store", CLOCK, "1"], ["believe", "L.list", "full", CLOCK], ["believe", "coach.list", "train", CLOCK, "1", "94"],
-    ["believe", "longest.list", "full", CLOCK, "7"], ["believe", "coach.list", "train", CLOCK, "64"],
+    ["believe", "longest.list", "full", CLOCK, "7"], ["believe", "coach.list", "train", CLOCK, "64"], ["believe", "units.list", "units-heard", CLOCK],
+    ["believe", "units.list", "units-heard", CLOCK, "table"], ["differ", "units.list", "units-2.list", "units-heard", CLOCK],
+    ["differ", "units.list", "beside.list", "units-heard", CLOCK, "3", "table"], ["marshal", "units.list", "units-heard", CLOCK, "bus-256", "routes"],
     ["differ", "coach.list", "next.list", "train", CLOCK], ["differ", "coach.list", "next.list", "train", CLOCK, "only"],
     ["differ", "coach.list", "next.list", "train", CLOCK, "1", "table"], ["differ", "across.list", "across-2.list", "train", "12000"],
     ["differ", "wide.list", "wide-2.list", "wide-heard", CLOCK], ["differ", "L.list", "wide.list", "wide-heard", CLOCK, "1"],
@@ -712,8 +798,7 @@ def plain(text):
     """What is printed, without serial numbers and without the spaces that put values into a column."""
     names = text.split("\n")[0].split("\t")
     if len(names) > 1:
-        kept = sum(not name.startswith("serial") for name in names)
-        return [line.split("\t")[:kept] for line in text.splitlines()]
+        return [[cell for name, cell in zip(names, line.split("\t")) if not name.startswith("serial")] for line in text.splitlines()]
     text = re.sub(rf" \({NUMBER}(?:, {NUMBER})?\)", "", text).replace(".form2'", ".list'")
     return re.sub(" +", " ", text).splitlines()
 
@@ -752,8 +837,7 @@ def other_in_form_2(folder):
 
 def numbers_of_a():
     """The serial number of Appendix A of each signal, by telegram and start, out of signals.csv alone."""
-    with open(os.path.join(ROOT, "data", "signals.csv"), newline="") as f:
-        return {(row["telegram"], row["start"]): row["serial_of_A"] or "-" for row in csv.DictReader(f)}
+    return {(row["telegram"], row["start"]): row["serial_of_A"] or "-" for row in rows_of_signals()}
 
 
 def column_of(folder, file):
@@ -769,6 +853,39 @@ def badly_numbered(folder):
         expected = ["-" if number == 0 else lists.printed(number) for number in part]
         if list(column_of(folder, f"numbers-{k}.form2").values()) != expected:
             yield f"numbers-{k}.form2", "serial numbers printed otherwise"
+
+
+# raw values at the ends of each scale and around each power of two, one for each vehicle
+RAW = sorted({max(0, 2**k + d) for k in range(16) for d in (-1, 0, 1)} | {65535, 10240, 40000, 49151, 49152, 49153, 57344, 65534})
+STORES = [slots.store(*(slots.slot(6000, heard(telegram, {start: raw for type, start in KINDS if type in (0, TYPES.index(telegram))})) for raw in RAW)) for telegram in ("R1", "R2")]
+# every place of 16 bits, a list for each bit of it; and the places with a unit in other widths, each list with every second of them
+ALL = [[lists.signal(start, 16, type) for type, first, end in ((0, 16, 320), (1, 320, 1024), (2, 320, 1024)) for start in range(first + bit, end - 15, 16)] for bit in range(16)]
+OTHER = [[lists.signal(start, width, type) for type, start in sorted(KINDS)[half::2]] for width in (1, 8, 15, 17, 32, 48) for half in (0, 1)]
+
+
+def rows(folder, signals, store, *vehicle):
+    """The table that is believed under a list of these signals, each row by the names of its columns."""
+    for name, octets in (("some.list", lists.pack((), signals)), ("some", store)):
+        with open(os.path.join(folder, name), "wb") as f:
+            f.write(octets)
+    lines = [line.split("\t") for line in run(folder, ["believe", "some.list", "some", CLOCK, *vehicle, "table"])[0].splitlines()]
+    return [dict(zip(lines[0], line, strict=True)) for line in lines[1:]]
+
+
+def badly_shown(folder):
+    """Whether each place is shown in the unit that signals.csv has for it, and exactly, and no other place in any."""
+    for store, carried in zip(STORES, ((0, 1), (0, 2))):
+        for row in rows(folder, PLACES, store):
+            place, raw = (TYPES.index(row["type"]), int(row["start"])), RAW[int(row["vehicle"]) - 1]
+            if place[0] in carried and (int(row["value"]), row["shown"], row["unit"]) != (raw, *in_unit(KINDS[place], raw)):
+                yield f"{raw} at {place}", f"shown otherwise: {row}"
+    for signals in ALL + OTHER:
+        for row in rows(folder, signals, NEW, "1"):
+            kind = KINDS.get((TYPES.index(row["type"]), int(row["start"]))) if row["width"] == "16" else None
+            if (row["shown"], row["unit"]) != (in_unit(kind, 0) if kind else ("-", "-")):
+                yield row["start"], f"shown otherwise: {row}"
+    for name in ("some.list", "some"):
+        os.remove(os.path.join(folder, name))
 
 
 def fill(folder):
@@ -918,7 +1035,8 @@ def main():
                 bad += 1
         same, others = other_in_form_2(folder)
         numbered = list(badly_numbered(folder))
-        count += len(PAGED) + len(ONE_LINE) + same + 1 + len(PARTS)
+        numbered += badly_shown(folder)
+        count += len(PAGED) + len(ONE_LINE) + same + 1 + len(PARTS) + len(STORES + ALL + OTHER)
         for words, what in itertools.chain(badly_paged(folder), others):
             print(f"{' '.join(words)!r}: {what}")
             bad += 1

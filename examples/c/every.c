@@ -94,6 +94,10 @@ static void in_form_2(void)
     o = df_take(store, sizeof store, 1, 1000, out, sizeof out);
     df_reading r = df_read(wide, sizeof wide, DF_FORM_2, store, sizeof store, 6000, 1, 0);
     expect("df_read, form 2", !o.refusal && !r.refusal && r.reason == 0 && r.value == 4);
+    df_shown s = df_show(wide, sizeof wide, DF_FORM_2, store, sizeof store, 6000, 1, 0, DF_CODE);
+    expect("df_show, form 2", !s.refusal && s.reason == 0 && s.code == 4 && s.unit == DF_NO_UNIT);
+    s = df_show(wide, sizeof wide, DF_FORM_2, store, sizeof store, 6000, 1, 0, DF_SPEED);
+    expect("df_show, form 2", s.refusal == DF_REFUSAL_SCALED_KIND && !s.carried && !s.code && s.unit == DF_NO_UNIT);
     df_marshalled m = df_marshal(wide, sizeof wide, DF_FORM_2, store, sizeof store, 6000, data, sizeof data);
     expect("df_marshal, form 2", !m.refusal && m.lives == 1 && data[0] == 0x4B);
 }
@@ -198,19 +202,68 @@ static void wide_fields(void)
     expect("df_marshal, 64 bits", !m.refusal && m.lives == 1 && data[0] == 0x0F && data[1] == 0xFF && data[8] == 0xF0);
 }
 
+/* check 41 2/3, and under it R1 octets 51-52, replacement 64, and the 15 bits behind them, replacement 9 */
+static const uint8_t V[42] = {0, 1, 0x01, 0x42, 0, 2, 0x01, 0x90, 16, 1, 1, 1, 0, 0, 0x13, 0x88, 0, 0, 0, 0, 0, 64,
+                              0x01, 0xA0, 15, 1, 1, 1, 0, 0, 0x13, 0x88, 0, 0, 0, 0, 0, 9, 0, 0, 0, 0};
+
+/* every field is looked at, the value by its bits: zero is +0 */
+static int shows(df_shown s, uint32_t reason, uint64_t code, uint32_t unit, float value)
+{
+    return !s.refusal && s.reason == reason && !s.carried && s.code == code && s.unit == unit && !memcmp(&s.value, &value, sizeof value);
+}
+
+static int refuses(df_shown s, uint32_t refusal, uint64_t carried)
+{
+    static const float zero = 0.0f;
+    return s.refusal == refusal && !s.reason && s.carried == carried && !s.code && !s.unit && !memcmp(&s.value, &zero, sizeof zero);
+}
+
+/* both signals of vehicle 1, with this mark, at 1000 */
+static void says(uint8_t *store, uint64_t first, uint64_t second, uint8_t mark)
+{
+    uint8_t out[128];
+    uint64_t values[2] = {first, second};
+    df_outcome o = df_compose(V, sizeof V, DF_FORM_1, 1, values, 2, &mark, 1, out, sizeof out);
+    expect("df_compose, to be shown", !o.refusal);
+    o = df_take(store, DF_STORE_OCTETS, 1, 1000, out, sizeof out);
+    expect("df_take, to be shown", !o.refusal);
+}
+
+static df_shown show(const uint8_t *store, uint32_t clock, uint64_t signal, uint8_t kind)
+{
+    return df_show(V, sizeof V, DF_FORM_1, store, DF_STORE_OCTETS, clock, 1, signal, kind);
+}
+
 static void shown(void)
 {
-    df_shown s = df_show_speed(16, 16384);
-    expect("df_show_speed", !s.refusal && s.value == 256.0f);
-    s = df_show_percentage(16, 49152);
-    expect("df_show_percentage", !s.refusal && s.value == 300.0f);
-    s = df_show_signed_percentage(16, 49152);
-    expect("df_show_signed_percentage", !s.refusal && s.value == -100.0f);
-    s = df_show_current(16, 2048);
-    expect("df_show_current", !s.refusal && s.value == 125.0f);
-    s = df_show_speed(15, 0);
-    expect("df_show_speed", s.refusal == 26 && s.value == 0.0f);
-    expect("df_show_code", df_show_code(281474976710655u) == 281474976710655u);
+    static uint8_t store[DF_STORE_OCTETS];
+    expect("df_show, never heard", shows(show(store, 6000, 0, DF_CURRENT), DF_REASON_NEVER_HEARD, 0, DF_AMPERE, 3.90625f));
+    says(store, 16384, 0, 1);
+    expect("df_show, a speed", shows(show(store, 6000, 0, DF_SPEED), DF_REASON_LIVE_OK, 0, DF_KM_PER_HOUR, 256.0f));
+    expect("df_show, too old", shows(show(store, 6001, 0, DF_SPEED), DF_REASON_TOO_OLD, 0, DF_KM_PER_HOUR, 1.0f));
+    says(store, 49152, 0, 2);
+    expect("df_show, a percentage", shows(show(store, 6000, 0, DF_PERCENTAGE), DF_REASON_LIVE_FORCED, 0, DF_PERCENT, 300.0f));
+    expect("df_show, signed", shows(show(store, 6000, 0, DF_SIGNED_PERCENTAGE), DF_REASON_LIVE_FORCED, 0, DF_PERCENT, -100.0f));
+    expect("df_show, a current", shows(show(store, 6000, 0, DF_CURRENT), DF_REASON_LIVE_FORCED, 0, DF_AMPERE, 3000.0f));
+    expect("df_show, a code", shows(show(store, 6000, 0, DF_CODE), DF_REASON_LIVE_FORCED, 49152, DF_NO_UNIT, 0.0f));
+    says(store, 0, 32767, 0);
+    expect("df_show, error", shows(show(store, 6000, 0, DF_SIGNED_PERCENTAGE), DF_REASON_MARK_ERROR, 0, DF_PERCENT, 0.390625f));
+    says(store, 0, 32767, 1);
+    expect("df_show, zero", shows(show(store, 6000, 0, DF_SIGNED_PERCENTAGE), DF_REASON_LIVE_OK, 0, DF_PERCENT, 0.0f));
+    /* 15 bits: the code alone, for every number that is no kind too */
+    expect("df_show, 15 bits", shows(show(store, 6000, 1, DF_CODE), DF_REASON_LIVE_OK, 32767, DF_NO_UNIT, 0.0f));
+    expect("df_show, kind 5", shows(show(store, 6000, 1, 5), DF_REASON_LIVE_OK, 32767, DF_NO_UNIT, 0.0f));
+    expect("df_show, kind 255", shows(show(store, 6001, 1, 255), DF_REASON_TOO_OLD, 9, DF_NO_UNIT, 0.0f));
+    for (uint8_t kind = DF_SPEED; kind <= DF_CURRENT; kind++)
+        expect("df_show, 15 bits", refuses(show(store, 6001, 1, kind), DF_REFUSAL_SCALED_KIND, 0));
+    /* 26 comes behind every other refusal */
+    expect("df_show", refuses(show(store, 6000, 2, DF_SPEED), DF_REFUSAL_NO_SUCH_SIGNAL, 0));
+    df_shown s = df_show(V, sizeof V, DF_FORM_1, store, sizeof store, 6000, 64, 1, DF_SPEED);
+    expect("df_show", refuses(s, DF_REFUSAL_VEHICLE, 0));
+    s = df_show(V, sizeof V, DF_FORM_1, store, sizeof store - 1, 6000, 64, 1, DF_SPEED);
+    expect("df_show", refuses(s, DF_REFUSAL_STORE_LENGTH, 0));
+    s = df_show(V, sizeof V - 1, DF_FORM_1, store, sizeof store - 1, 6000, 64, 1, DF_SPEED);
+    expect("df_show", refuses(s, DF_REFUSAL_LIST_ENDS, 40));
 }
 
 static void train(void)
@@ -232,6 +285,7 @@ static void texts(void)
 {
     expect("df_refusal_text", !strcmp(df_refusal_text(DF_REFUSAL_LIST_ENDS), "list ends inside a count or a section"));
     expect("df_refusal_text", !strcmp(df_refusal_text(DF_REFUSAL_STORE_LENGTH), "store not 8,631 octets"));
+    expect("df_refusal_text", !strcmp(df_refusal_text(DF_REFUSAL_SCALED_KIND), "scaled kind, with width not 16"));
     expect("df_refusal_text", !strcmp(df_refusal_text(27), "no check place in the table") && DF_REFUSAL_NO_CHECK_PLACE == 27);
     expect("df_refusal_text", !strcmp(df_refusal_text(33), "output not of the needed length") && DF_REFUSAL_FORM_OUTPUT == 33);
     expect("df_refusal_text", !strcmp(df_refusal_text(DF_NOT_REFUSED), "not refused") && df_refusal_text(UINT32_MAX));

@@ -11,6 +11,7 @@ use gateway::Signal;
 use gateway::VEHICLES;
 use libc::STDOUT_FILENO;
 use saying::Clock;
+use saying::Line;
 use saying::Number;
 use saying::Page;
 use words::Totals;
@@ -42,51 +43,48 @@ CLOCK     the millisecond counter now, 0 to 4294967295
 Prints for each vehicle a line with type, version and age of its telegram, for
 the age `expired` where `sweep` has marked it, and the gap, the time from the
 telegram before it; for a vehicle's first it is the clock at which that came.
-Then a line for each signal, VEHICLE SIGNAL PLACE VALUE REASON.  At the end
-stand, without VEHICLE, the vehicles never heard, and, without SIGNAL, how often
-each reason was given:
+Then a line for each signal, VEHICLE SIGNAL PLACE VALUE REASON.  A signal of 16
+bits at a place where UIC 556 Appendix B has a speed, percentage or current is
+shown in its unit too, behind the reason, as `(160 km/h)`. At the end stand,
+without VEHICLE, the vehicles never heard, and, without SIGNAL, how often each
+reason was given:
   0 live ok        3 too old                   6 mark error
   1 live forced    4 type does not carry it    7 mark undefined
   2 never heard    5 newer than the telegram   8 code not known
 With 2 to 8 the value is the list's replacement. A common signal is called R3.
 An age above half of the counter's range is called a stamp after the clock.
 With the word `table` it prints a line of names, then a line for each signal,
-each of eleven columns with a tab between: vehicle, its telegram, version and
-age (or `expired`; a dash each where it was never heard), signal, type, start,
-width, value, reason, and the vehicle's gap.
+each of 13 columns with a tab between: vehicle, its telegram, version and age
+(or `expired`; a dash each where it was never heard), signal, type, start,
+width, value, reason, the vehicle's gap, and shown and unit, which are the value
+in its unit and that unit (a dash each where it has none).
 With the word `form2` LIST is in form 2: each PLACE has the serial number of the
-signal behind it, as `(4.3)` or `(no serial number)`, and the table a twelfth
-column, serial, with a dash for none. `convert help` says how one is printed.
+signal behind it, as `(4.3)` or `(no serial number)`, and the table a column
+more behind the gap, serial, with a dash for none. `convert help` says how one
+is printed.
 Bad input gets one line that begins with `refused` and the number of document
 01, or with `error`.
 ",
     );
 }
 
-fn print_row(
-    page: &mut Page,
-    store: &[u8],
-    asked: Asked,
-    k: usize,
-    s: Signal,
-    serial: usize,
-    r: Reading,
-) {
+// A signal as a row of the table, and as a line for people, up to what it is in its unit.
+fn row_of(store: &[u8], asked: Asked, k: usize, s: Signal, serial: usize, r: Reading) -> Line {
     let l = words::say_head(saying::empty(), store, asked.clock, asked.vehicle);
     let l = saying::put(saying::say_tab(l, k as u64), b'\t');
     let l = saying::say_tab(words::say_telegram(l, s.kind), s.start as u64);
     let l = saying::say_tab(saying::say_tab(l, s.width as u64), r.value);
     let l = saying::say_tab(l, r.reason as u64);
     let l = words::say_gap_tab(l, store, asked.vehicle);
-    saying::add(page, words::say_serial_tab(l, asked.form, serial));
+    words::say_serial_tab(l, asked.form, serial)
 }
 
-fn print_signal(page: &mut Page, asked: Asked, k: usize, s: Signal, serial: usize, r: Reading) {
+fn line_of(asked: Asked, k: usize, s: Signal, serial: usize, r: Reading) -> Line {
     let l = saying::say_right(saying::empty(), 2, asked.vehicle as u64);
     let l = saying::say(saying::say_right(l, 7, k as u64), b"  ");
     let l = words::say_signal(l, asked.form, s, serial);
     let l = saying::say(saying::say_right(l, asked.column, r.value), b"  ");
-    saying::add(page, words::say_reason(l, r.reason));
+    words::say_reason(l, r.reason)
 }
 
 fn one_signal(
@@ -104,10 +102,13 @@ fn one_signal(
     };
     let s = e.signal;
     let serial = words::serial_at(list, asked.form, k);
+    let shown = words::shown_at(list, asked.form, store, asked.clock, asked.vehicle, k, s);
     if asked.table {
-        print_row(page, store, asked, k, s, serial, r);
+        let l = row_of(store, asked, k, s, serial, r);
+        saying::add(page, words::say_shown_tabs(l, shown));
     } else {
-        print_signal(page, asked, k, s, serial, r);
+        let l = line_of(asked, k, s, serial, r);
+        saying::add(page, words::say_shown(l, shown));
     }
     words::count_reason(totals, r.reason)
 }
@@ -196,7 +197,8 @@ fn print_names(page: &mut Page, asked: Asked) {
             saying::empty(),
             b"vehicle\ttelegram\tversion\tage\tsignal\ttype\tstart\twidth\tvalue\treason\tgap",
         );
-        saying::add(page, words::say_serial_name(l, asked.form, b"serial"));
+        let l = words::say_serial_name(l, asked.form, b"serial");
+        saying::add(page, saying::say(l, b"\tshown\tunit"));
     }
 }
 

@@ -67,12 +67,42 @@ fn say_refused(line: Line, f: Refusal) -> Line {
     say_count(line, b" refused ", gateway::number(f) as u64)
 }
 
-// Vehicle 1 sends R1, version 1, with these octets 41 and 54. What is refused shows in what is read.
-fn heard_at(store: &mut [u8; STORE], o41: u8, o54: u8, stamp: u32) {
+// A list of one speed: R1 octets 51-52, no check.
+const V: [u8; 24] = [
+    0x00,
+    0x00,
+    0x00,
+    0x01,
+    0x01,
+    0x90,
+    0x10,
+    0x01,
+    0x00,
+    0x01,
+    0x00,
+    0x00,
+    0x13,
+    0x88,
+    0x00,
+    0x00,
+    0x00,
+    0x00,
+    0x00,
+    0x00,
+    0x00,
+    0x00,
+    0x00,
+    0x00,
+];
+
+// Vehicle 1 sends R1, version 1, with these octets 41 and 54, and a raw value in octets 51-52. What is refused shows in what is read.
+fn heard_at(store: &mut [u8; STORE], o41: u8, o54: u8, raw: u64, stamp: u32) {
     let mut telegram = [0u8; TELEGRAM];
     telegram[0] = 0x11;
     telegram[1] = 0x01;
     telegram[40] = o41;
+    telegram[50] = (raw / 256 % 256) as u8;
+    telegram[51] = (raw % 256) as u8;
     telegram[53] = o54;
     gateway::take(store, 1, stamp, &telegram);
 }
@@ -100,7 +130,7 @@ fn say_age(line: Line, store: &[u8; STORE], clock: u32) -> Line {
 
 fn reads(name: &[u8], o41: u8, o54: u8, stamp: u32, clock: u32) {
     let mut store = [0u8; STORE];
-    heard_at(&mut store, o41, o54, stamp);
+    heard_at(&mut store, o41, o54, 0, stamp);
     let l = say_read(saying::say(saying::empty(), name), &store, clock);
     saying::print(say_age(l, &store, clock));
 }
@@ -125,19 +155,31 @@ fn marshals(name: &[u8], store: &[u8; STORE], clock: u32) {
     saying::print(say_octet(l, &bus));
 }
 
-// A speed, in whole km/h.
-fn say_speed(line: Line, raw: u64) -> Line {
-    let seen = gateway::show(Kind::Speed, 16, raw);
+// The speed of vehicle 1, in whole km/h, and the reason.
+fn say_shown(line: Line, store: &[u8; STORE]) -> Line {
+    let seen = gateway::show(&V, FORM_1, store, 5000, 1, 0, Kind::Speed);
     let Showing::Shown(s) = seen else {
         return saying::say(line, b" refused");
     };
-    let Shown::Speed(x) = s else {
+    let x = s.shown;
+    let Shown::Speed(v) = x else {
         return saying::say(line, b" no speed");
     };
-    if x == 256.0 {
-        return saying::say(line, b" speed 256");
+    if v == 256.0 {
+        return say_count(
+            saying::say(line, b" speed 256"),
+            b" reason ",
+            s.reason as u64,
+        );
     }
     saying::say(line, b" another speed")
+}
+
+// A raw value that vehicle 1 sends as a speed.
+fn speeds(name: &[u8], raw: u64) {
+    let mut store = [0u8; STORE];
+    heard_at(&mut store, 0, 0, raw, 0);
+    saying::print(say_shown(saying::say(saying::empty(), name), &store));
 }
 
 pub fn run() {
@@ -152,7 +194,7 @@ pub fn run() {
     reads(b"(i)", 0x10, 0x40, 1000, 999);
     let mut store = [0u8; STORE];
     marshals(b"(k)", &store, 5000);
-    heard_at(&mut store, 0x10, 0x40, 0);
+    heard_at(&mut store, 0x10, 0x40, 0, 0);
     marshals(b"(j)", &store, 5000);
-    saying::print(say_speed(saying::say(saying::empty(), b"(l)"), 16384));
+    speeds(b"(l)", 16384);
 }

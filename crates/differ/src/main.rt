@@ -10,6 +10,7 @@ use gateway::Pair;
 use gateway::Pairing;
 use gateway::ReadOutcome;
 use gateway::STORE;
+use gateway::Shown;
 use gateway::VEHICLES;
 use libc::STDOUT_FILENO;
 use saying::Clock;
@@ -27,6 +28,8 @@ struct Side {
     reason: u8,
     // 0 for none
     serial: usize,
+    // in its unit
+    shown: Shown,
 }
 
 // What judging a list gives the program to go on with.
@@ -74,18 +77,21 @@ VEHICLE PLACE VALUE REASON | VALUE REASON,  the first list on the left. Signals
 of the two are matched by type and start. A line on which value, reason or width
 differ, or that only one list has, begins with *. A line behind each vehicle
 counts those of it, the last line all of them: `differ: 7 of 498 lines`. With
-the word `only` the other lines are left out.
+the word `only` the other lines are left out. What `believe` shows in a unit
+stands at the end of its line, of both lists, as `(160 km/h | 0 km/h)`, with a
+dash for one that has no such signal.
 With the word `table` it prints a line of names, then a line for each signal,
-each of 14 columns with a tab between: vehicle, its telegram, version and age
+each of 17 columns with a tab between: vehicle, its telegram, version and age
 (or `expired`; a dash each where it was never heard), type, start, differs (1 or
 0), then width, value and reason of the first list and of the second (a dash
-where a list has no such signal), and the vehicle's gap.
+where a list has no such signal), the vehicle's gap, and shown_1, shown_2 and
+unit, which are the two values in their unit and that unit (a dash for none).
 With the words `first-form2` and `second-form2` that list is in form 2: each
 PLACE has the signal's serial number behind it, as `(4.3)`, or, where the two
 lists have different ones, both, as `(4.3, no serial number)`. No answer differs
-by that, and it alone puts no * before a line. The table has two columns more,
-serial_1 and serial_2, with a dash for none. `convert help` says how a serial
-number is printed. The words may be combined, in any order.
+by that, and it alone puts no * before a line. The table has two columns more
+behind the gap, serial_1 and serial_2, with a dash for none. `convert help` says
+how a serial number is printed. The words may be combined, in any order.
 `believe help` lists the reasons. Bad input gets one line that begins with
 `refused` and the number of document 01, or with `error`.
 The exit status is as of `diff`: 0 no difference, 1 differences, 2 bad input.
@@ -102,6 +108,7 @@ fn missing() -> Side {
         value: 0,
         reason: 0,
         serial: 0,
+        shown: words::not_scaled(),
     }
 }
 
@@ -124,6 +131,7 @@ fn side_at(list: &[u8], form: u8, store: &[u8], clock: u32, vehicle: usize, k: u
         value: r.value,
         reason: r.reason,
         serial: words::serial_at(list, form, k),
+        shown: words::shown_at(list, form, store, clock, vehicle, k, s),
     }
 }
 
@@ -188,7 +196,10 @@ fn print_pair(page: &mut Page, mark: u8, asked: Asked, place: Side, a: Side, b: 
     let l = say_signal(saying::say(l, b"  "), asked, place, a, b);
     let l = saying::pad(say_side(l, asked.left, a), bar(asked.left));
     let l = say_side(saying::say(l, b"|"), asked.right, b);
-    saying::add(page, say_widths(l, a, b));
+    let l = say_widths(l, a, b);
+    let first = a.shown;
+    let second = b.shown;
+    saying::add(page, words::say_both_shown(l, first, second));
 }
 
 fn say_columns(line: Line, side: Side) -> Line {
@@ -221,7 +232,10 @@ fn print_row(
     let l = words::say_gap_tab(l, store, asked.vehicle);
     let form = form_of_table(asked);
     let l = words::say_serial_tab(l, form, a.serial);
-    saying::add(page, words::say_serial_tab(l, form, b.serial));
+    let l = words::say_serial_tab(l, form, b.serial);
+    let first = a.shown;
+    let second = b.shown;
+    saying::add(page, words::say_both_shown_tabs(l, first, second));
 }
 
 fn more(n: u64) -> u64 {
@@ -444,7 +458,8 @@ fn print_names(page: &mut Page, form: u8) {
     );
     let l = saying::say(l, b"\twidth_1\tvalue_1\treason_1");
     let l = saying::say(l, b"\twidth_2\tvalue_2\treason_2\tgap");
-    saying::add(page, words::say_serial_name(l, form, b"serial_1\tserial_2"));
+    let l = words::say_serial_name(l, form, b"serial_1\tserial_2");
+    saying::add(page, saying::say(l, b"\tshown_1\tshown_2\tunit"));
 }
 
 // What stands above the lines: the two lists, or the names of the columns.

@@ -15,7 +15,7 @@ use Rattle.paper.specs.Store.{taking, gapping, sweeping}
 use Rattle.paper.specs.Reading.{Reading, reading}
 use Rattle.paper.specs.Marshalling.{Marshalled, marshalling}
 use Rattle.paper.specs.Composing.{composing}
-use Rattle.paper.specs.Shown.{Kind, Shown, showing}
+use Rattle.paper.specs.Shown.{Kind, ShownReading, showing}
 use Rattle.paper.specs.Train.{Vehicle, Members, resolving}
 use Rattle.paper.specs.ETelegrams.{EReading, eReading, answering}
 use Rattle.paper.proofs.RefusalLaws as laws
@@ -58,7 +58,7 @@ place-given = laws.zero-given (λ a. placeC a .refusal) (λ a. refl) (λ n at. r
 pub reading-given : (a : Answer Reading) → Numbered a → (readingC a .refusal ≡ 0) ↔ Given a
 reading-given = laws.zero-given (λ a. readingC a .refusal) (λ a. refl) (λ n at. refl)
 
-pub shown-given : (a : Answer Shown) → Numbered a → (shownC a .refusal ≡ 0) ↔ Given a
+pub shown-given : (a : Answer ShownReading) → Numbered a → (shownC a .refusal ≡ 0) ↔ Given a
 shown-given = laws.zero-given (λ a. shownC a .refusal) (λ a. refl) (λ n at. refl)
 
 pub members-given : (a : Answer Members) → Numbered a → (membersC a .refusal ≡ 0) ↔ Given a
@@ -127,8 +127,9 @@ gap-given store v = gap-c-given _ (laws.numbered-gapping store v)
 pub read-given : (form : ℕ) (xs store : List ℕ) (now v k : ℕ) → (readingC (reading form xs store now v k) .refusal ≡ 0) ↔ Given (reading form xs store now v k)
 read-given form xs store now v k = reading-given _ (laws.numbered-reading form xs store now v k)
 
-pub show-given : (kind : Kind) (width raw : ℕ) → (shownC (showing kind width raw) .refusal ≡ 0) ↔ Given (showing kind width raw)
-show-given kind width raw = shown-given _ (laws.numbered-showing kind width raw)
+pub show-given : (form : ℕ) (xs store : List ℕ) (now v k : ℕ) (kind : Kind)
+    → (shownC (showing form xs store now v k kind) .refusal ≡ 0) ↔ Given (showing form xs store now v k kind)
+show-given form xs store now v k kind = shown-given _ (laws.numbered-showing form xs store now v k kind)
 
 pub resolve-given : (train : List Vehicle) (a : ℕ) → (membersC (resolving train a) .refusal ≡ 0) ↔ Given (resolving train a)
 resolve-given train a = members-given _ (laws.numbered-resolving train a)

@@ -1,15 +1,16 @@
 -- What crosses the boundary for each of the paper's answers: the refusal's number and what it carries, or 0 and the values.
 use Prim.Native.Nat.{ℕ}
 use mathlib.Core.Path.{_≡_}
-use mathlib.Core.Bool.{Bool, true, false}
+use mathlib.Core.Bool.{Bool, true, false, cond}
 use mathlib.Core.List.{List}
+use lib.Dec.{eqb}
 use lib.Ieee.{Float, binary32, ofBits}
 use Rattle.paper.specs.Answer.{Answer, gives, refused, after, forget, mapAnswer}
 use Rattle.paper.specs.SignalList.{Counts, OfTwo, ofBoth, firstRefused, secondRefused}
 use Rattle.paper.specs.Pairs.{Entry}
 use Rattle.paper.specs.Reading.{Reading}
 use Rattle.paper.specs.Marshalling.{Marshalled}
-use Rattle.paper.specs.Shown.{Shown, asCode, asSpeed, asPercentage, asCurrent}
+use Rattle.paper.specs.Shown.{Kind, code, speed, percentage, signedPercentage, current, Shown, asCode, asSpeed, asPercentage, asCurrent, ShownReading}
 use Rattle.paper.specs.Train.{Members}
 use Rattle.paper.specs.ETelegrams.{EReading}
 use Rattle.dustferrule.specs.declared.DfOutcome.{DfOutcome}
@@ -85,6 +86,24 @@ abbrev pub readingC : Answer Reading → DfReading
 readingC (gives r) = record { refusal = 0; reason = r .reason; carried = 0; value = r .value }
 readingC (refused n at) = record { refusal = n; reason = 0; carried = at; value = 0 }
 
+-- C-23, the kinds by number: 1 speed, 2 percentage, 3 two's complement, 4 current; every other number shows the code
+abbrev pub kindNumbered : ℕ → Kind
+kindNumbered n = cond (eqb n 1) speed (cond (eqb n 2) percentage (cond (eqb n 3) signedPercentage (cond (eqb n 4) current code)))
+
+-- the whole number of a code; a scaled reading has none
+abbrev pub codeOf : Shown → ℕ
+codeOf (asCode c) = c
+codeOf (asSpeed x) = 0
+codeOf (asPercentage x) = 0
+codeOf (asCurrent x) = 0
+
+-- 0 a code, 1 km/h, 2 %, 3 A
+abbrev pub unitOf : Shown → ℕ
+unitOf (asCode c) = 0
+unitOf (asSpeed x) = 1
+unitOf (asPercentage x) = 2
+unitOf (asCurrent x) = 3
+
 -- the f32 of a scaled reading; a code has none
 abbrev pub floatOf : Shown → Float
 floatOf (asCode c) = ofBits binary32 0
@@ -92,9 +111,10 @@ floatOf (asSpeed x) = x
 floatOf (asPercentage x) = x
 floatOf (asCurrent x) = x
 
-abbrev pub shownC : Answer Shown → DfShown
-shownC (gives s) = record { refusal = 0; value = floatOf s }
-shownC (refused n at) = record { refusal = n; value = ofBits binary32 0 }
+abbrev pub shownC : Answer ShownReading → DfShown
+shownC (gives s) =
+    record { refusal = 0; reason = s .reason; carried = 0; code = codeOf (s .shown); unit = unitOf (s .shown); value = floatOf (s .shown) }
+shownC (refused n at) = record { refusal = n; reason = 0; carried = at; code = 0; unit = 0; value = ofBits binary32 0 }
 
 abbrev pub membersC : Answer Members → DfMembers
 membersC (gives m) = record { refusal = 0; size = m .size; set = m .set }

@@ -13,7 +13,7 @@ ghost use Rattle.paper.specs.Store.{taking, gapping, sweeping};
 ghost use Rattle.paper.specs.Reading.{reading};
 ghost use Rattle.paper.specs.Marshalling.{marshalling};
 ghost use Rattle.paper.specs.Composing.{composing};
-ghost use Rattle.paper.specs.Shown.{asCode, code, speed, percentage, signedPercentage, current, showing};
+ghost use Rattle.paper.specs.Shown.{showing};
 ghost use Rattle.paper.specs.Train.{resolving};
 ghost use Rattle.paper.specs.ETelegrams.{eReading, answering};
 ghost use Rattle.refusals.specs.Refusal.{numberOf, carriedOf};
@@ -29,7 +29,7 @@ ghost use Rattle.reading.specs.Reading.{readAnswer};
 ghost use Rattle.shown.specs.Show.{kindOf, shownOf, showingAnswer};
 ghost use Rattle.train.specs.Marks.{vehicleOf, resolvedAnswer};
 ghost use Rattle.etelegrams.specs.Answers.{eReadAnswer};
-ghost use Rattle.dustferrule.specs.Results.{yesNo, floatOf, outcomeC, judgedC, extendingC, entryC, foundC, serialC, gapC, livesC, placeC, readingC, shownC, membersC, eReadC, WrittenC, DeliveredC};
+ghost use Rattle.dustferrule.specs.Results.{yesNo, kindNumbered, codeOf, unitOf, floatOf, outcomeC, judgedC, extendingC, entryC, foundC, serialC, gapC, livesC, placeC, readingC, shownC, membersC, eReadC, WrittenC, DeliveredC};
 use gateway::ERead;
 use gateway::EntryOutcome;
 use gateway::ExtendsOutcome;
@@ -133,6 +133,10 @@ pub struct DfReading {
 #[repr(C)]
 pub struct DfShown {
     pub refusal: u32,
+    pub reason: u32,
+    pub carried: u64,
+    pub code: u64,
+    pub unit: u32,
     pub value: f32,
 }
 
@@ -365,6 +369,42 @@ fn reading_c(o: ReadOutcome) -> DfReading
     }
 }
 
+// The kind by its number: any but 1 to 4 is the code.
+fn kind_of(n: u8) -> Kind
+    ensures { λ r. ⌜ kindOf r ≡ kindNumbered n ⌝ }
+{
+    match n {
+        1 => Kind::Speed,
+        2 => Kind::Percentage,
+        3 => Kind::SignedPercentage,
+        4 => Kind::Current,
+        _ => Kind::Code,
+    }
+}
+
+fn code_of(s: Shown) -> u64
+    ensures { λ r. ⌜ r ≡ codeOf (shownOf s) ⌝ }
+{
+    match s {
+        Shown::Code(c) => c,
+        Shown::Speed(_) => 0,
+        Shown::Percentage(_) => 0,
+        Shown::Current(_) => 0,
+    }
+}
+
+// 0 a code, 1 km/h, 2 %, 3 A.
+fn unit_of(s: Shown) -> u32
+    ensures { λ r. ⌜ r ≡ unitOf (shownOf s) ⌝ }
+{
+    match s {
+        Shown::Code(_) => 0,
+        Shown::Speed(_) => 1,
+        Shown::Percentage(_) => 2,
+        Shown::Current(_) => 3,
+    }
+}
+
 fn float_of(s: Shown) -> f32
     ensures { λ r. ⌜ r ≡ floatOf (shownOf s) ⌝ }
 {
@@ -376,16 +416,27 @@ fn float_of(s: Shown) -> f32
     }
 }
 
-fn shown_c(s: Showing) -> DfShown
-    ensures { λ r. ⌜ r ≡ shownC (showingAnswer s) ⌝ }
+fn shown_c(o: Showing) -> DfShown
+    ensures { λ r. ⌜ r ≡ shownC (showingAnswer o) ⌝ }
 {
-    match s {
-        Showing::Shown(x) => DfShown {
-            refusal: 0,
-            value: float_of(x),
-        },
+    match o {
+        Showing::Shown(x) => {
+            let s = x.shown;
+            DfShown {
+                refusal: 0,
+                reason: x.reason as u32,
+                carried: 0,
+                code: code_of(s),
+                unit: unit_of(s),
+                value: float_of(s),
+            }
+        }
         Showing::Refused(f) => DfShown {
             refusal: number(f),
+            reason: 0,
+            carried: carried(f),
+            code: 0,
+            unit: 0,
             value: 0.0,
         },
     }
@@ -551,46 +602,27 @@ pub extern "C" fn df_compose(
     outcome_c(gateway::compose(list, form, kind as usize, values, marks, out))
 }
 
-// A code is shown as itself: nothing is refused.
 #[no_mangle]
-pub extern "C" fn df_show_code(raw: u64) -> u64
-    ensures { λ r. ⌜ (r ≡ raw) × (gives (asCode r) ≡ showing code 0 raw) ⌝ }
+pub extern "C" fn df_show(
+    list: &[u8],
+    form: u8,
+    store: &[u8],
+    clock: u32,
+    vehicle: u64,
+    signal: u64,
+    kind: u8,
+) -> DfShown
+    ensures { λ r. ⌜ r ≡ shownC (showing form (now (list .entry)) (now (store .entry)) clock vehicle signal (kindNumbered kind)) ⌝ }
 {
-    raw
-}
-
-fn scaled_c(kind: Kind, width: u64, raw: u64) -> DfShown
-    ensures { λ r. ⌜ r ≡ shownC (showing (kindOf kind) width raw) ⌝ }
-{
-    shown_c(gateway::show(kind, width, raw))
-}
-
-#[no_mangle]
-pub extern "C" fn df_show_speed(width: u64, raw: u64) -> DfShown
-    ensures { λ r. ⌜ r ≡ shownC (showing speed width raw) ⌝ }
-{
-    scaled_c(Kind::Speed, width, raw)
-}
-
-#[no_mangle]
-pub extern "C" fn df_show_percentage(width: u64, raw: u64) -> DfShown
-    ensures { λ r. ⌜ r ≡ shownC (showing percentage width raw) ⌝ }
-{
-    scaled_c(Kind::Percentage, width, raw)
-}
-
-#[no_mangle]
-pub extern "C" fn df_show_signed_percentage(width: u64, raw: u64) -> DfShown
-    ensures { λ r. ⌜ r ≡ shownC (showing signedPercentage width raw) ⌝ }
-{
-    scaled_c(Kind::SignedPercentage, width, raw)
-}
-
-#[no_mangle]
-pub extern "C" fn df_show_current(width: u64, raw: u64) -> DfShown
-    ensures { λ r. ⌜ r ≡ shownC (showing current width raw) ⌝ }
-{
-    scaled_c(Kind::Current, width, raw)
+    shown_c(gateway::show(
+        list,
+        form,
+        store,
+        clock,
+        vehicle as usize,
+        signal as usize,
+        kind_of(kind),
+    ))
 }
 
 #[no_mangle]

@@ -49,6 +49,7 @@ pub use refusals::number;
 pub use shown::Kind;
 pub use shown::Showing;
 pub use shown::Shown;
+pub use shown::ShownReading;
 pub use shown::show;
 pub use store::GapOutcome;
 pub use store::Held;

@@ -14,6 +14,7 @@ use gateway::STORE;
 use gateway::Signal;
 use libc::STDOUT_FILENO;
 use saying::Clock;
+use saying::Line;
 use saying::Page;
 use words::Written;
 
@@ -47,33 +48,30 @@ DATA      up to 4096 octets, long enough for every route; a signal list is not
 
 Prints `marshalled 14 routes, 11 live`; live are the reasons 0 and 1. With the
 word `routes` it prints above that a line for each route,
-ROUTE FIELD-OF-DATA VEHICLE PLACE VALUE REASON.
+ROUTE FIELD-OF-DATA VEHICLE PLACE VALUE REASON.  What `believe` shows in a unit
+is shown in it here too, as `(160 km/h)`.
 With the word `table` it prints instead a line of names, then a line for each
-route, each of nine columns with a tab between: route, data_start, vehicle,
-signal, type, start, width, value, reason.
+route, each of eleven columns with a tab between: route, data_start, vehicle,
+signal, type, start, width, value, reason, and shown and unit, which are the
+value in its unit and that unit (a dash each where it has none).
 With the word `form2` LIST is in form 2: each PLACE has the serial number of the
-signal behind it, as `(4.3)` or `(no serial number)`, and the table a tenth
-column, serial, with a dash for none. `convert help` says how one is printed.
+signal behind it, as `(4.3)` or `(no serial number)`, and the table a column
+more behind the reason, serial, with a dash for none. `convert help` says how
+one is printed.
 `believe help` lists the reasons.
 Where nothing was marshalled it prints one line that begins with `refused` and
-the number of document 01, or with `error`, and DATA is as it was. It is replaced
-whole, by way of DATA.new, with its owner and mode but without access lists;
-links stay; one that is read-only or has hard links is an error. DATA.lock names
-the process at work: others wait, and where it holds on for five seconds their
-line begins with `error: busy`. What a killed one left is taken away.
+the number of document 01, or with `error`, and DATA is as it was. It is
+replaced whole, by way of DATA.new, with its owner and mode but without access
+lists; links stay; one that is read-only or has hard links is an error.
+DATA.lock names the process at work: others wait, and where it holds on for five
+seconds their line begins with `error: busy`. What a killed one left is taken
+away.
 ",
     );
 }
 
-fn print_row(
-    page: &mut Page,
-    order: Order,
-    r: usize,
-    t: Route,
-    s: Signal,
-    serial: usize,
-    x: Reading,
-) {
+// A route as a row of the table, and as a line for people, up to what its signal is in its unit.
+fn row_of(order: Order, r: usize, t: Route, s: Signal, serial: usize, x: Reading) -> Line {
     let l = saying::say_tab(
         saying::say_number(saying::empty(), r as u64),
         t.start as u64,
@@ -82,23 +80,15 @@ fn print_row(
     let l = words::say_telegram(saying::put(l, b'\t'), s.kind);
     let l = saying::say_tab(saying::say_tab(l, s.start as u64), s.width as u64);
     let l = saying::say_tab(saying::say_tab(l, x.value), x.reason as u64);
-    saying::add(page, words::say_serial_tab(l, order.form, serial));
+    words::say_serial_tab(l, order.form, serial)
 }
 
-fn print_route(
-    page: &mut Page,
-    order: Order,
-    r: usize,
-    t: Route,
-    s: Signal,
-    serial: usize,
-    x: Reading,
-) {
+fn line_of(order: Order, r: usize, t: Route, s: Signal, serial: usize, x: Reading) -> Line {
     let l = saying::say(saying::say_right(saying::empty(), 3, r as u64), b"  ");
     let l = saying::say_right(words::say_field(l, t.start, s.width), 36, t.vehicle as u64);
     let l = words::say_signal(saying::say(l, b"  "), order.form, s, serial);
     let l = saying::say(saying::say_right(l, order.column, x.value), b"  ");
-    saying::add(page, words::say_reason(l, x.reason));
+    words::say_reason(l, x.reason)
 }
 
 fn one_route(page: &mut Page, list: &[u8], store: &[u8], order: Order, r: usize, t: Route) {
@@ -112,10 +102,14 @@ fn one_route(page: &mut Page, list: &[u8], store: &[u8], order: Order, r: usize,
     };
     let s = e.signal;
     let serial = words::serial_at(list, order.form, t.signal);
+    let form = order.form;
+    let shown = words::shown_at(list, form, store, order.clock, t.vehicle, t.signal, s);
     if order.table {
-        print_row(page, order, r, t, s, serial, x);
+        let l = row_of(order, r, t, s, serial, x);
+        saying::add(page, words::say_shown_tabs(l, shown));
     } else {
-        print_route(page, order, r, t, s, serial, x);
+        let l = line_of(order, r, t, s, serial, x);
+        saying::add(page, words::say_shown(l, shown));
     }
 }
 
@@ -155,7 +149,8 @@ fn print_count(page: &mut Page, n: Counts, live: usize) {
 fn print_names(page: &mut Page, form: u8) {
     let l = saying::say(saying::empty(), b"route\tdata_start\tvehicle\tsignal");
     let l = saying::say(l, b"\ttype\tstart\twidth\tvalue\treason");
-    saying::add(page, words::say_serial_name(l, form, b"serial"));
+    let l = words::say_serial_name(l, form, b"serial");
+    saying::add(page, saying::say(l, b"\tshown\tunit"));
 }
 
 fn print_done(list: &[u8], n: Counts, store: &[u8], order: Order, live: usize) {

@@ -8,11 +8,11 @@ use native.Mathlib.Omega.{arith}
 use Rattle.paper.specs.Answer.{Answer, gives, refused, refuseIf, andThen, shift, mapAnswer, forget, Given, Numbered}
 use Rattle.paper.specs.Telegrams.{Row, covers, rows, placeIn, checkPlace}
 use Rattle.paper.specs.SignalList
-use Rattle.paper.specs.SignalList.{Counts, judge, judgeTo, OfTwo, ofTwo, firstRefused, secondRefused, NumberedTwo}
+use Rattle.paper.specs.SignalList.{Counts, judge, judgeTo, listOf, OfTwo, ofTwo, firstRefused, secondRefused, NumberedTwo}
 use Rattle.paper.specs.Forms.{serialOf, toForm2, toForm1}
 use Rattle.paper.specs.Pairs.{entryOf, finding}
 use Rattle.paper.specs.Store.{taking, gapping, sweeping}
-use Rattle.paper.specs.Reading.{reading}
+use Rattle.paper.specs.Reading.{reading, readingBy}
 use Rattle.paper.specs.Marshalling.{marshalling}
 use Rattle.paper.specs.Composing.{composing}
 use Rattle.paper.specs.Shown.{Kind, showing}
@@ -145,9 +145,13 @@ numbered-composing form xs type values marks room =
     numbered-if _ 9 _ _ (omega arith) (numbered-if _ 13 _ _ (omega arith) (numbered-if _ 14 _ _ (omega arith)
     (numbered-if _ 15 _ _ (omega arith) (numbered-if _ 16 _ _ (omega arith) (numbered-gives _))))))
 
-pub numbered-showing : (kind : Kind) (width raw : ℕ) → Numbered (showing kind width raw)
+pub numbered-showing : (form : ℕ) (xs store : List ℕ) (now v k : ℕ) (kind : Kind) → Numbered (showing form xs store now v k kind)
 unfolding showing
-numbered-showing kind width raw = numbered-if _ 26 _ _ (omega arith) (numbered-gives _)
+numbered-showing form xs store now v k kind =
+    numbered-under form xs _ (λ n.
+    numbered-then (readingBy store now v k (listOf xs n)) _
+    (numbered-if _ 5 _ _ (omega arith) (numbered-if _ 6 _ _ (omega arith) (numbered-if _ 11 _ _ (omega arith) (numbered-gives _))))
+    (λ r. numbered-if _ 26 _ _ (omega arith) (numbered-gives _)))
 
 pub numbered-resolving : (train : List Vehicle) (a : ℕ) → Numbered (resolving train a)
 unfolding resolving

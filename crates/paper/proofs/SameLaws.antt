@@ -12,6 +12,7 @@ use Rattle.paper.specs.Forms.{signalsStart, signalCount, dropped, offset
 use Rattle.paper.specs.Extends.{extends, extendsLists}
 use Rattle.paper.specs.Pairs.{entryBy, entryOf, routeEntryBy, routeEntry, findingBy, finding, nextPair, pairing}
 use Rattle.paper.specs.Reading.{readingBy, reading}
+use Rattle.paper.specs.Shown.{Kind, showingBy, showing}
 use Rattle.paper.specs.Marshalling.{marshallingBy, marshalling}
 use Rattle.paper.specs.Composing.{composingBy, composing}
 use Rattle.paper.proofs.BrokenLaws.{fault-exactly}
@@ -33,6 +34,10 @@ module _ (xs : List ℕ) (n : Counts) (e : judge 2 xs ≡ gives n) where
   pub reads-same : (store : List ℕ) (now v k : ℕ) → reading 2 xs store now v k ≡ reading 1 (dropped xs) store now v k
   unfolding reading
   reads-same store now v k = same-answers xs n (readingBy store now v k) e
+
+  pub shows-same : (store : List ℕ) (now v k : ℕ) (kind : Kind) → showing 2 xs store now v k kind ≡ showing 1 (dropped xs) store now v k kind
+  unfolding showing
+  shows-same store now v k kind = same-answers xs n (showingBy store now v k kind) e
 
   pub marshals-same : (store : List ℕ) (now : ℕ) (bus : List ℕ) → marshalling 2 xs store now bus ≡ marshalling 1 (dropped xs) store now bus
   unfolding marshalling

@@ -21,6 +21,13 @@ listL =
 unfoldable pub listL2 : ℕ → List ℕ
 listL2 serial = take 22 listL ++ (octetsOf 2 serial ++ drop 22 listL)
 
+-- C-23: a list of one speed, R1 octets 51-52, no check, 5,000 ms, with this width and replacement
+unfoldable pub listV : ℕ → ℕ → List ℕ
+listV width replacement =
+    0x00 ∷ 0x00
+    ∷ 0x00 ∷ 0x01 ∷ 0x01 ∷ 0x90 ∷ width ∷ 0x01 ∷ 0x00 ∷ 0x01 ∷ 0x00 ∷ 0x00 ∷ 0x13 ∷ 0x88 ∷ octetsOf 6 replacement
+    ++ (0x00 ∷ 0x00 ∷ 0x00 ∷ 0x00 ∷ [])
+
 -- "list ok checks=1 signals=1 codes=2 routes=1 version=1"
 abbrev pub countsL : Counts
 countsL = record { checks = 1; signals = 1; codes = 2; routes = 1; version = 1; size = 16 }

@@ -16,7 +16,7 @@ use Rattle.paper.specs.Store.{taking, gapping, sweeping}
 use Rattle.paper.specs.Reading.{Reading, Held, holding, reading}
 use Rattle.paper.specs.Marshalling.{marshalling}
 use Rattle.paper.specs.Composing.{composing}
-use Rattle.paper.specs.Shown.{Kind, Shown, asCode, asSpeed, asPercentage, asCurrent, showing}
+use Rattle.paper.specs.Shown.{Kind, Shown, ShownReading, asCode, asSpeed, asPercentage, asCurrent, showing}
 use Rattle.paper.specs.Train.{Vehicle, Members, resolving}
 use Rattle.paper.specs.ETelegrams.{EReading, eReading, answering}
 
@@ -98,8 +98,8 @@ pub data Question : Type 0 where
   marshalsIn : ℕ → List ℕ → List ℕ → ℕ → List ℕ → Question
   -- a list, a type, values, marks and an output; the elements of the output that are looked at afterwards
   composesIn : ℕ → List ℕ → ℕ → List ℕ → List ℕ → List ℕ → List ℕ → Question
-  -- a kind, a width and a raw value
-  shows : Kind → ℕ → ℕ → Question
+  -- a list, a store, the clock, a vehicle, a signal and a kind
+  showsIn : ℕ → List ℕ → List ℕ → ℕ → ℕ → ℕ → Kind → Question
   -- a consist and an address
   resolves : List Vehicle → ℕ → Question
   -- an E-telegram
@@ -131,6 +131,9 @@ pairs xs ys from = pairsIn 1 xs 1 ys from
 
 abbrev pub reads : List ℕ → List ℕ → ℕ → ℕ → ℕ → Question
 reads xs store now v k = readsIn 1 xs store now v k
+
+abbrev pub shows : List ℕ → List ℕ → ℕ → ℕ → ℕ → Kind → Question
+shows xs store now v k kind = showsIn 1 xs store now v k kind
 
 abbrev pub marshals : List ℕ → List ℕ → ℕ → List ℕ → Question
 marshals xs store now bus = marshalsIn 1 xs store now bus
@@ -192,6 +195,10 @@ ofShown (asSpeed x) = 1 ∷ toBits binary32 x ∷ []
 ofShown (asPercentage x) = 2 ∷ toBits binary32 x ∷ []
 ofShown (asCurrent x) = 3 ∷ toBits binary32 x ∷ []
 
+-- and the reason
+abbrev pub ofShownReading : ShownReading → List ℕ
+ofShownReading s = ofShown (s .shown) ++ (s .reason ∷ [])
+
 abbrev pub ofMembers : Members → List ℕ
 ofMembers m = m .set ∷ m .size ∷ []
 
@@ -230,7 +237,7 @@ ask (marshalsIn form xs store now bus) =
     let a = marshalling form xs store now bus in
     said (λ m. m .lives ∷ []) a ++ after bus (mapAnswer (λ m. m .octets) a)
 ask (composesIn form xs type values marks out at) = wrote out (composing form xs type values marks (length out)) at
-ask (shows kind width raw) = said ofShown (showing kind width raw)
+ask (showsIn form xs store now v k kind) = said ofShownReading (showing form xs store now v k kind)
 ask (resolves train a) = said ofMembers (resolving train a)
 ask (eReads telegram) = said ofERead (eReading telegram)
 ask (eAnswers telegram head status out) = wroteAll out (answering telegram head status out)

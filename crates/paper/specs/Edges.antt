@@ -18,8 +18,8 @@ use Rattle.paper.specs.Composing.{headed, composed, markFits, valueFits,
 use Rattle.paper.specs.Shown.{speed, showing}
 use Rattle.paper.specs.Train.{noVehicle, consistRule, meets, member, setTo, membersOf, resolving}
 use Rattle.paper.specs.ETelegrams.{requests, isRequest, isReport, eReading, answerTo, answering}
-use Rattle.paper.specs.Bench.{listL, listL2}
-use Rattle.paper.specs.Marked.{telegram, silent, heardAt}
+use Rattle.paper.specs.Bench.{listL, listL2, listV}
+use Rattle.paper.specs.Marked.{telegram, silent, heardAt, rawAt}
 use Rattle.paper.specs.Cases.{joined, made, made2, signal, code, route, Question, judges, judgesIn, serialsIn, movesTo2, movesTo1, places, takes, gaps, sweeps, reads, marshals, composes, shows, resolves, eReads, gave, refuses, ask}
 
 pub record Edge : Type 0 where
@@ -254,8 +254,9 @@ edges =
     ∷ between (composesWide 64) 0xFFFFFFFFFFFFFFFF (gave []) 0x10000000000000000 (refuses 15 0)
     ∷ between (λ n. composes listL 1 (0 ∷ []) (1 ∷ []) (replicate n 0) []) 128 (gave []) 127 (refuses 16 0)
     -- shown; the grouping; the train; E-telegrams
-    ∷ between (λ w. shows speed w 64) 16 (gave (1 ∷ 0x3F800000 ∷ [])) 15 (refuses 26 0)
-    ∷ between (λ raw. shows speed 16 raw) 65535 (gave (1 ∷ 0x447FFF00 ∷ [])) 65536 (refuses 26 0)
+    ∷ between (λ w. shows (listV w 0) (rawAt 128) 5000 1 0 speed) 16 (gave (1 ∷ 0x40000000 ∷ 0 ∷ [])) 15 (refuses 26 0)
+    ∷ between (λ w. shows (listV w 0) (rawAt 128) 5000 1 0 speed) 16 (gave (1 ∷ 0x40000000 ∷ 0 ∷ [])) 17 (refuses 26 0)
+    ∷ between (λ raw. shows (listV 16 0) (rawAt raw) 5000 1 0 speed) 65535 (gave (1 ∷ 0x447FFF00 ∷ 0 ∷ [])) 0 (gave (1 ∷ 0 ∷ 0 ∷ []))
     ∷ between places 368 (gave (320 ∷ [])) 367 (refuses 27 0)
     ∷ between places 583 (gave (352 ∷ [])) 584 (refuses 27 0)
     ∷ between (λ n. resolves (replicate n noVehicle) 1) 1 (gave (2 ∷ 1 ∷ [])) 0 (refuses 17 0)
@@ -270,7 +271,7 @@ edges =
 
 -- the one computed test: the table with its answers worked out is the table
 pub at-each-edge : map (λ e. edge (e .at) (ask (e .at)) (e .past) (ask (e .past))) edges ≡ edges
-unfolding edges evens joined made made2 ask listL listL2 serialAt serialOf narrowed droppedFrom dropped spread widenedFrom widened toForm2 toForm1 telegram silent heardAt bit field withBit setBit put puts number octetsOf over refuseIf firstFrom firstBad all
+unfolding edges evens joined made made2 ask listL listL2 listV rawAt serialAt serialOf narrowed droppedFrom dropped spread widenedFrom widened toForm2 toForm1 telegram silent heardAt bit field withBit setBit put puts number octetsOf over refuseIf firstFrom firstBad all
     some count greatest applicationType telegramType versionOf rows placeIn SignalList.checkAt SignalList.signalSize SignalList.signalAt SignalList.among SignalList.codeAt SignalList.routeAt
     SignalList.checkRule SignalList.signalRuleTo SignalList.codeRule SignalList.routeRule SignalList.opening SignalList.judgeEntries SignalList.judgeSection
     SignalList.greatestSince SignalList.ending SignalList.fromRoutes SignalList.fromCodes SignalList.fromSignalsTo judgeTo hasCodes inRange knownIn knows

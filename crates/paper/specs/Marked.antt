@@ -1,6 +1,6 @@
 -- Document 01, "Bench examples": the marked cases (a) to (l), a single table under a single proof. A row is the inputs and the expected
 -- answer; the answers are those of the definitions that the public contracts cite.
-use Prim.Native.Nat.{ℕ}
+use Prim.Native.Nat.{ℕ, _/_, _%_}
 use mathlib.Core.Path.{_≡_, refl, sym, ap₂, _∙_}
 use mathlib.Core.List.{List, [], _∷_, map}
 use lib.ListN.{getD, set, replicate, List·getD-map}
@@ -15,8 +15,8 @@ use Rattle.paper.specs.Store.{storeOctets, slotOf, taken, taking, age}
 use Rattle.paper.specs.Reading.{Reading, heard, markOf, codeOf, hindrances, reasonOf, readingOf, readingAt, reading}
 use Rattle.paper.specs.Marshalling.{Marshalled, routed, marshalled, live, marshalling}
 use Rattle.paper.specs.Composing.{headed, composed, markFits, valueFits, composing}
-use Rattle.paper.specs.Shown.{speed, Shown, asSpeed, showing}
-use Rattle.paper.specs.Bench.{listL}
+use Rattle.paper.specs.Shown.{speed, Shown, asSpeed, shownAs, ShownReading, showing}
+use Rattle.paper.specs.Bench.{listL, listV}
 
 -- "Vehicle 1 sends R1, version 1", with these octets 41 and 54
 unfoldable pub telegram : ℕ → ℕ → List ℕ
@@ -28,6 +28,10 @@ silent = replicate storeOctets 0
 unfoldable pub heardAt : ℕ → ℕ → ℕ → List ℕ
 heardAt o41 o54 stamp = after silent (taking silent 1 stamp (telegram o41 o54))
 
+-- vehicle 1 sends R1, version 1, at 0, with a raw value in octets 51 and 52
+unfoldable pub rawAt : ℕ → List ℕ
+rawAt raw = after silent (taking silent 1 0 (set (set (0x11 ∷ 0x01 ∷ replicate 126 0) 50 (raw / 256)) 51 (raw % 256)))
+
 -- what is asked
 pub data Question : Type 0 where
   -- octets 41 and 54, stamp and now: signal 0 of vehicle 1 read under L
@@ -38,22 +42,24 @@ pub data Question : Type 0 where
   marshals : ℕ → ℕ → ℕ → ℕ → ℕ → Question
   -- an octet of vehicle bus data: marshalled under L, with vehicle 1 never heard
   unheard : ℕ → Question
-  -- a raw value of width 16: shown as a speed
-  speeds : ℕ → Question
+  -- a raw value of width 16: shown as a speed, by the definition alone, and read out of a store (C-23)
+  speeds shows : ℕ → Question
 
 -- what is answered
 pub data Response : Type 0 where
   readingIs : Answer Reading → Response
   ageIs : ℕ → Response
   octetsAre : Answer Marshalled → Response
-  shownIs : Answer Shown → Response
+  shownIs : Shown → Response
+  showsAs : Answer ShownReading → Response
 
 abbrev pub response : Question → Response
 response (reads o41 o54 stamp now) = readingIs (reading 1 listL (heardAt o41 o54 stamp) now 1 0)
 response (ages stamp now) = ageIs (age now stamp)
 response (marshals o41 o54 stamp now before) = octetsAre (marshalling 1 listL (heardAt o41 o54 stamp) now (before ∷ []))
 response (unheard before) = octetsAre (marshalling 1 listL silent 0 (before ∷ []))
-response (speeds raw) = shownIs (showing speed 16 raw)
+response (speeds raw) = shownIs (shownAs speed raw)
+response (shows raw) = showsAs (showing 1 (listV 16 0) (rawAt raw) 5000 1 0 speed)
 
 pub record Row : Type 0 where
   pub asked : Question
@@ -70,7 +76,10 @@ abbrev pub filled : ℕ → ℕ → Response
 filled octet lives = octetsAre (gives (record { octets = octet ∷ []; lives = lives }))
 
 abbrev pub kmh : ℕ → Response
-kmh bits = shownIs (gives (asSpeed (ofBits binary32 bits)))
+kmh bits = shownIs (asSpeed (ofBits binary32 bits))
+
+abbrev pub kmhRead : ℕ → ℕ → Response
+kmhRead bits reason = showsAs (gives (record { shown = asSpeed (ofBits binary32 bits); reason = reason }))
 
 unfoldable pub table : List Row
 table =
@@ -86,11 +95,12 @@ table =
     ∷ row (marshals 0x10 0x40 0 5000 0xAB) (filled 0x4B 1)  -- (j)
     ∷ row (unheard 0xAB) (filled 0x0B 0)  -- (k)
     ∷ row (speeds 16384) (kmh 0x43800000)  -- (l): 256.0
+    ∷ row (shows 16384) (kmhRead 0x43800000 0)  -- (l), by a list and a store
     ∷ []
 
 -- the one computed test: every row's answer is the expected one
 pub marked : map (λ r. response (r .asked)) table ≡ map (λ r. r .expected) table
-unfolding table telegram silent heardAt listL bit field withBit setBit put puts number octetsOf over refuseIf firstFrom firstBad all some count greatest applicationType telegramType versionOf SignalList.checkAt SignalList.signalSize SignalList.signalAt SignalList.among SignalList.codeAt SignalList.routeAt SignalList.checkRule SignalList.signalRuleTo SignalList.codeRule SignalList.routeRule SignalList.opening SignalList.judgeEntries SignalList.judgeSection SignalList.greatestSince SignalList.ending SignalList.fromRoutes SignalList.fromCodes SignalList.fromSignalsTo judgeTo hasCodes inRange knownIn knows placeOf slotOf taken taking age heard markOf codeOf hindrances reasonOf readingOf readingAt reading routed marshalled live marshalling showing ofBits round
+unfolding table telegram silent heardAt rawAt listL listV bit field withBit setBit put puts number octetsOf over refuseIf firstFrom firstBad all some count greatest applicationType telegramType versionOf SignalList.checkAt SignalList.signalSize SignalList.signalAt SignalList.among SignalList.codeAt SignalList.routeAt SignalList.checkRule SignalList.signalRuleTo SignalList.codeRule SignalList.routeRule SignalList.opening SignalList.judgeEntries SignalList.judgeSection SignalList.greatestSince SignalList.ending SignalList.fromRoutes SignalList.fromCodes SignalList.fromSignalsTo judgeTo hasCodes inRange knownIn knows placeOf slotOf taken taking age heard markOf codeOf hindrances reasonOf readingOf readingAt reading routed marshalled live marshalling showing ofBits round
 marked = refl
 
 -- so each row holds by its place

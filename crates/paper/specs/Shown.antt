@@ -1,10 +1,13 @@
--- Document 01, "Store, age and reading": a reading shown as a code, a speed in km/h, a percentage or a current.
+-- Document 01, "Store, age and reading": a reading shown as a code, a speed in km/h, a percentage or a current. Document 02, C-23: what it is asked by.
 use mathlib.Core.Path.{_≡_}
 use mathlib.Core.Bool.{Bool, true, false, not, cond, _&&_}
+use mathlib.Core.List.{List}
 use Prim.Native.Nat.{ℕ, zero, suc, _+_, _-_, _*_, _/_, _%_, _^_, _<_}
 use lib.Dec.{eqb, leb, ltb}
 use lib.Ieee.{Float, binary32, toBits, round}
-use Rattle.paper.specs.Answer.{Answer, gives, refuseIf}
+use Rattle.paper.specs.Answer.{Answer, gives, refuseIf, andThen}
+use Rattle.paper.specs.SignalList.{SignalList, underList}
+use Rattle.paper.specs.Reading.{Reading, readingBy}
 
 -- "a percentage .. unsigned or two's complement as asked"
 pub data Kind : Type 0 where
@@ -38,9 +41,25 @@ scaled percentage = true
 scaled signedPercentage = true
 scaled current = true
 
--- 26 "scaled kind, with width not 16 or raw above 65,535"
-unfoldable pub showing : Kind → ℕ → ℕ → Answer Shown
-showing kind width raw = refuseIf (scaled kind && not (eqb width 16 && leb raw 65535)) 26 0 (gives (shownAs kind raw))
+-- a reading as the kind asks, with its reason
+pub record ShownReading : Type 0 where
+  pub shown : Shown
+  pub reason : ℕ
+
+abbrev pub shownOf : Kind → Reading → ShownReading
+shownOf kind r = record { shown = shownAs kind (r .value); reason = r .reason }
+
+-- C-23: "26 then means only a scaled kind with width not 16"
+abbrev pub shownWidth : Kind → ℕ → Reading → Answer ShownReading
+shownWidth kind width r = refuseIf (scaled kind && not (eqb width 16)) 26 0 (gives (shownOf kind r))
+
+-- behind the refusals of reading
+abbrev pub showingBy : List ℕ → ℕ → ℕ → ℕ → Kind → SignalList → Answer ShownReading
+showingBy store now v k kind l = andThen (readingBy store now v k l) (shownWidth kind (l .signal k .width))
+
+-- "showing is asked for by list, store, clock, vehicle, signal and kind": 1-4, then 5, 6 and 11, then 26
+unfoldable pub showing : ℕ → List ℕ → List ℕ → ℕ → ℕ → ℕ → Kind → Answer ShownReading
+showing form xs store now v k kind = underList form xs (showingBy store now v k kind)
 
 -- ---- "Each is an exact f32 (zero is +0), and exactness is proved over whole numbers worked out from its bits."
 

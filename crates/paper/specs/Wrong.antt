@@ -24,11 +24,12 @@ use Rattle.paper.specs.Store.{slotHead, slotOctets, storeOctets, slotSta
 use Rattle.paper.specs.Reading.{heard, heldIn, holding, markOf, codeOf, hindrances, reasonOf, readingOf, readingAt, reading}
 use Rattle.paper.specs.Marshalling.{routed, marshalled, live, marshalling}
 use Rattle.paper.specs.Composing.{headed, composed, markFits, valueFits, composing}
-use Rattle.paper.specs.Shown.{speed, percentage, signedPercentage, showing}
+use Rattle.paper.specs.Shown.{Kind, speed, percentage, signedPercentage, showing}
+use Rattle.paper.specs.Shown as Shown
 use Rattle.paper.specs.Train.{Vehicle, consistRule, meets, member, setTo, membersOf, resolving}
 use Rattle.paper.specs.ETelegrams.{requests, isRequest, isReport, eReading, answerTo, answering}
-use Rattle.paper.specs.Bench.{listL, listL2}
-use Rattle.paper.specs.Marked.{telegram, silent, heardAt}
+use Rattle.paper.specs.Bench.{listL, listL2, listV}
+use Rattle.paper.specs.Marked.{telegram, silent, heardAt, rawAt}
 use Rattle.paper.specs.Cases.{joined, made, made2, signal, code, route, Question, judges, judgesIn, faults, faultsIn, extends, extendsIn, serialsIn, movesTo2, movesTo1, readsIn, signalEntries, routeEntries, finds, pairs, places, takes, gaps, sweeps, holds, reads, marshals, composes, shows, resolves, eReads, eAnswers, gave, refuses, ask}
 
 -- ---- A wrong gateway
@@ -138,6 +139,10 @@ marshal xs = marshals xs (heardAt 0x10 0x40 0) 0 (0xAB ∷ [])
 
 abbrev filled : ℕ → ℕ → List ℕ
 filled lives octet = gave (lives ∷ octet ∷ [])
+
+-- a raw value of 16 bits, 5,000 ms old, shown
+abbrev shown-as : Kind → ℕ → Question
+shown-as kind raw = shows (listV 16 64) (rawAt raw) 5000 1 0 kind
 
 -- an R1 composed with a value and a mark into octets EE: octets 1, 2, 41 and 54
 abbrev compose : List ℕ → ℕ → ℕ → Question
@@ -467,11 +472,17 @@ table =
     (composes listL 3 (4 ∷ []) (5 ∷ []) (replicate 40 0xEE) (0 ∷ 39 ∷ [])) (gave (0x13 ∷ 0 ∷ []))
     (refuses 14 0 ++ (0xEE ∷ 0xEE ∷ []))
     ∷ saying "rest-not-zeroed" (composes listL 1 (4 ∷ []) (1 ∷ []) (replicate 128 0xEE) (127 ∷ [])) (gave (0 ∷ [])) (gave (0xEE ∷ []))
-    -- showing: the case and the bits of the f32
-    ∷ asked-as "signed-edge" (shows signedPercentage 16 32768) (gave (2 ∷ 0xC3480000 ∷ [])) (shows percentage 16 32768) (gave (2 ∷ 0x43480000 ∷ []))
-    ∷ asked-as "raw-limit" (shows speed 16 65536) (refuses 26 0) (shows speed 16 0) (gave (1 ∷ 0 ∷ []))
-    ∷ saying "speed-scale" (shows speed 16 64) (gave (1 ∷ 0x3F800000 ∷ [])) (gave (1 ∷ 0x3F820821 ∷ []))
-    ∷ saying "minus-zero" (shows signedPercentage 16 0) (gave (2 ∷ 0 ∷ [])) (gave (2 ∷ 0x80000000 ∷ []))
+    -- showing: the case, the code or the bits of the f32, and the reason
+    ∷ asked-as "signed-edge" (shown-as signedPercentage 32768) (gave (2 ∷ 0xC3480000 ∷ 0 ∷ [])) (shown-as percentage 32768) (gave (2 ∷ 0x43480000 ∷ 0 ∷ []))
+    ∷ saying "speed-scale" (shown-as speed 64) (gave (1 ∷ 0x3F800000 ∷ 0 ∷ [])) (gave (1 ∷ 0x3F820821 ∷ 0 ∷ []))
+    ∷ saying "minus-zero" (shown-as signedPercentage 0) (gave (2 ∷ 0 ∷ 0 ∷ [])) (gave (2 ∷ 0x80000000 ∷ 0 ∷ []))
+    ∷ saying "replacement-shown-live" (shows (listV 16 64) (rawAt 16384) 5001 1 0 speed) (gave (1 ∷ 0x3F800000 ∷ 3 ∷ [])) (gave (1 ∷ 0x3F800000 ∷ 0 ∷ []))
+    ∷ saying "too-old-value-shown" (shows (listV 16 64) (rawAt 16384) 5001 1 0 speed) (gave (1 ∷ 0x3F800000 ∷ 3 ∷ [])) (gave (1 ∷ 0x43800000 ∷ 3 ∷ []))
+    ∷ saying "width-15-scaled" (shows (listV 15 0) (rawAt 64) 5000 1 0 speed) (refuses 26 0) (gave (1 ∷ 0x3F000000 ∷ 0 ∷ []))
+    ∷ saying "width-17-scaled" (shows (listV 17 0) (rawAt 64) 5000 1 0 speed) (refuses 26 0) (gave (1 ∷ 0x40000000 ∷ 0 ∷ []))
+    ∷ saying "code-needs-width-16" (shows (listV 15 0) (rawAt 64) 5000 1 0 Shown.code) (gave (0 ∷ 32 ∷ 0 ∷ [])) (refuses 26 0)
+    ∷ saying "twenty-six-before-eleven" (shows (listV 15 0) (rawAt 64) 5000 1 1 speed) (refuses 11 0) (refuses 26 0)
+    ∷ saying "twenty-six-before-six" (shows (listV 15 0) (rawAt 64) 5000 64 0 speed) (refuses 6 0) (refuses 26 0)
     -- the train: the set and its size
     ∷ asked-as "two-leading" (resolves (leading ∷ leading ∷ []) 66) (refuses 18 0) (resolves (leading ∷ coach ∷ []) 66) (gave (6 ∷ 2 ∷ []))
     ∷ asked-as "led-without-tractive" (resolves (led-only ∷ []) 65) (refuses 18 0) (resolves (led ∷ []) 65) (gave (2 ∷ 1 ∷ []))
@@ -523,7 +534,7 @@ written r = record { paper-says = r .right; it-says = r .wrong; same = false }
 
 -- the one computed test: of every row both answers are as written, and they differ
 pub wrong : map told table ≡ map written table
-unfolding table answered sameNumbers joined made made2 ask listL listL2 serialAt serialOf narrowed droppedFrom dropped spread widenedFrom widened toForm2 toForm1 telegram silent heardAt bit field withBit setBit put puts number octetsOf over refuseIf
+unfolding table answered sameNumbers joined made made2 ask listL listL2 listV rawAt serialAt serialOf narrowed droppedFrom dropped spread widenedFrom widened toForm2 toForm1 telegram silent heardAt bit field withBit setBit put puts number octetsOf over refuseIf
     firstFrom firstBad all some next count greatest applicationType telegramType versionOf rows placeIn SignalList.checkAt SignalList.signalSize SignalList.signalAt SignalList.among
     SignalList.codeAt SignalList.routeAt SignalList.checkRule SignalList.signalRuleTo SignalList.codeRule SignalList.routeRule SignalList.opening
     SignalList.judgeEntries SignalList.judgeSection SignalList.greatestSince SignalList.ending SignalList.fromRoutes SignalList.fromCodes

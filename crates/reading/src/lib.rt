@@ -150,8 +150,8 @@ pub fn read_at(
     )
 }
 
-// The same with the refusals 5, 6 and 11.
-fn read_under(
+// Inner: the same with the refusals 5, 6 and 11.
+pub fn read_under(
     list: &[u8],
     n: Counts,
     store: &[u8],

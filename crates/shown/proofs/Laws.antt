@@ -6,9 +6,10 @@ use Rattle.paper.proofs.AnswerLaws.{one-answer}
 use Rattle.refusals.proofs.Laws.{numbered, numbered-of}
 use Rattle.shown.specs.declared.Shown.{Shown}
 use Rattle.shown.specs.declared.Shown.the-variants as S
+use Rattle.shown.specs.declared.ShownReading.{ShownReading}
 use Rattle.shown.specs.declared.Showing.{Showing}
 use Rattle.shown.specs.declared.Showing.the-variants as Of
-use Rattle.shown.specs.Show.{shownOf, showingAnswer}
+use Rattle.shown.specs.Show.{shownOf, readingOf, showingAnswer}
 
 shown : paper.Shown → Shown
 shown (paper.asCode c) = S.Code c
@@ -23,14 +24,17 @@ shown-of (S.Speed x) = refl
 shown-of (S.Percentage x) = refl
 shown-of (S.Current x) = refl
 
-told : Answer paper.Shown → Showing
-told (gives s) = Of.Shown (shown s)
+abbrev with-reason : paper.ShownReading → ShownReading
+with-reason s = record { shown = shown (s .shown); reason = s .reason }
+
+told : Answer paper.ShownReading → Showing
+told (gives s) = Of.Shown (with-reason s)
 told (refused n at) = Of.Refused (numbered n at)
 
 told-of : (r : Showing) → told (showingAnswer r) ≡ r
 unfolding told
-told-of (Of.Shown s) = ap Of.Shown (shown-of s)
+told-of (Of.Shown s) = ap (λ (x : Shown). Of.Shown (record { shown = x; reason = s .reason })) (shown-of (s .shown))
 told-of (Of.Refused f) = ap Of.Refused (numbered-of f)
 
-pub one-showing : (a : Answer paper.Shown) (v w : Showing) → showingAnswer v ≡ a → showingAnswer w ≡ a → v ≡ w
+pub one-showing : (a : Answer paper.ShownReading) (v w : Showing) → showingAnswer v ≡ a → showingAnswer w ≡ a → v ≡ w
 one-showing = one-answer showingAnswer told told-of

@@ -6,6 +6,7 @@ use Rattle.shown.specs.declared.Kind.{Kind}
 use Rattle.shown.specs.declared.Kind.the-variants as K
 use Rattle.shown.specs.declared.Shown.{Shown}
 use Rattle.shown.specs.declared.Shown.the-variants as S
+use Rattle.shown.specs.declared.ShownReading.{ShownReading}
 use Rattle.shown.specs.declared.Showing.{Showing}
 use Rattle.shown.specs.declared.Showing.the-variants as Of
 
@@ -22,6 +23,9 @@ shownOf (S.Speed x) = paper.asSpeed x
 shownOf (S.Percentage x) = paper.asPercentage x
 shownOf (S.Current x) = paper.asCurrent x
 
-abbrev pub showingAnswer : Showing → Answer paper.Shown
-showingAnswer (Of.Shown s) = gives (shownOf s)
+abbrev pub readingOf : ShownReading → paper.ShownReading
+readingOf s = record { shown = shownOf (s .shown); reason = s .reason }
+
+abbrev pub showingAnswer : Showing → Answer paper.ShownReading
+showingAnswer (Of.Shown s) = gives (readingOf s)
 showingAnswer (Of.Refused f) = refusalOf f

@@ -2,8 +2,16 @@
 ghost use mathlib.Core.Path.{_≡_};
 ghost use mathlib.Core.Bool.{false, true};
 ghost use Prim.Native.Nat.{_<_, _^_};
-ghost use Rattle.paper.specs.Shown.{nearest, signedPercent, shownAs, showing};
+ghost use Rattle.paper.specs.SignalList.{listOf};
+ghost use Rattle.paper.specs.Accepted.{Laid};
+ghost use Rattle.paper.specs.Shown.{nearest, signedPercent, shownAs, shownWidth, showingBy, showing};
+ghost use Rattle.lists.specs.Judged.{countsOf};
+ghost use Rattle.reading.specs.Reading.{asReading};
 ghost use Rattle.shown.specs.Show.{kindOf, shownOf, showingAnswer};
+use lists::Counts;
+use lists::Judged;
+use reading::ReadOutcome;
+use reading::Reading;
 use refusals::Refusal;
 
 // What a raw value is shown as; a percentage is unsigned or two's complement.
@@ -23,8 +31,14 @@ pub enum Shown {
     Current(f32),
 }
 
+// With the reason that it was read with.
+pub struct ShownReading {
+    pub shown: Shown,
+    pub reason: u8,
+}
+
 pub enum Showing {
-    Shown(Shown),
+    Shown(ShownReading),
     Refused(Refusal),
 }
 
@@ -56,8 +70,8 @@ fn signed_percent(raw: u64) -> f32
     }
 }
 
-// Inner: the value on its scale, for a caller that has seen that the raw value is below 65536.
-pub fn value(kind: Kind, raw: u64) -> Shown
+// The value on its scale, of 16 bits.
+fn value(kind: Kind, raw: u64) -> Shown
     requires { ⌜ raw < 65536 ⌝ }
     ensures { λ r. ⌜ shownOf r ≡ shownAs (kindOf kind) raw ⌝ }
 {
@@ -70,18 +84,62 @@ pub fn value(kind: Kind, raw: u64) -> Shown
     }
 }
 
-// The reading as the kind asks. Refused (26) exactly for a scaled kind with a width other than 16 or a raw value above 65,535.
-pub fn show(kind: Kind, width: u64, raw: u64) -> Showing
-    ensures { λ r. ⌜ showingAnswer r ≡ showing (kindOf kind) width raw ⌝ }
+// A reading of a signal of this width: a scaled kind needs 16 bits, which its value then fits.
+fn shown_as(kind: Kind, width: usize, r: Reading) -> Showing
+    requires { ⌜ (width ≡ 16 → r .value < 65536) ⌝ }
+    ensures { λ a. ⌜ showingAnswer a ≡ shownWidth (kindOf kind) width (asReading r) ⌝ }
 {
     if let Kind::Code = kind {
-        return Showing::Shown(Shown::Code(raw));
+        return Showing::Shown(ShownReading {
+            shown: Shown::Code(r.value),
+            reason: r.reason,
+        });
     }
     if width != 16 {
         return Showing::Refused(Refusal::SCALED_KIND);
     }
-    if 65535 < raw {
-        return Showing::Refused(Refusal::SCALED_KIND);
+    Showing::Shown(ShownReading {
+        shown: value(kind, r.value),
+        reason: r.reason,
+    })
+}
+
+// Under a list that was accepted with these counts.
+fn show_under(
+    list: &[u8],
+    n: Counts,
+    store: &[u8],
+    clock: u32,
+    vehicle: usize,
+    signal: usize,
+    kind: Kind,
+) -> Showing
+    requires { ⌜ Laid (now list) (countsOf n) ⌝ }
+    ensures { λ r. ⌜ showingAnswer r ≡ showingBy (now (store .entry)) clock vehicle signal (kindOf kind) (listOf (now (list .entry)) (countsOf n)) ⌝ }
+{
+    let read = reading::read_under(list, n, store, clock, vehicle, signal);
+    match read {
+        ReadOutcome::Refused(f) => Showing::Refused(f),
+        ReadOutcome::Read(r) => shown_as(kind, lists::width_in(list, n, signal), r),
     }
-    Showing::Shown(value(kind, raw))
+}
+
+// Reads a signal of a vehicle at `clock` and shows it as the kind asks. Refused: 1 to 4, then 5, 6 and 11, then 26 for a scaled kind of a signal whose
+// width is not 16.
+pub fn show(
+    list: &[u8],
+    form: u8,
+    store: &[u8],
+    clock: u32,
+    vehicle: usize,
+    signal: usize,
+    kind: Kind,
+) -> Showing
+    ensures { λ r. ⌜ showingAnswer r ≡ showing form (now (list .entry)) (now (store .entry)) clock vehicle signal (kindOf kind) ⌝ }
+{
+    let judged = lists::judge(list, form);
+    match judged {
+        Judged::Refused(f) => Showing::Refused(f),
+        Judged::Accepted(n) => show_under(list, n, store, clock, vehicle, signal, kind),
+    }
 }

@@ -1,10 +1,12 @@
-// What document 01 names, in a program's words: reasons, refusals, places and serial numbers, what stands in a store and what is read out of it.
+// What document 01 names, in a program's words: reasons, refusals, places, serial numbers and units, what stands in a store and what is read out of it.
 // No function that a program's input reaches has a `requires`.
 mod believed;
 mod broken;
 mod columns;
+mod kinds;
 mod replaced;
 mod said;
+mod scaled;
 mod serial;
 mod vehicles;
 
@@ -32,6 +34,12 @@ pub use said::say_reason;
 pub use said::say_refused;
 pub use said::say_refused_store;
 pub use said::say_telegram;
+pub use scaled::not_scaled;
+pub use scaled::say_both_shown;
+pub use scaled::say_both_shown_tabs;
+pub use scaled::say_shown;
+pub use scaled::say_shown_tabs;
+pub use scaled::shown_at;
 pub use serial::form_of;
 pub use serial::say_beside;
 pub use serial::say_serial;

@@ -3,7 +3,7 @@
 use crate::lists::{self, NOW, STAMP};
 use crate::proved::{self, Said};
 use crate::rust;
-use reference::Form;
+use reference::{Form, Kind, Shown, ShownReading};
 use std::fmt::Debug;
 use std::hint::black_box;
 
@@ -190,6 +190,60 @@ fn read(name: &str, list: &'static [u8], store: &'static [u8], signal: u64) -> C
             )
         },
     )
+}
+
+/// The same, shown.
+fn show(name: &str, list: &'static [u8], store: &'static [u8], signal: u64, kind: Kind) -> Case {
+    said(
+        name,
+        vec![],
+        move |_| {
+            proved::show(
+                black_box(list),
+                one(),
+                black_box(store),
+                black_box(NOW),
+                black_box(63),
+                black_box(signal),
+                black_box(kind),
+            )
+        },
+        move |_| {
+            rust::show(
+                black_box(list),
+                one(),
+                black_box(store),
+                black_box(NOW),
+                black_box(63),
+                black_box(signal),
+                black_box(kind),
+            )
+        },
+    )
+}
+
+/// The actual speed, in the octets 11-12 of every type, under a real list: read, and shown.
+fn speeds() -> [Case; 2] {
+    let list = lists::COACH;
+    let store = leak(lists::store(lists::COACH_R1));
+    let signal = reference::find_signal(list, Form::One, 0, 80).expect("the list has a speed");
+    assert_eq!(
+        reference::show(list, Form::One, store, NOW, 63, signal, Kind::Speed),
+        Ok(ShownReading {
+            shown: Shown::Speed(160.0),
+            reason: 0
+        })
+    );
+    [
+        read("read, the speed in data/coach.list", list, store, signal),
+        show(
+            "show, the speed in data/coach.list",
+            list,
+            store,
+            signal,
+            Kind::Speed,
+        ),
+    ]
 }
 
 fn reads() -> Vec<Case> {
@@ -431,6 +485,10 @@ fn refused_alike_in(form: Form, list: Vec<u8>) {
             reference::read(short, form, &[], 0, 0, 0)
         );
         assert_eq!(
+            proved::show(short, form, &[], 0, 0, 0, Kind::Speed).said(),
+            reference::show(short, form, &[], 0, 0, 0, Kind::Speed)
+        );
+        assert_eq!(
             proved::marshal(short, form, &[], 0, &mut []).said(),
             reference::marshal(short, form, &[], 0, &mut [])
         );
@@ -467,6 +525,7 @@ pub fn all() -> Vec<Case> {
     let r3 = [&[0x13], &telegram[1..40]].concat();
     let mut cases = vec![judge];
     cases.extend(reads());
+    cases.extend(speeds());
     cases.extend([
         marshal,
         compose(

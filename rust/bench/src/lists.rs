@@ -9,6 +9,10 @@ use reference::{Form, SERIAL_SIZE};
 pub const STAMP: u32 = 1_000;
 pub const NOW: u32 = 4_000;
 
+/// The list of `data/`, and an R1 of its scene.
+pub const COACH: &[u8] = include_bytes!("../../../data/coach.list");
+pub const COACH_R1: &[u8] = include_bytes!("../../../data/scene/1-R1.telegram");
+
 const MOST_UNITS: usize = 64;
 const COMMON_UNITS: usize = 21;
 const WIDTHS: [u8; 4] = [2, 3, 3, 4];

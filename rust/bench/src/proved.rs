@@ -1,7 +1,9 @@
 //! The proved library, as its module lays out the calls: an answer of more than 16 octets is written where the first word points. On
 //! x86-64 that is what C does with such an answer; on other machines it is not, so it is said here.
 
-use reference::{Counts, EReading, Extends, Form, Members, Reading, Refusal};
+use reference::{
+    Counts, EReading, Extends, Form, Kind, Members, Reading, Refusal, Shown, ShownReading,
+};
 use std::mem::MaybeUninit;
 
 #[repr(C)]
@@ -42,6 +44,16 @@ pub struct Read {
     reason: u32,
     carried: u64,
     value: u64,
+}
+
+#[repr(C)]
+pub struct Showing {
+    refusal: u32,
+    reason: u32,
+    carried: u64,
+    code: u64,
+    unit: u32,
+    value: f32,
 }
 
 #[repr(C)]
@@ -106,6 +118,19 @@ extern "C" {
         clock: u32,
         vehicle: u64,
         signal: u64,
+    );
+    #[rustfmt::skip]
+    fn df_show(
+        to: To<Showing>,
+        list: *const u8,
+        list_len: usize,
+        form: u8,
+        store: *const u8,
+        store_len: usize,
+        clock: u32,
+        vehicle: u64,
+        signal: u64,
+        kind: u8,
     );
     #[rustfmt::skip]
     fn df_marshal(
@@ -201,6 +226,33 @@ pub fn read(list: &[u8], form: Form, store: &[u8], now: u32, vehicle: u64, signa
             now,
             vehicle,
             signal,
+        )
+    })
+}
+
+#[inline(always)]
+pub fn show(
+    list: &[u8],
+    form: Form,
+    store: &[u8],
+    now: u32,
+    vehicle: u64,
+    signal: u64,
+    kind: Kind,
+) -> Showing {
+    let (octets, slots) = (list.as_ptr(), store.as_ptr());
+    answer(|to| unsafe {
+        df_show(
+            to,
+            octets,
+            list.len(),
+            form as u8,
+            slots,
+            store.len(),
+            now,
+            vehicle,
+            signal,
+            kind as u8,
         )
     })
 }
@@ -350,6 +402,23 @@ impl Said for Read {
     fn said(self) -> Self::As {
         let reading = Reading {
             value: self.value,
+            reason: self.reason as u8,
+        };
+        unless_refused(self.refusal, self.carried, reading)
+    }
+}
+
+impl Said for Showing {
+    type As = Result<ShownReading, Refusal>;
+    fn said(self) -> Self::As {
+        let shown = match self.unit {
+            1 => Shown::Speed(self.value),
+            2 => Shown::Percentage(self.value),
+            3 => Shown::Current(self.value),
+            _ => Shown::Code(self.code),
+        };
+        let reading = ShownReading {
+            shown,
             reason: self.reason as u8,
         };
         unless_refused(self.refusal, self.carried, reading)

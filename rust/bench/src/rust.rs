@@ -1,6 +1,6 @@
 //! The independent implementation, each function a call as the proved one is, whose archive is never inlined into the bench.
 
-use reference::{Counts, EReading, Extends, Form, Members, Reading, Refusal};
+use reference::{Counts, EReading, Extends, Form, Kind, Members, Reading, Refusal, ShownReading};
 
 #[inline(never)]
 pub fn judge(list: &[u8], form: Form) -> Result<Counts, Refusal> {
@@ -37,6 +37,19 @@ pub fn read(
     signal: u64,
 ) -> Result<Reading, Refusal> {
     reference::read(list, form, store, now, vehicle, signal)
+}
+
+#[inline(never)]
+pub fn show(
+    list: &[u8],
+    form: Form,
+    store: &[u8],
+    now: u32,
+    vehicle: u64,
+    signal: u64,
+    kind: Kind,
+) -> Result<ShownReading, Refusal> {
+    reference::show(list, form, store, now, vehicle, signal, kind)
 }
 
 #[inline(never)]

@@ -18,9 +18,9 @@ pub enum Call {
     Gap,
     Sweep,
     Read,
+    Show,
     Marshal,
     Compose,
-    Show,
     Resolve,
     ERead,
     EAnswer,
@@ -62,9 +62,9 @@ impl Call {
         Call::Gap,
         Call::Sweep,
         Call::Read,
+        Call::Show,
         Call::Marshal,
         Call::Compose,
-        Call::Show,
         Call::Resolve,
         Call::ERead,
         Call::EAnswer,
@@ -85,14 +85,21 @@ impl Call {
             Call::Gap => takes("gap", &["store"], None, &["vehicle"]),
             Call::Sweep => takes("sweep", &["store"], Some(0), &["clock"]),
             Call::Read => takes("read", &["list", "store"], None, &["form", "clock", "vehicle", "signal"]),
+            Call::Show => takes("show", &["list", "store"], None, &["form", "clock", "vehicle", "signal", "kind"]),
             Call::Marshal => takes("marshal", &["list", "store", "data"], Some(2), &["form", "clock"]),
             Call::Compose => takes("compose", &["list", "marks", "out"], Some(2), &["form", "type"]),
-            Call::Show => takes("show", &[], None, &["kind", "width", "raw"]),
             Call::Resolve => takes("resolve", &["marks"], None, &["address"]),
             Call::ERead => takes("e_read", &["telegram"], None, &[]),
             Call::EAnswer => takes("e_answer", &["telegram", "head", "out"], Some(2), &["status"]),
         }
     }
+}
+
+/// Numbers for a kind: all that C has, and some that are none and show the code.
+pub const KINDS: [u64; 8] = [0, 1, 2, 3, 4, 5, 6, 255];
+
+pub fn is_scaled(kind: u64) -> bool {
+    (1..=4).contains(&kind)
 }
 
 #[derive(Debug, Clone, PartialEq)]

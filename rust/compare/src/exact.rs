@@ -1,6 +1,7 @@
 //! Every shown value against whole numbers: no step of this uses floating point.
 
-use dustferrule::{show, Kind, Shown};
+use crate::exhaustive::one_shown;
+use dustferrule::{show, Form, Kind, Reason, Shown};
 
 /// Whether these are the bits of the f32 that is exactly `number` / 2^`power`. Zero must be +0.
 fn is_exactly(bits: u32, number: i64, power: i32) -> bool {
@@ -23,10 +24,12 @@ fn is_exactly(bits: u32, number: i64, power: i32) -> bool {
     same_size && negative == (number < 0)
 }
 
-/// Tries all 65,536 raw values in all scaled kinds; gives their number, or what is wrong with the first that is not exact.
+/// Tries all 65,536 raw values in all scaled kinds, live and as a replacement; gives their number, or what is wrong with the first that is not
+/// exact.
 pub fn all_shown() -> Result<u32, String> {
     let mut shown = 0;
     for raw in 0..=u16::MAX {
+        let [list, store] = one_shown(16, raw.into());
         let (plain, signed) = (i64::from(raw), i64::from(raw as i16));
         // "speed = raw / 64; percentage = raw × 25 / 4096, unsigned or two's complement as asked; current = raw × 125 / 2048"
         let kinds = [
@@ -36,22 +39,32 @@ pub fn all_shown() -> Result<u32, String> {
             (Kind::Current, plain * 125, 11),
         ];
         for (kind, number, power) in kinds {
-            let answer = show(kind, 16, raw.into());
-            let exact = match (kind, answer) {
-                (Kind::Speed, Ok(Shown::Speed(x)))
-                | (Kind::Percentage | Kind::SignedPercentage, Ok(Shown::Percentage(x)))
-                | (Kind::Current, Ok(Shown::Current(x))) => is_exactly(x.to_bits(), number, power),
-                _ => false,
-            };
-            if !exact {
-                return Err(format!(
-                    "{raw} as {kind:?} gives {answer:?}, not {number} / 2^{power}"
-                ));
+            for (vehicle, reason) in [(1, Reason::LiveOk), (2, Reason::NeverHeard)] {
+                let answer = show(&list, Form::One, &store, 0, vehicle, 0, kind);
+                let exact = answer.is_ok_and(|read| {
+                    let bits = bits_as(kind, read.shown);
+                    read.reason == reason && bits.is_some_and(|x| is_exactly(x, number, power))
+                });
+                if !exact {
+                    return Err(format!(
+                        "{raw} as {kind:?}, {reason}, gives {answer:?}, not {number} / 2^{power}"
+                    ));
+                }
+                shown += 1;
             }
-            shown += 1;
         }
     }
     Ok(shown)
+}
+
+/// The bits of a value that is shown as this scaled kind shows one.
+fn bits_as(kind: Kind, shown: Shown) -> Option<u32> {
+    match (kind, shown) {
+        (Kind::Speed, Shown::Speed(x))
+        | (Kind::Percentage | Kind::SignedPercentage, Shown::Percentage(x))
+        | (Kind::Current, Shown::Current(x)) => Some(x.to_bits()),
+        _ => None,
+    }
 }
 
 #[cfg(test)]

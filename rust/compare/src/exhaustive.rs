@@ -2,7 +2,7 @@
 
 use std::ops::Range;
 
-use crate::case::{Call, Case};
+use crate::case::{Call, Case, KINDS};
 use crate::generate::REQUESTS;
 use crate::list::{List, Route, Signal};
 use crate::store::{plant, OLD_STORE};
@@ -27,7 +27,6 @@ fn large() -> impl Iterator<Item = u64> {
 
 pub fn each(mut try_one: impl FnMut(Case)) {
     check_places(&mut try_one);
-    shows(&mut try_one);
     addresses(&mut try_one);
     e_telegrams(&mut try_one);
     telegrams(&mut try_one);
@@ -37,6 +36,9 @@ pub fn each(mut try_one: impl FnMut(Case)) {
     moves(&mut try_one);
     signals(&mut try_one);
     readings(&mut try_one);
+    shows(&mut try_one);
+    kinds(&mut try_one);
+    refused_shows(&mut try_one);
     arrivals(&mut try_one);
     sweeps(&mut try_one);
     widths(&mut try_one);
@@ -46,23 +48,6 @@ pub fn each(mut try_one: impl FnMut(Case)) {
 fn check_places(try_one: &mut impl FnMut(Case)) {
     for bit in (0..=1_100).chain(large()) {
         try_one(Case::new(Call::CheckPlace, vec![], vec![bit]));
-    }
-}
-
-/// All kinds in all widths around the one that is taken, with raw values around each power of two and each border.
-fn shows(try_one: &mut impl FnMut(Case)) {
-    let raws: Vec<u64> = [0, 32_768, 49_152, 65_536]
-        .into_iter()
-        .flat_map(|n: u64| n.saturating_sub(3)..=n + 3)
-        .chain((0..64).map(|power| 1 << power))
-        .chain([u64::MAX])
-        .collect();
-    for kind in 0..=4 {
-        for width in (0..=20).chain([48, 64, 65_552, 1 << 32 | 16, u64::MAX]) {
-            for &raw in &raws {
-                try_one(Case::new(Call::Show, vec![], vec![kind, width, raw]));
-            }
-        }
     }
 }
 
@@ -174,6 +159,8 @@ fn forms(try_one: &mut impl FnMut(Case)) {
             ask(Call::Extends, vec![L.to_vec()], &[1]);
             ask(Call::Extends, vec![wide_l(1)], &[2]);
             ask(Call::Read, vec![store.clone()], &[0, 1, 0]);
+            ask(Call::Show, vec![store.clone()], &[0, 1, 0, 0]);
+            ask(Call::Show, vec![store.clone()], &[0, 1, 0, 1]);
             ask(Call::Marshal, vec![store, vec![0xAB]], &[0]);
             ask(Call::Compose, vec![vec![1], vec![0xEE; TELEGRAM]], &[1]);
             let areas = vec![L.to_vec(), list];
@@ -310,7 +297,7 @@ fn signals(try_one: &mut impl FnMut(Case)) {
     }
 }
 
-/// The list L read with every head, every version, every mark and every code, at the ages around its limit.
+/// The list L read, and shown as a code, with every head, every version, every mark and every code, at the ages around its limit.
 fn readings(try_one: &mut impl FnMut(Case)) {
     let mut read = |heard: u8, octets: [(usize, u8); 4], clock: u64| {
         let mut telegram = [0; TELEGRAM];
@@ -319,11 +306,9 @@ fn readings(try_one: &mut impl FnMut(Case)) {
             .for_each(|&(octet, value)| telegram[octet - 1] = value);
         let mut store = vec![0; STORE];
         plant(&mut store, 1, heard, 0, &telegram);
-        try_one(Case::new(
-            Call::Read,
-            vec![L.to_vec(), store],
-            vec![1, clock, 1, 0],
-        ));
+        let areas = vec![L.to_vec(), store];
+        try_one(Case::new(Call::Read, areas.clone(), vec![1, clock, 1, 0]));
+        try_one(Case::new(Call::Show, areas, vec![1, clock, 1, 0, 0]));
     };
     for any in 0..=255 {
         read(any, [(1, 0x11), (2, 1), (41, 0x10), (54, 0x40)], 5_000);
@@ -336,6 +321,78 @@ fn readings(try_one: &mut impl FnMut(Case)) {
         for heard in [1, 2] {
             read(heard, [(1, 0x11), (2, 1), (41, 0x10), (54, 0x40)], clock);
             read(heard, [(1, 0x21), (2, 1), (41, 0x10), (54, 0x40)], clock);
+        }
+    }
+}
+
+/// A list of one signal, R1 octets 51-52 or about so, and a store in which vehicle 1 says a value of it. Vehicle 2 was never heard: its value is
+/// the replacement, which is the same.
+pub fn one_shown(width: u64, value: u64) -> [Vec<u8>; 2] {
+    let mut list = one_signal(1, 400, width, 0);
+    let signal = &mut list.signals[0];
+    signal.replacement = value & signal.top_replacement();
+    let store = saying(signal, value, 1, 0);
+    [list.octets(), store]
+}
+
+/// Every value of 16 bits in every scaled kind.
+fn shows(try_one: &mut impl FnMut(Case)) {
+    for value in 0..=0xFFFF {
+        let areas = one_shown(16, value);
+        for kind in 1..=4 {
+            let numbers = vec![1, 0, 1, 0, kind];
+            try_one(Case::new(Call::Show, areas.to_vec(), numbers));
+        }
+    }
+}
+
+/// Every number for a kind in every width around 16, and those of [`KINDS`] with the values around each border too; live and replaced.
+fn kinds(try_one: &mut impl FnMut(Case)) {
+    let mut ask = |width, value, kinds: &[u64]| {
+        let areas = one_shown(width, value);
+        for (kind, vehicle) in kinds.iter().flat_map(|&kind| [1, 2].map(|v| (kind, v))) {
+            let numbers = vec![1, 0, vehicle, 0, kind];
+            try_one(Case::new(Call::Show, areas.to_vec(), numbers));
+        }
+    };
+    let all: Vec<u64> = (0..=255).collect();
+    for width in 14..=18 {
+        ask(width, 0x3039, &all);
+        for border in [1, 0x4000, 0x8000, 0xC000, 0x1_0000, 0x2_0000] {
+            for value in border - 1..=border + 1 {
+                ask(width, value, &KINDS);
+            }
+        }
+    }
+}
+
+/// The list as it is, and as it is refused: it ends too soon, has too many checks, a signal with since-version 0, an octet too many.
+fn spoilt(list: &[u8]) -> [Vec<u8>; 5] {
+    let mut broken = list.to_vec();
+    broken[9] = 0;
+    [
+        list.to_vec(),
+        list[..list.len() - 1].to_vec(),
+        [&[0, 65], &list[2..]].concat(),
+        broken,
+        [list, &[0]].concat(),
+    ]
+}
+
+/// All that a showing can be refused for, alone and together.
+fn refused_shows(try_one: &mut impl FnMut(Case)) {
+    for (width, kind) in [15, 16, 17].iter().flat_map(|&w| KINDS.map(|k| (w, k))) {
+        let [list, store] = one_shown(width, 1);
+        for list in spoilt(&list) {
+            for len in [STORE].into_iter().chain(other_lengths()) {
+                let mut store = store.clone();
+                store.resize(len, 0);
+                let areas = [list.clone(), store];
+                for (vehicle, signal) in [0, 1, 64].iter().flat_map(|&v| [0, 1].map(|s| (v, s))) {
+                    let numbers = vec![1, 0, vehicle, signal, kind];
+                    try_one(Case::new(Call::Show, areas.to_vec(), numbers));
+                }
+            }
         }
     }
 }
@@ -456,7 +513,18 @@ fn widths(try_one: &mut impl FnMut(Case)) {
     }
 }
 
-/// The value composed; and heard, then read and marshalled, as it is and where it was never heard.
+/// A store with an R1 of vehicle 1, under a heard octet: a signal's value, and these octets around it.
+fn saying(signal: &Signal, value: u64, heard: u8, around: u8) -> Vec<u8> {
+    let mut telegram = [around; TELEGRAM];
+    telegram[..2].copy_from_slice(&[0x11, 1]);
+    let (start, width) = (signal.start as usize, signal.width as usize);
+    write_field(&mut telegram, start, width, value);
+    let mut store = vec![0; STORE];
+    plant(&mut store, 1, heard, 0, &telegram);
+    store
+}
+
+/// The value composed; and heard, then read, shown and marshalled, as it is and where it was never heard.
 fn wide_field(try_one: &mut impl FnMut(Case), list: &List, value: u64) {
     let octets = list.octets();
     try_one(Case {
@@ -467,16 +535,15 @@ fn wide_field(try_one: &mut impl FnMut(Case), list: &List, value: u64) {
             vec![1, 1],
         )
     });
-    let (start, width) = (list.signals[0].start, list.signals[0].width);
+    let signal = &list.signals[0];
     for (heard, around) in [(0, 0xFF), (1, 0), (1, 0xFF)] {
-        let mut telegram = [around; TELEGRAM];
-        telegram[..2].copy_from_slice(&[0x11, 1]);
-        write_field(&mut telegram, start as usize, width as usize, value);
-        let mut store = vec![0; STORE];
-        plant(&mut store, 1, heard, 0, &telegram);
-        let areas = vec![octets.clone(), store];
+        let areas = vec![octets.clone(), saying(signal, value, heard, around)];
         try_one(Case::new(Call::Read, areas.clone(), vec![1, 0, 1, 0]));
-        let end = (list.routes[0].start + width).div_ceil(8) as usize;
+        for kind in [0, 1] {
+            let numbers = vec![1, 0, 1, 0, kind];
+            try_one(Case::new(Call::Show, areas.clone(), numbers));
+        }
+        let end = (list.routes[0].start + signal.width).div_ceil(8) as usize;
         for len in [end, end.saturating_sub(1), end + 9] {
             let areas = [areas.clone(), vec![vec![!around; len]]].concat();
             try_one(Case::new(Call::Marshal, areas, vec![1, 0]));
@@ -515,5 +582,13 @@ mod tests {
             let counts = reference::judge(&list.octets(), form).unwrap();
             assert_eq!([counts.checks, counts.signals], [MOST[0], MOST[1]]);
         }
+    }
+
+    #[test]
+    fn a_spoilt_list_is_refused_each_number() {
+        let [list, _] = one_shown(16, 1);
+        let refused = spoilt(&list).map(|list| reference::judge(&list, Form::One).err());
+        let numbers = refused.map(|refused| refused.map_or(0, |refusal| refusal.number));
+        assert_eq!(numbers, [0, 1, 2, 3, 4]);
     }
 }

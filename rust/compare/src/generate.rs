@@ -1,6 +1,6 @@
 //! Cases of every call.
 
-use crate::case::{Call, Case};
+use crate::case::{is_scaled, Call, Case, KINDS};
 use crate::damage::{any_list, mostly_good, said_form};
 use crate::list::List;
 use crate::random::Random;
@@ -15,7 +15,7 @@ pub const REQUESTS: [u16; 25] = [
 ];
 
 pub fn case(r: &Random) -> Case {
-    match r.below(114) {
+    match r.below(123) {
         0..=13 => {
             let (list, form) = any_list(r);
             Case::new(Call::Judge, vec![list], vec![form])
@@ -32,7 +32,7 @@ pub fn case(r: &Random) -> Case {
         47..=61 => read(r),
         62..=70 => marshal(r),
         71..=82 => compose(r),
-        83..=85 => show(r),
+        83..=85 | 114..=122 => show(r),
         86..=91 => resolve(r),
         92..=94 => e_read(r),
         95..=99 => e_answer(r),
@@ -201,12 +201,39 @@ fn sweep(r: &Random) -> Case {
 
 fn read(r: &Random) -> Case {
     let list = make::list_with_signals(r);
+    let number = signal(r, &list);
+    read_under(r, &list, number)
+}
+
+/// A signal read under a list, or what became of it.
+fn read_under(r: &Random, list: &List, signal: u64) -> Case {
     let now = store::clock(r);
-    let store = store::store(r, &list, now);
-    let signal = signal(r, &list);
-    let areas = vec![mostly_good(r, &list), any_store(r, store)];
-    let numbers = vec![said_form(r, &list), now.into(), vehicle(r), signal];
+    let store = store::store(r, list, now);
+    let areas = vec![mostly_good(r, list), any_store(r, store)];
+    let numbers = vec![said_form(r, list), now.into(), vehicle(r), signal];
     Case::new(Call::Read, areas, numbers)
+}
+
+/// A reading shown: mostly of a signal of 16 bits, or of one bit more or less, where the kind is scaled.
+fn show(r: &Random) -> Case {
+    let kind = r.of(&[r.of(&KINDS), r.of(&KINDS), r.within(1, 4)]);
+    let list = match is_scaled(kind) {
+        true => make::list_to_scale(r),
+        false => make::list_with_signals(r),
+    };
+    let near: Vec<u64> = (0..)
+        .zip(&list.signals)
+        .filter(|(_, s)| s.is_near_16_bits())
+        .map(|(number, _)| number)
+        .collect();
+    let number = match is_scaled(kind) && !near.is_empty() && !r.one_in(6) {
+        true => r.of(&near),
+        false => signal(r, &list),
+    };
+    let mut case = read_under(r, &list, number);
+    case.call = Call::Show;
+    case.numbers.push(kind);
+    case
 }
 
 fn marshal(r: &Random) -> Case {
@@ -299,20 +326,6 @@ fn marks(r: &Random, list: &List) -> Vec<u8> {
     let len = about(r, marks.len()).min(marks.len() + 1);
     marks.resize(len, 1);
     marks
-}
-
-fn show(r: &Random) -> Case {
-    let kind = r.below(5);
-    let width = r.of(&[16, 16, 16, 16, r.below(21), 48, 64, r.beyond(16)]);
-    let raw = r.of(&[
-        r.below(65_536),
-        r.below(65_536),
-        65_535,
-        65_536,
-        r.word(),
-        r.beyond(1),
-    ]);
-    Case::new(Call::Show, vec![], vec![kind, width, raw])
 }
 
 /// A consist: one leading vehicle or none, led ones among the tractive; at times a rule is broken.

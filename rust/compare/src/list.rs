@@ -73,6 +73,11 @@ impl Signal {
         self.kind == 0 || self.kind == kind
     }
 
+    /// Whether its width is the one that a scaled kind needs, or one bit more or less.
+    pub fn is_near_16_bits(&self) -> bool {
+        (15..=17).contains(&self.width)
+    }
+
     /// The greatest value of the field; any number, where the width is none that a signal may have.
     pub fn top(&self) -> u64 {
         match self.width {

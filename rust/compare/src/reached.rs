@@ -3,7 +3,7 @@
 use std::collections::{BTreeMap, BTreeSet};
 use std::fmt;
 
-use crate::case::{Answer, Call, Case};
+use crate::case::{is_scaled, Answer, Call, Case, KINDS};
 use crate::list::{longest, sizes, Route, Signal, MOST};
 use crate::store::{stamp_at, OLD_STORE};
 use reference::{Form, HEAD, HEARD, PREVIOUS, SIGNAL_SIZE, SLOT, STAMP, VEHICLES};
@@ -127,6 +127,31 @@ fn wanted(call: Call) -> Vec<Row> {
             // Reason 8 is for widths up to 16.
             each("above 48 bits, reason", &[0, 1, 2, 3, 4, 5, 6, 7]),
         ],
+        Call::Show => [
+            [
+                each("live ok, kind", &KINDS),
+                each("live forced, kind", &KINDS),
+                each("replaced, not by 0, kind", &KINDS),
+                each("above 48 bits, reason", &[0, 1, 2, 3, 4, 5, 6, 7]),
+                in_forms,
+            ]
+            .concat(),
+            [
+                each("scaled, reason", &[0, 1, 2, 3, 4, 5, 6, 7, 8]),
+                each("scaled, form", &[1, 2]),
+                each("0, kind", &[1, 2, 3, 4]),
+                each("live, top bit set, kind", &[1, 2, 3, 4]),
+                each("replaced, top bit set, kind", &[1, 2, 3, 4]),
+            ]
+            .concat(),
+            [
+                refusals(&[1, 2, 3, 4, 5, 6, 11, 26]),
+                each("26, form", &[1, 2]),
+                each("26, width", &[15, 17]),
+                each("before 26, refusal", &[1, 2, 3, 4, 5, 6, 11]),
+            ]
+            .concat(),
+        ],
         Call::Marshal => [
             vec![
                 ("no route", 0),
@@ -147,7 +172,6 @@ fn wanted(call: Call) -> Vec<Row> {
             ]
             .concat(),
         ],
-        Call::Show => [each("kind", &[0, 1, 2, 3, 4]), refusals(&[26]), vec![]],
         Call::Resolve => [
             each("address", &[1, 63, 64, 65, 66, 67, 70, 92]),
             refusals(&[17, 18, 19, 20]),
@@ -209,9 +233,9 @@ fn rows(case: &Case, answer: &Answer) -> Vec<Row> {
         Call::Gap => gap_rows(slot_of(&case.areas[0], case.numbers[0]), first),
         Call::Sweep => sweep_rows(&case.areas[0], case.numbers[0] as u32),
         Call::Read => read_rows(case, second),
+        Call::Show => show_rows(case.numbers[4], answer),
         Call::Marshal => vec![(lives(case, first), 0)],
         Call::Compose => vec![("type", case.numbers[1])],
-        Call::Show => vec![("kind", case.numbers[0])],
         Call::Resolve => vec![("address", case.numbers[0])],
         Call::ERead => vec![(["request", "report"][second as usize], 0)],
         Call::EAnswer => vec![("ok", 0)],
@@ -326,10 +350,64 @@ fn read_rows(case: &Case, reason: u64) -> Vec<Row> {
     rows
 }
 
+/// How a reading was shown.
+fn show_rows(kind: u64, answer: &Answer) -> Vec<Row> {
+    let [reason, code, _, value, ..] = answer.gives;
+    let how = match (reason, code | value) {
+        (0, _) => "live ok, kind",
+        (1, _) => "live forced, kind",
+        (_, 0) => "replaced by 0, kind",
+        _ => "replaced, not by 0, kind",
+    };
+    vec![(how, kind)]
+}
+
+/// What it shows of the scaled kinds: of which readings, and what is told of a signal that is not 16 bits wide.
+fn scaled_rows(case: &Case, answer: &Answer) -> Vec<Row> {
+    let &[_, clock, vehicle, signal, kind] = &case.numbers[..] else {
+        return vec![];
+    };
+    if case.call != Call::Show || !is_scaled(kind) {
+        return vec![];
+    }
+    let (list, store, form) = (&case.areas[0], &case.areas[1], form_of(case, 0));
+    let width = width_of(list, form, signal);
+    match (answer.refusal, width) {
+        (0, _) => {
+            let read = reference::read(list, Form::of(form), store, clock as u32, vehicle, signal);
+            let reading = read.map_or((0, 0), |read| (read.value, read.reason));
+            let of = match reading {
+                (0, _) => "0, kind",
+                (0x8000.., 0 | 1) => "live, top bit set, kind",
+                (0x8000.., _) => "replaced, top bit set, kind",
+                _ => "top bit not set, kind",
+            };
+            let reason = ("scaled, reason", reading.1.into());
+            vec![reason, ("scaled, form", form), (of, kind)]
+        }
+        (26, Some(width @ (15 | 17))) => vec![("26, form", form), ("26, width", width)],
+        (26, _) => vec![("26, form", form)],
+        (1..=6, None | Some(16)) => vec![],
+        (refusal, _) => vec![("before 26, refusal", refusal.into())],
+    }
+}
+
+/// The width of a signal by its number, if the list goes so far.
+fn width_of(list: &[u8], form: u64, signal: u64) -> Option<u64> {
+    let [check, size, ..] = sizes(form);
+    let signals = 2 + check * count_at(list, 0)?;
+    let number = usize::try_from(signal).ok()?;
+    let entries = list.get(signals + 2..)?.chunks(size);
+    let mut entries = entries.take(count_at(list, signals)?);
+    entries.nth(number)?.get(2).map(|&width| width.into())
+}
+
 /// What it shows of wide fields, by the list that it goes by.
 fn wide_rows(case: &Case, answer: &Answer) -> Vec<Row> {
-    let by_list = [Call::Judge, Call::Read, Call::Marshal, Call::Compose].contains(&case.call);
-    let list = by_list.then(|| case.list_at(0)).flatten();
+    let list = match case.call {
+        Call::Judge | Call::Read | Call::Show | Call::Marshal | Call::Compose => case.list_at(0),
+        _ => None,
+    };
     let Some(list) = list else {
         return vec![];
     };
@@ -341,6 +419,9 @@ fn wide_rows(case: &Case, answer: &Answer) -> Vec<Row> {
         }
         (Call::Read, 0) if width(case.numbers[3]) > 48 => {
             vec![("above 48 bits, reason", answer.gives[1])]
+        }
+        (Call::Show, 0) if width(case.numbers[3]) > 48 => {
+            vec![("above 48 bits, reason", answer.gives[0])]
         }
         (Call::Marshal, 0) => {
             let last = |route: &&Route| width(route.signal) == 64 && route.start == 2_048 - 64;
@@ -426,15 +507,18 @@ fn ends_inside_serial(list: &[u8], signals: usize) -> bool {
     entries % sizes(2)[1] == SIGNAL_SIZE + 1
 }
 
+/// A count of a list, by its offset.
+fn count_at(list: &[u8], at: usize) -> Option<usize> {
+    let &octets = list.get(at..)?.first_chunk()?;
+    Some(usize::from(u16::from_be_bytes(octets)))
+}
+
 /// Where the signals of a list of form 2 end, and whether a serial number is set, if checks and signals are all there.
 fn serials(list: &[u8]) -> Option<(usize, bool)> {
-    let count = |at: usize| {
-        let &octets = list.get(at..)?.first_chunk()?;
-        Some(usize::from(u16::from_be_bytes(octets)))
-    };
     let [check, signal, ..] = sizes(2);
-    let signals = 2 + check * count(0)?;
-    let entries = list.get(signals + 2..)?.get(..signal * count(signals)?)?;
+    let signals = 2 + check * count_at(list, 0)?;
+    let entries = list.get(signals + 2..)?;
+    let entries = entries.get(..signal * count_at(list, signals)?)?;
     let set = |entry: &[u8]| entry[SIGNAL_SIZE..].iter().any(|&octet| octet != 0);
     Some((signals + 2 + entries.len(), entries.chunks(signal).any(set)))
 }
@@ -488,7 +572,8 @@ impl Reached {
     }
 
     pub fn count(&mut self, case: &Case, answer: &Answer) {
-        let all = [rows, wide_rows, form_rows, length_rows].map(|rows| rows(case, answer));
+        let all = [rows, wide_rows, form_rows, length_rows, scaled_rows];
+        let all = all.map(|rows| rows(case, answer));
         for row in all.concat() {
             let row = (case.call, row);
             match self.wanted.get_mut(&row) {

@@ -36,6 +36,14 @@ macro_rules! side {
                 2 => Form::Two,
                 _ => Form::One,
             };
+            // And any kind but these is the code.
+            let kind_of = |number: u64| match number {
+                1 => Kind::Speed,
+                2 => Kind::Percentage,
+                3 => Kind::SignedPercentage,
+                4 => Kind::Current,
+                _ => Kind::Code,
+            };
             let done = |()| Answer::default();
             let result = match (call, &mut lent.areas[..], lent.numbers) {
                 (Call::Judge, [list], &[said]) => $library::judge(list, form(said)).map(|n| {
@@ -91,29 +99,24 @@ macro_rules! side {
                     $library::read(list, form(said), store, clock as u32, vehicle, signal)
                         .map(|r| Answer::gives([r.value, r.reason as u64]))
                 }
+                (Call::Show, [list, store], &[said, clock, vehicle, signal, kind]) => {
+                    let (form, clock, kind) = (form(said), clock as u32, kind_of(kind));
+                    $library::show(list, form, store, clock, vehicle, signal, kind).map(|r| {
+                        let (code, unit, value) = match r.shown {
+                            Shown::Code(code) => (code, 0, 0.0),
+                            Shown::Speed(x) => (0, 1, x),
+                            Shown::Percentage(x) => (0, 2, x),
+                            Shown::Current(x) => (0, 3, x),
+                        };
+                        Answer::gives([r.reason as u64, code, unit, value.to_bits().into()])
+                    })
+                }
                 (Call::Marshal, [list, store, data], &[said, clock]) => {
                     $library::marshal(list, form(said), store, clock as u32, data)
                         .map(|lives| Answer::gives([lives]))
                 }
                 (Call::Compose, [list, marks, out], &[said, kind]) => {
                     $library::compose(list, form(said), kind, lent.values, marks, out).map(done)
-                }
-                (Call::Show, [], &[kind, width, raw]) => {
-                    let kind = match kind {
-                        0 => Kind::Code,
-                        1 => Kind::Speed,
-                        2 => Kind::Percentage,
-                        3 => Kind::SignedPercentage,
-                        _ => Kind::Current,
-                    };
-                    $library::show(kind, width, raw).map(|shown| {
-                        Answer::gives(match shown {
-                            Shown::Code(code) => [0, code],
-                            Shown::Speed(x) => [1, x.to_bits().into()],
-                            Shown::Percentage(x) => [2, x.to_bits().into()],
-                            Shown::Current(x) => [3, x.to_bits().into()],
-                        })
-                    })
                 }
                 (Call::Resolve, [marks], &[address]) => $library::resolve(marks, address)
                     .map(|members| Answer::gives([members.set, members.size.into()])),
@@ -204,6 +207,18 @@ pub fn by_header(call: Call, mut lent: Lent) -> Answer {
                 unsafe { raw::df_read(list, len, form, from, from_len, clock, vehicle, signal) };
             Answer::with(r.refusal, r.carried, [r.value, r.reason.into()])
         }
+        (Call::Show, [list, store], &[form, clock, vehicle, signal, kind]) => {
+            let (list, len, form) = (list.as_ptr(), list.len(), form as u8);
+            let (from, from_len, clock) = (store.as_ptr(), store.len(), clock as u32);
+            let r = unsafe {
+                raw::df_show(
+                    list, len, form, from, from_len, clock, vehicle, signal, kind as u8,
+                )
+            };
+            let value = r.value.to_bits().into();
+            let gives = [r.reason.into(), r.code, r.unit.into(), value];
+            Answer::with(r.refusal, r.carried, gives)
+        }
         (Call::Marshal, [list, store, data], &[form, clock]) => {
             let (list, len, form) = (list.as_ptr(), list.len(), form as u8);
             let (from, from_len, clock) = (store.as_ptr(), store.len(), clock as u32);
@@ -229,19 +244,6 @@ pub fn by_header(call: Call, mut lent: Lent) -> Answer {
                     out.len(),
                 )
             })
-        }
-        (Call::Show, [], &[0, _, raw]) => Answer::gives([0, unsafe { raw::df_show_code(raw) }]),
-        (Call::Show, [], &[kind, width, raw]) => {
-            let (r, tag) = unsafe {
-                match kind {
-                    1 => (raw::df_show_speed(width, raw), 1),
-                    2 => (raw::df_show_percentage(width, raw), 2),
-                    3 => (raw::df_show_signed_percentage(width, raw), 2),
-                    _ => (raw::df_show_current(width, raw), 3),
-                }
-            };
-            let tag = if r.refusal == 0 { tag } else { 0 };
-            Answer::with(r.refusal, 0, [tag, r.value.to_bits().into()])
         }
         (Call::Resolve, [marks], &[address]) => {
             let r = unsafe { raw::df_resolve(marks.as_ptr(), marks.len(), address) };

@@ -70,25 +70,26 @@ pub struct Reading {
     pub reason: Reason,
 }
 
-/// How a raw value is to be shown.
-#[derive(Debug, Clone, Copy, PartialEq, Eq)]
+/// How a reading is to be shown; all but the code are scaled, and of signals of 16 bits alone.
+#[derive(Debug, Clone, Copy, PartialEq, Eq, Hash)]
+#[repr(u8)]
 pub enum Kind {
     /// As it stands.
-    Code,
-    /// As a speed.
-    Speed,
-    /// As a percentage, unsigned.
-    Percentage,
-    /// As a percentage, two's complement.
-    SignedPercentage,
-    /// As a current.
-    Current,
+    Code = 0,
+    /// As a speed, value / 64.
+    Speed = 1,
+    /// As a percentage, value × 25 / 4096, unsigned.
+    Percentage = 2,
+    /// As a percentage, the value in two's complement.
+    SignedPercentage = 3,
+    /// As a current, value × 125 / 2048.
+    Current = 4,
 }
 
 /// A shown value; the scaled ones are exact.
 #[derive(Debug, Clone, Copy, PartialEq)]
 pub enum Shown {
-    /// The raw value.
+    /// The value itself.
     Code(u64),
     /// In km/h.
     Speed(f32),
@@ -96,6 +97,15 @@ pub enum Shown {
     Percentage(f32),
     /// In A.
     Current(f32),
+}
+
+/// A shown value and its reason.
+#[derive(Debug, Clone, Copy, PartialEq)]
+pub struct ShownReading {
+    /// The value read, or the replacement, as the kind asks.
+    pub shown: Shown,
+    /// Why it is this value.
+    pub reason: Reason,
 }
 
 /// The vehicles that meet an address.

@@ -11,7 +11,9 @@ mod answers;
 mod numbers;
 pub mod raw;
 
-pub use answers::{Counts, EReading, Entry, Extends, Form, Kind, Members, Reading, Shown};
+pub use answers::{
+    Counts, EReading, Entry, Extends, Form, Kind, Members, Reading, Shown, ShownReading,
+};
 pub use numbers::{Error, Reason, Refusal};
 
 /// The length of a store: a slot for each of 63 vehicles, vehicle 1 first. A store of zeros has heard nobody.
@@ -177,6 +179,44 @@ pub fn read(
     unless_refused(r.refusal, r.carried, reading)
 }
 
+/// Reads one signal (number from 0) of one vehicle and shows the value of the reading, live or replacement, as the kind asks. Refusals 1 to 4,
+/// then 5, 6, 11, 26.
+pub fn show(
+    list: &[u8],
+    form: Form,
+    store: &[u8],
+    now: u32,
+    vehicle: u64,
+    signal: u64,
+    kind: Kind,
+) -> Result<ShownReading, Error> {
+    let r = unsafe {
+        raw::df_show(
+            list.as_ptr(),
+            list.len(),
+            form as u8,
+            store.as_ptr(),
+            store.len(),
+            now,
+            vehicle,
+            signal,
+            kind as u8,
+        )
+    };
+    let shown = match r.unit {
+        0 => Shown::Code(r.code),
+        1 => Shown::Speed(r.value),
+        2 => Shown::Percentage(r.value),
+        3 => Shown::Current(r.value),
+        unit => newer_library("unit", unit),
+    };
+    let reading = ShownReading {
+        shown,
+        reason: Reason::of(r.reason).unwrap_or_else(|| newer_library("reason", r.reason)),
+    };
+    unless_refused(r.refusal, r.carried, reading)
+}
+
 /// Writes every route's value into its field of the vehicle bus data and gives the number of live ones. Refusals 1 to 5, 12.
 pub fn marshal(
     list: &[u8],
@@ -225,24 +265,6 @@ pub fn compose(
         )
     };
     unless_refused(r.refusal, r.carried, ())
-}
-
-/// Shows a raw value of a field of this width. The scaled kinds may be refused 26.
-pub fn show(kind: Kind, width: u64, raw: u64) -> Result<Shown, Error> {
-    let (r, shown): (_, fn(f32) -> Shown) = match kind {
-        Kind::Code => return Ok(Shown::Code(unsafe { raw::df_show_code(raw) })),
-        Kind::Speed => (unsafe { raw::df_show_speed(width, raw) }, Shown::Speed),
-        Kind::Percentage => (
-            unsafe { raw::df_show_percentage(width, raw) },
-            Shown::Percentage,
-        ),
-        Kind::SignedPercentage => (
-            unsafe { raw::df_show_signed_percentage(width, raw) },
-            Shown::Percentage,
-        ),
-        Kind::Current => (unsafe { raw::df_show_current(width, raw) }, Shown::Current),
-    };
-    unless_refused(r.refusal, 0, shown(r.value))
 }
 
 /// The vehicles of a train that meet an address. A vehicle is one octet of marks: 1 leading, 2 coach, 4 tractive, 8 led, 16 sleeping;

@@ -75,7 +75,7 @@ numbered! {
         AnswerToReport = 23, "answer to a report";
         HeadLength = 24, "head not 6 octets";
         OutputShort = 25, "output under 9 octets";
-        ScaledKind = 26, "scaled kind, with width not 16 or raw above 65,535";
+        ScaledKind = 26, "scaled kind, with width not 16";
         NoCheckPlace = 27, "no check place in the table";
         SerialSet = 32, "serial number set";
         FormOutput = 33, "output not of the needed length";

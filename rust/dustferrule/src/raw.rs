@@ -1,5 +1,5 @@
 //! `include/dustferrule.h`, line for line: what the proved library exports. (Its lists of refusals and reasons are [`crate::Refusal`] and
-//! [`crate::Reason`], its forms are [`crate::Form`].)
+//! [`crate::Reason`], its forms are [`crate::Form`], its kinds [`crate::Kind`], and its units are those of [`crate::Shown`].)
 //!
 //! What the caller owes: each pointer with its length names memory that can be read (and written, where it is `*mut`), no longer than
 //! isize::MAX octets and aligned; an area that is written overlaps no other area of the same call; and no pointer is null, also with
@@ -91,19 +91,24 @@ pub struct df_reading {
     pub value: u64,
 }
 
+/// `code`: where a code is shown; `unit`: 0 none, of a code, 1 km/h, 2 per cent, 3 A; `value`: in that unit.
+#[repr(C)]
+#[derive(Debug, Clone, Copy)]
+pub struct df_shown {
+    pub refusal: u32,
+    pub reason: u32,
+    pub carried: u64,
+    pub code: u64,
+    pub unit: u32,
+    pub value: f32,
+}
+
 #[repr(C)]
 #[derive(Debug, Clone, Copy)]
 pub struct df_marshalled {
     pub refusal: u32,
     pub carried: u64,
     pub lives: u64,
-}
-
-#[repr(C)]
-#[derive(Debug, Clone, Copy)]
-pub struct df_shown {
-    pub refusal: u32,
-    pub value: f32,
 }
 
 #[repr(C)]
@@ -188,6 +193,18 @@ extern "C" {
         signal: u64,
     ) -> df_reading;
 
+    pub fn df_show(
+        list: *const u8,
+        list_len: usize,
+        form: u8,
+        store: *const u8,
+        store_len: usize,
+        clock: u32,
+        vehicle: u64,
+        signal: u64,
+        kind: u8,
+    ) -> df_shown;
+
     pub fn df_marshal(
         list: *const u8,
         list_len: usize,
@@ -211,12 +228,6 @@ extern "C" {
         out: *mut u8,
         out_len: usize,
     ) -> df_outcome;
-
-    pub fn df_show_code(raw: u64) -> u64;
-    pub fn df_show_speed(width: u64, raw: u64) -> df_shown;
-    pub fn df_show_percentage(width: u64, raw: u64) -> df_shown;
-    pub fn df_show_signed_percentage(width: u64, raw: u64) -> df_shown;
-    pub fn df_show_current(width: u64, raw: u64) -> df_shown;
 
     pub fn df_resolve(marks: *const u8, marks_len: usize, address: u64) -> df_members;
 

@@ -1,6 +1,8 @@
 //! Refusals and reasons by number and in words, and the refusals of calls as errors.
 
-use dustferrule::{compose, find_signal, judge, read, Error, Form, Reason, Refusal, STORE_OCTETS};
+use dustferrule::{
+    compose, find_signal, judge, read, show, Error, Form, Kind, Reason, Refusal, STORE_OCTETS,
+};
 
 /// The list L of document 01.
 const L: [u8; 44] = [
@@ -57,6 +59,14 @@ fn errors_say_what_they_carry() {
         }
     );
     assert_eq!(error.to_string(), "refused 11: no such signal");
+
+    let store = [0; STORE_OCTETS];
+    let error = show(&L, Form::One, &store, 0, 1, 0, Kind::Speed).unwrap_err();
+    assert_eq!((error.refusal, error.carried), (Refusal::ScaledKind, 0));
+    assert_eq!(
+        error.to_string(),
+        "refused 26: scaled kind, with width not 16"
+    );
 }
 
 #[test]

@@ -21,6 +21,12 @@ pub struct Reading {
     pub reason: u8,
 }
 
+#[derive(Debug, Clone, Copy, PartialEq)]
+pub struct ShownReading {
+    pub shown: Shown,
+    pub reason: u8,
+}
+
 #[derive(Debug, Clone, Copy, PartialEq, Eq)]
 pub enum Extends {
     Yes,
@@ -58,7 +64,6 @@ calls! {
     sweep(store: &mut [u8], now: u32) -> ();
     marshal(list: &[u8], form: Form, store: &[u8], now: u32, bus: &mut [u8]) -> u64;
     compose(list: &[u8], form: Form, kind: u64, values: &[u64], marks: &[u8], out: &mut [u8]) -> ();
-    show(kind: Kind, width: u64, raw: u64) -> Shown;
     resolve(marks: &[u8], address: u64) -> Members;
     e_read(telegram: &[u8]) -> EReading;
     e_answer(telegram: &[u8], head: &[u8], status: u8, out: &mut [u8]) -> ();
@@ -84,6 +89,22 @@ pub fn read(
     let read = dustferrule::read(list, form, store, now, vehicle, signal).map_err(plain)?;
     Ok(Reading {
         value: read.value,
+        reason: read.reason.number(),
+    })
+}
+
+pub fn show(
+    list: &[u8],
+    form: Form,
+    store: &[u8],
+    now: u32,
+    vehicle: u64,
+    signal: u64,
+    kind: Kind,
+) -> Result<ShownReading, Refusal> {
+    let read = dustferrule::show(list, form, store, now, vehicle, signal, kind).map_err(plain)?;
+    Ok(ShownReading {
+        shown: read.shown,
         reason: read.reason.number(),
     })
 }

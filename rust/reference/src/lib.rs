@@ -1,6 +1,6 @@
 //! The gateway library of document 01, written a second time and independently: taking R-telegrams into
-//! a store, the gap between two of them, sweeping it, reading and marshalling signals, composing R-telegrams, judging signal lists and moving
-//! them from one form to the other, resolving addresses, and reading and answering E-telegrams.
+//! a store, the gap between two of them, sweeping it, reading, showing and marshalling signals, composing R-telegrams, judging signal
+//! lists and moving them from one form to the other, resolving addresses, and reading and answering E-telegrams.
 //!
 //! Every function is total: it answers or refuses for every input and never panics. Every public call
 //! tests its own input, and a refusal changes no lent octet.
@@ -35,7 +35,7 @@ pub use marshal::marshal;
 pub use octets::{read_field, write_field};
 pub use reading::{read, Reading};
 pub use refusal::Refusal;
-pub use shown::{show, Kind, Shown};
+pub use shown::{show, Kind, Shown, ShownReading};
 pub use sizes::{
     HEAD, HEARD, PREVIOUS, SERIAL_SIZE, SIGNAL_SIZE, SLOT, STAMP, STORE, TELEGRAM, VEHICLES,
 };

@@ -27,7 +27,18 @@ pub fn read(
     vehicle: u64,
     signal: u64,
 ) -> Result<Reading, Refusal> {
-    let list = List::judged(list, form)?;
+    read_under(&List::judged(list, form)?, store, now, vehicle, signal)
+}
+
+/// Reads under a judged list. Refusals 5, 6, 11.
+#[inline]
+pub(crate) fn read_under(
+    list: &List,
+    store: &[u8],
+    now: u32,
+    vehicle: u64,
+    signal: u64,
+) -> Result<Reading, Refusal> {
     let slots = slots(store)?;
     let slot = slot_of(vehicle)?;
     if signal >= list.signals.len() as u64 {
@@ -36,7 +47,7 @@ pub fn read(
     let number = signal as usize;
     let signal = list.signals.at(number);
     Ok(read_slot(
-        &list,
+        list,
         signal,
         list.codes_of(number),
         &slots[slot],

@@ -3,9 +3,9 @@
 mod support;
 
 use reference::{
-    check_place, judge, marshal, read, show, take, Counts, Form, Kind, Reading, Shown,
+    check_place, judge, marshal, read, show, take, Counts, Form, Kind, Reading, Shown, ShownReading,
 };
-use support::{r1, refusal, L, STORE};
+use support::{list_v, r1, raw_at, refusal, L, STORE};
 
 /// "Vehicle 1 sends R1, version 1", with octets 41 and 54 as given.
 fn heard(stamp: u32, octet_41: u8, octet_54: u8) -> Vec<u8> {
@@ -17,6 +17,14 @@ fn heard(stamp: u32, octet_41: u8, octet_54: u8) -> Vec<u8> {
 fn reading(store: &[u8], now: u32) -> (u64, u8) {
     let Reading { value, reason } = read(&L, Form::One, store, now, 1, 0).unwrap();
     (value, reason)
+}
+
+/// A raw value of 16 bits, live.
+fn shown(raw: u16, kind: Kind) -> Shown {
+    let answer = show(&list_v(16, 0), Form::One, &raw_at(raw), 5_000, 1, 0, kind);
+    let ShownReading { shown, reason } = answer.unwrap();
+    assert_eq!(reason, 0);
+    shown
 }
 
 #[test]
@@ -90,17 +98,17 @@ fn j_and_k_marshalled() {
 
 #[test]
 fn l_as_speed() {
-    assert_eq!(show(Kind::Speed, 16, 16_384), Ok(Shown::Speed(256.0)));
+    assert_eq!(shown(16_384, Kind::Speed), Shown::Speed(256.0));
 }
 
 #[test]
 fn also_run() {
     assert_eq!(check_place(8 * 61 + 4), Ok(8 * 41 + 2));
     assert_eq!(check_place(8 * 45), Err(refusal(27, 0)));
-    assert_eq!(show(Kind::Speed, 16, 1), Ok(Shown::Speed(0.015625)));
+    assert_eq!(shown(1, Kind::Speed), Shown::Speed(0.015625));
     assert_eq!(
-        show(Kind::SignedPercentage, 16, 49_152),
-        Ok(Shown::Percentage(-100.0))
+        shown(49_152, Kind::SignedPercentage),
+        Shown::Percentage(-100.0)
     );
     assert_eq!(judge(&L[..43], Form::One), Err(refusal(1, 36)));
     let mut more = L.to_vec();

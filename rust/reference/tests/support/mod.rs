@@ -38,6 +38,22 @@ pub fn r1(octet_41: u8, octet_54: u8) -> [u8; TELEGRAM] {
     telegram
 }
 
+/// C-23: one signal from R1 octet 51 on, with no check, 5,000 ms, and this width and replacement.
+pub fn list_v(width: u8, replacement: u64) -> Vec<u8> {
+    let entry = [0x01, 0x90, width, 1, 0, 1, 0, 0, 0x13, 0x88];
+    let replacement = &replacement.to_be_bytes()[2..];
+    [&[0, 0, 0, 1], &entry[..], replacement, &[0; 4]].concat()
+}
+
+/// A store in which vehicle 1 sent an R1 of version 1 at 0, with a raw value in octets 51 and 52.
+pub fn raw_at(raw: u16) -> Vec<u8> {
+    let mut telegram = r1(0, 0);
+    telegram[50..52].copy_from_slice(&raw.to_be_bytes());
+    let mut store = vec![0; STORE];
+    reference::take(&mut store, 1, 0, &telegram).unwrap();
+    store
+}
+
 /// Fills a vehicle's slot: the heard octet, the stamp, the telegram and zeros behind it.
 pub fn plant(store: &mut [u8], vehicle: usize, heard: u8, stamp: u32, telegram: &[u8]) {
     let slot = &mut store[SLOT * (vehicle - 1)..SLOT * vehicle];
