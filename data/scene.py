@@ -1,7 +1,7 @@
 #!/usr/bin/env python3
 """Writes the telegrams and the store of scene/, a short train at work, packed from signals.csv alone. scene/README.md says what they are for.
 
-    data/scene.py            writes them, and for the first the values file that `compose` makes it from
+    data/scene.py            writes them, and for the first the values file that `compose` makes it from and what an old gateway passes on of it
     data/scene.py --check    only says whether they are as they would be written
 """
 import csv
@@ -78,6 +78,31 @@ def telegram(kind, version, values, marks=(), with_added=False):
     return bytes(octets)
 
 
+def bits(octets, start, width):
+    return int.from_bytes(octets, "big") >> 8 * len(octets) - start - width & (1 << width) - 1
+
+
+def is_known(row, value):
+    ranges = [part.split("-") for part in row["known_codes"].split(";")]
+    return row["known_codes"] == "all" or any(int(r[0]) <= value <= int(r[-1]) for r in ranges)
+
+
+def relayed(heard):
+    """What a gateway with coach.list composes of a telegram that it heard in time: each value as it came, or, where it is newer than the telegram or its
+    mark or code is no good, the lowest code; each mark as it came where all under it was good, else error."""
+    kind = next(k for k, head in HEADS.items() if head == heard[0])
+    values, good = {"R3": {}, kind: {}}, {place: [] for place in CHECKS}
+    for row in signals(False):
+        if row["telegram"] in values:
+            start, check, since = int(row["start"]), int(row["check"]), 2 if row["listed_in_002.01"] == "yes" else 1
+            value = bits(heard, start, int(row["width"]))
+            # version 0 is read as 1
+            good[check].append(since <= max(1, heard[1]) and bits(heard, check, 2) in (OK, FORCED) and is_known(row, value))
+            values[row["telegram"]][start] = value if good[check][-1] else lowest(row)
+    marks = {place: bits(heard, place, 2) if under and all(under) else ERROR for place, under in good.items()}
+    return telegram(kind, 2, values, marks)
+
+
 def place(start, width):
     """A field as the programs write it: its octets, one octet, a bit or bits of one, or from a bit of one to a bit of another."""
     first, last = start // 8 + 1, (start + width - 1) // 8 + 1
@@ -105,6 +130,7 @@ def main():
     return settle({
         "scene/1-R1.telegram": r1,
         "scene/1-R1.values": values_file("R1", LEADING),
+        "scene/1-R1-relayed.telegram": relayed(r1),
         "scene/2-R2.telegram": r2,
         "scene/3-R3.telegram": r3,
         "scene/train.store": store(slot(6000, r1), slot(7500, r2), slot(1000, r3)),

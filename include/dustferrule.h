@@ -198,6 +198,13 @@ df_marshalled df_marshal(const uint8_t *list, size_t list_len, uint8_t form, con
 df_outcome df_compose(const uint8_t *list, size_t list_len, uint8_t form, uint64_t type, const uint64_t *values, size_t values_len,
                       const uint8_t *marks, size_t marks_len, uint8_t *out, size_t out_len);
 
+/* Composes anew the R-telegram that a vehicle (1-63) was last heard with, expired or not, as a gateway in the middle passes it on: of the same
+ * type, with the list's version, each signal that the type carries as it is read, live or replaced. A check keeps its mark if the type carries
+ * signals under it and all these are live, else it is error; what the list does not know is 0. Refusals 1-4, then 5, 6, 9 where there is no such
+ * telegram, 15 where a replacement would go out that is no known code, 16. */
+df_outcome df_relay(const uint8_t *list, size_t list_len, uint8_t form, const uint8_t *store, size_t store_len, uint32_t clock, uint64_t vehicle,
+                    uint8_t *out, size_t out_len);
+
 /* The vehicles of a train that meet an address (1-63, 64, 65, 66, 67, 70, 92). One mark octet for each vehicle, vehicle 1 first:
  * 1 leading, 2 coach, 4 tractive, 8 led, 16 sleeping; the three high bits are not read. Refusals 17-20. */
 df_members df_resolve(const uint8_t *marks, size_t marks_len, uint64_t address);

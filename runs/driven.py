@@ -16,7 +16,7 @@ import time
 import printed
 
 ROOT = printed.ROOT
-PROGRAMS = ("judge", "extends", "convert", "take", "sweep", "believe", "differ", "marshal", "compose")
+PROGRAMS = ("judge", "extends", "convert", "take", "sweep", "believe", "differ", "marshal", "compose", "relay")
 TOOLS = ("sh", "awk", "readlink", "uname")  # what an installed program needs beside itself
 BUILT = ("bin", "stamp")  # of target/: what a run goes by that finds all proved
 OTHER = os.uname().machine != "x86_64"
@@ -93,6 +93,12 @@ def statuses(how, start, env=None):
     for status, second, *behind in ((0, COACH), (1, NEXT), (0, COACH_2, "second-form2")):
         done = run(start("differ") + [COACH, second, STORE, "9000", "table", *behind], env=env)
         check(f"{how}, differ with {second} as a table", done.returncode == status and done.stdout.startswith("vehicle\t") and not done.stderr, done)
+    for status, *behind in ((0, "9000"), (1, "7000"), (0, "9000", "table"), (1, "7000", "table")):
+        done = run(start("differ") + [NEXT, NEXT, STORE, "9000", "behind", STORE, *behind], env=env)
+        check(f"{how}, differ behind at {' '.join(behind)}", done.returncode == status and done.stdout and not done.stderr, done)
+    end(2, ["differ", COACH, NEXT, STORE, "9000", "behind", COACH, "9000"], err="refused 5 (second store): ")
+    end(1, ["relay", COACH, STORE, "9000", "4", "data/none"], err="refused 9: ")
+    end(2, ["relay", COACH, STORE, "9000", "1", STORE], err=f"error: OUT '{STORE}': is given twice")
     end(2, ["differ", COACH, STORE, STORE, "9000"], err="refused ")
     end(2, ["differ", COACH, "data/none", STORE, "9000"], err="error: ")
     for name in PROGRAMS:
@@ -156,6 +162,9 @@ def standard_input():
     ends("extends - of the second", given(WRONG, "extends", COACH, "-"), 1, "extends: no\n")
     ends("extends - twice", given(COACH, "extends", "-", "-"), 2, err="error: ")
     ends("a number -", given(COACH, "believe", COACH, STORE, "-"), 2, err="error: ")
+    both = run([me, "differ", NEXT, NEXT, STORE, "9000", "behind", STORE, "7000", "1"]).stdout
+    ends("differ - behind", given(STORE, "differ", NEXT, NEXT, STORE, "9000", "behind", "-", "7000", "1"), 1, both)
+    ends("differ of a vehicle, then -", given(STORE, "differ", NEXT, NEXT, STORE, "9000", "1", "-"), 2, err="error: '-' ")
     piped = subprocess.run(f"cat {COACH} | ./run judge -", shell=True, cwd=ROOT, capture_output=True, text=True)
     ends("judge - of a pipe", piped, 0, OK)
     with tempfile.TemporaryDirectory() as folder:
@@ -164,13 +173,14 @@ def standard_input():
         shutil.copy(os.path.join(ROOT, COACH), os.path.join(folder, "bus"))
         before = set(os.listdir(folder))
         for words in (["take", "-", "1", "1", "1-R1.telegram"], ["take", "new", "-"], ["sweep", "-", "9000"], ["marshal", "coach.list", "train.store", "9000", "-"],
-                      ["compose", "coach.list", "R3", "1-R1.values", "-"], ["convert", "coach.list", "form2", "-"]):
+                      ["compose", "coach.list", "R3", "1-R1.values", "-"], ["relay", "coach.list", "train.store", "7000", "1", "-"], ["convert", "coach.list", "form2", "-"]):
             ends(" ".join(words), given(COACH, *words, folder=folder), 2, err="error: '-' ")
         check("nothing is written to a file '-'", set(os.listdir(folder)) == before)
         ends("convert of -", given(COACH, "convert", "-", "form2", "moved", folder=folder), 0, "moved to form 2: 165 signals, 3404 octets\n")
         ends("judge of what it made", given(os.path.join(folder, "moved"), "judge", "-", "form2"), 0, OK)
         taken = given("data/scene/2-R2.telegram", "take", "train.store", "5", "8000", "-", folder=folder)
         ends("take of -", taken, 0, "taken R2 version 2 vehicle 5 at 8000\n")
+        ends("relay of -", given(STORE, "relay", "coach.list", "-", "7000", "1", "passed", folder=folder), 0, "relayed R1 version 2 octets 128, live 128 of 129 signals\n")
 
 
 def install():

@@ -9,6 +9,7 @@ import decimal
 import fractions
 import itertools
 import os
+import random
 import re
 import resource
 import shutil
@@ -88,7 +89,15 @@ MOST_64 = 2**64 - 1
 R1_WIDE = put(b"\x11\x01" + bytes(126), (320, 2, 2), (256, 64, 2**63), (424, 64, MOST_64), (489, 49, 2**49 - 1), (539, 63, 2**63 - 1), (700, 4, 9), (955, 64, MOST_64))
 WIDE_HEARD = slots.store(slots.slot(6000, R1_WIDE))
 
-
+# vehicle 1 as it is heard behind a gateway with coach.list, by one whose counter is another
+RELAYED = scene.relayed(R1)
+LAST = slots.store(slots.slot(500, RELAYED))
+# L's signal under every mark; a code that L does not know; under another type, whose telegram has the check and not the signal, and beside neither
+UNDER_L = [put(b"\x11\x09" + bytes(126), (322, 2, mark), (424, 4, 4)) for mark in range(4)]
+UNDER_L += [put(UNDER_L[2], (424, 4, 7)), b"\x12\x09" + UNDER_L[2][2:], b"\x13\x09" + bytes(38)]
+# two signals under a check, of which one came with version 2; and one under none, whose replacement is no code that is known
+TWO = lists.pack([lists.check(322)], [lists.signal(424, 4, check=1, replacement=5), lists.signal(440, 4, check=1, since=2, replacement=6), lists.signal(448, 4, replacement=9)], [lists.code(2, 0, 3)])
+UNDER_TWO = [put(bytes([0x11, version]) + bytes(126), (322, 2, mark), (424, 4, 1), (440, 4, 2), (448, 4, code)) for version, mark, code in ((2, 2, 3), (1, 1, 3), (2, 0, 3), (2, 1, 4))]
 
 # what a raw value is on the scale of its kind, and the unit
 SCALES = {
@@ -152,6 +161,8 @@ FILES = {
     "bus": b"\xff" * 20, "bus-17": b"\xff" * 17, "bus-18": b"\xff" * 18, "bus-4096": b"\xff" * 4096, "bus-4097": bytes(4097),
     "bus-40": b"\xff" * 40, "bus-128": b"\xff" * 128, "zeros-8": bytes(8), "zeros-128": bytes(128), "list-128": LIST_128, "list-40": LIST_40,
     "units.list": UNITS, "units-2.list": UNITS_2, "beside.list": BESIDE, "units-heard": UNITS_HEARD,
+    "relayed": RELAYED, "last": LAST, "under-L": slots.store(*(slots.slot(6000, telegram) for telegram in UNDER_L)),
+    "two.list": TWO, "under-two": slots.store(*(slots.slot(6000, telegram) for telegram in UNDER_TWO), slots.slot(6000, b"\x12" + UNDER_TWO[3][1:])),
 }
 
 
@@ -432,7 +443,7 @@ def believe_table():
 def differ_table():
     words = ["differ", "coach.list", "next.list", "train", CLOCK, "1"]
     yield ["differ", "help"], as_in("differ-help")
-    text = "differ LIST LIST STORE CLOCK [VEHICLE] [only] [table] [first-form2] [second-form2]"
+    text = "differ LIST LIST STORE CLOCK [behind STORE2 CLOCK2] [VEHICLE] [only] [table] [first-form2] [second-form2]"
     names = "vehicle telegram version age type start differs width_1 value_1 reason_1 width_2 value_2 reason_2 gap shown_1 shown_2 unit"
     yield from usage("differ", (4, 5), text)
     yield words + ["1", "only"], error("usage: " + text)
@@ -501,6 +512,7 @@ def differ_table():
     yield ["differ", "units.form2", "units-2.form2", *shown[3:], "3", first, second, "table"], as_in("differ-units-form2-table")
     yield ["differ", "units.list", "beside.list", *shown[3:], "3"], as_in("differ-beside")
     yield ["differ", "beside.list", "beside.list", *shown[3:], "3", "table"], as_in("differ-beside-table")
+    yield from behind_table(names, text)
     yield words[:5] + [first, first], error(f"VEHICLE '{first}': {MOST}")
     yield words[:5] + [first, "1"], error(f"VEHICLE '{first}': {MOST}")
     yield words + [second, first, second], error("usage: " + text)
@@ -515,6 +527,75 @@ def differ_table():
     yield from no_file("STORE", words, 3)
     yield from no_number("CLOCK", words, 4)
     yield from no_number("VEHICLE", words, 5)
+
+
+def behind_table(names, text):
+    """`differ` with a store and a clock of the second gateway's own; without them the names of its table and its usage are these."""
+    words = ["differ", "next.list", "next.list", "train", "7000", "behind", "last", "1000", "1"]
+    first, second, names_2 = "first-form2", "second-form2", names + " telegram_2 version_2 age_2 gap_2"
+    # what one believes that heard vehicle 1 itself, and one behind a gateway with last year's list
+    yield words, as_in("differ-behind")
+    yield words + ["only"], as_in("differ-behind-only")
+    for both in (["only", "table"], ["table", "only"]):
+        yield words + both, as_in("differ-behind-only-table")
+    # all that either has heard, expired, never heard or in time there, by another list
+    across = ["differ", "across.list", "across-2.list"]
+    yield across + ["train", CLOCK, "behind", "parked", "9500"], as_in("differ-behind-expired")
+    yield across + ["train", CLOCK, "behind", "parked", "9500", "table"], as_in("differ-behind-expired-table")
+    yield across + ["last", "600", "behind", "gaps", CLOCK], as_in("differ-behind-gaps")
+    yield across + ["gaps", CLOCK, "behind", "last", "600", "only"], as_in("differ-behind-gaps-turned")
+    alone = ["differ", "L.list", "L.list", "store", CLOCK, "behind"]
+    head = "first  'L.list' signals 1 version 1\nsecond 'L.list' signals 1 version 1\n"
+    yield alone + ["last", "600"], says(
+        head + "vehicle 1: never heard | R1 version 2 age 100 ms gap 500 ms\n"
+        "*  1  R1 octet 54 bits 0-3                  0  2 never heard             |               3  0 live ok\n"
+        "vehicle 1 differs on 1 of 1 lines\nnever heard: 2-63\ndiffer: 1 of 1 lines")
+    yield ["differ", "L.list", "L.list", "last", "600", "behind", "store", CLOCK, "table"], table(names_2, "1 R1 2 100 R1 424 1 4 3 0 4 0 2 500 - - - - - - -")
+    yield alone + ["last", "499", "1", "only"], says(
+        head + "vehicle 1: never heard | R1 version 2 age 4294967295 ms (stamp after the clock) gap 500 ms\n"
+        "*  1  R1 octet 54 bits 0-3                  0  2 never heard             |               0  3 too old\n"
+        "vehicle 1 differs on 1 of 1 lines\ndiffer: 1 of 1 lines")
+    yield alone + ["store", "0"], says(head + "never heard: 1-63\ndiffer: 0 of 0 lines")
+    yield alone + ["store", "0", "63"], says(
+        head + "vehicle 63: never heard | never heard\n  63  R1 octet 54 bits 0-3                  0  2 never heard             |               0  2 never heard\n"
+        "vehicle 63 differs on 0 of 1 lines\ndiffer: 0 of 1 lines")
+    yield alone + ["store", "0", "63", "table"], table(names_2, "63 - - - R1 424 0 4 0 2 4 0 2 - - - - - - - -")
+    # the same store at the same clock, and at another
+    same = ["differ", "coach.list", "next.list", "train", CLOCK, "behind", "train"]
+    yield same + [CLOCK, "1", "only", "table"], table(
+        names_2, *(f"1 R1 3 3000 R1 {row} 6000 - - - R1 3 3000 6000" for row in ("380 1 4 0 8 4 2 0", "424 1 4 3 0 4 15 3", "524 1 - - - 4 2 0")))
+    yield same + ["7000", "1", "table", "only"], table(
+        names_2, *(f"1 R1 3 3000 R1 {row} 6000 - - - R1 3 1000 6000" for row in ("380 1 4 0 8 4 2 0", "524 1 - - - 4 2 0")))
+    # with a list in form 2, or both, and in a unit
+    numbers_2 = names_2.replace("gap ", "gap serial_1 serial_2 ")
+    yield ["differ", "L.form2", "L.moved", "train", CLOCK, "behind", "last", "600", "1", second, "table", first], table(
+        numbers_2, "1 R1 3 3000 R1 424 0 4 3 0 4 3 0 6000 10.1R - - - - R1 2 100 500")
+    yield ["differ", "coach-2.list", "next-2.list", "train", "7000", "behind", "last", "600", "1", second, "only", first], as_in("differ-behind-form2")
+    yield ["differ", "units.list", "units-2.list", "units-heard", CLOCK, "behind", "train", CLOCK, "3"], as_in("differ-behind-units")
+    # the words elsewhere, or not all of them
+    yield words[:6], error(f"VEHICLE 'behind': {MOST}")
+    yield words[:7], error("usage: " + text)
+    yield words[:5] + ["1"] + words[5:8], error("usage: " + text)
+    yield words[:5] + ["only"] + words[5:8], error("usage: " + text)
+    yield words[:5] + ["behind"] + words[5:7], error(f"CLOCK 'last': {MOST}")
+    yield words[:6] + ["only", "1000"], error("second STORE 'only': " + NO_FILE)
+    yield words[:8] + ["only", "1"], error(f"VEHICLE 'only': {MOST}")
+    yield words[:8] + ["behind", "last", "1000"], error("usage: " + text)
+    yield words + ["1"], error("usage: " + text)
+    # the first list, the second, the first store, the second, the vehicle
+    for refuse, at, file in ((NO_STORE, 3, "store-1"), (OLDER, 3, "store-older"), (NO_STORE, 6, "store+1"), (OLDER, 6, "store-older"), (NO_STORE, 6, "r1")):
+        bad = words[:at] + [file] + words[at + 1:8] + ["64"]
+        yield bad, refused(refuse.replace("5:", "5 (first store):" if at == 3 else "5 (second store):", 1))
+    yield words[:3] + ["store-1", CLOCK, "behind", "store+1", CLOCK], refused(NO_STORE.replace("5:", "5 (first store):"))
+    yield words[:8] + ["64"], refused("6: vehicle not 1-63")
+    yield words[:8] + ["0", "table"], refused("6: vehicle not 1-63")
+    yield from no_list(words[:3] + ["store-1", CLOCK, "behind", "store-1", CLOCK], 1, "first LIST", " (first list)")
+    yield from no_list(words[:3] + ["store-1", CLOCK, "behind", "store-1", CLOCK], 2, "second LIST", " (second list)")
+    yield from no_file("STORE", words, 3)
+    yield from no_file("second STORE", words, 6)
+    yield from no_number("CLOCK", words, 4)
+    yield from no_number("CLOCK", words, 7)
+    yield from no_number("VEHICLE", words, 8)
 
 
 def marshal_table():
@@ -732,6 +813,88 @@ def compose_table():
     yield from no_file("VALUES", words, 3)
 
 
+def relay_table():
+    def relayed(octets, live, carried, out="out"):
+        return says(f"relayed R{octets[0] % 16} version {octets[1]} octets {len(octets)}, live {live} of {carried} signals", **{out: octets})
+
+    def made(kind, *fields, version=1):
+        return put(bytes([0x10 + kind, version]) + bytes(38 if kind == 3 else 126), *fields)
+
+    def nothing(kind):
+        """All that coach.list has, replaced and marked error."""
+        return scene.telegram(kind, 2, {}, {place: scene.ERROR for place in scene.CHECKS})
+
+    words = ["relay", "coach.list", "train", "7000", "1", "out"]
+    text = "relay LIST STORE CLOCK VEHICLE OUT [form2]"
+    yield ["relay", "help"], as_in("relay-help")
+    yield from usage("relay", (5,), text)
+    # vehicle 1 says one code that coach.list does not know; of 2 a mark is error; 3 speaks version 1
+    yield words, relayed(RELAYED, 128, 129)
+    yield ["relay", "coach.list", "train", CLOCK, "2", "out"], relayed(scene.relayed(R2), 115, 116)
+    yield ["relay", "coach.list", "train", "6000", "3", "out"], relayed(scene.relayed(R3), 17, 80)
+    # in time, too old, with a stamp after the clock, and expired
+    yield ["relay", "coach.list", "train", "11000", "1", "out"], relayed(RELAYED, 128, 129)
+    for store, clock, vehicle, kind, carried in (("train", "11001", 1, "R1", 129), ("train", "5999", 1, "R1", 129), ("train", "6001", 3, "R3", 80), ("parked", CLOCK, 1, "R1", 129), ("parked", "7500", 2, "R2", 116)):
+        yield ["relay", "coach.list", store, clock, str(vehicle), "out"], relayed(nothing(kind), 0, carried)
+    yield ["relay", "unlimited.list", "parked", CLOCK, "1", "out"], relayed(made(1, (384, 8, 32)), 1, 2)
+    # what was relayed is heard, believed and relayed again
+    yield ["take", "store", "1", "500", "relayed"], says("taken R1 version 2 vehicle 1 at 500", store=LAST)
+    yield ["believe", "next.list", "last", "1000"], as_in("believe-relayed")
+    lost = sum(row["check"] == "320" and row["telegram"] in ("R3", "R1") for row in rows_of_signals())
+    yield ["relay", "coach.list", "last", "1000", "1", "out"], relayed(scene.relayed(RELAYED), 129 - lost, 129)
+    # a mark of each kind; a code that is not known; a type that carries nothing under the check, and one that has not the check either
+    for vehicle, mark, value in ((1, 0, 0), (2, 1, 4), (3, 2, 4), (4, 0, 0), (5, 0, 0)):
+        yield ["relay", "L.list", "under-L", CLOCK, str(vehicle), "out"], relayed(made(1, (322, 2, mark), (424, 4, value)), int(value > 0), 1)
+    for vehicle, kind in ((6, 2), (7, 3)):
+        yield ["relay", "L.list", "under-L", CLOCK, str(vehicle), "out"], relayed(made(kind), 0, 0)
+    # all that is under a check, or some, or nothing; a signal under none is as live as it is
+    for vehicle, live, *values in ((1, 3, 2, 1, 2, 3), (2, 2, 0, 1, 6, 3), (3, 1, 0, 5, 6, 3)):
+        octets = made(1, *((start, width, value) for start, width, value in zip((322, 424, 440, 448), (2, 4, 4, 4), values)), version=2)
+        yield ["relay", "two.list", "under-two", CLOCK, str(vehicle), "out"], relayed(octets, live, 3)
+    # a replacement that is no code that is known: where it would go out, and where its signal is not carried
+    for clock, vehicle in ((CLOCK, 4), ("11001", 1), ("11001", 4)):
+        yield ["relay", "two.list", "under-two", clock, str(vehicle), "store"], refused("15 signal 2: a written value at or above 2^width, or its code not known")
+    yield ["relay", "two.list", "under-two", "11001", "5", "out"], relayed(made(2, version=2), 0, 0)
+    # no check at all: every value goes out, up to 64 bits
+    yield ["relay", "wide.list", "wide-heard", CLOCK, "1", "out"], relayed(R1_WIDE, 6, 6)
+    yield ["relay", "units.list", "units-heard", CLOCK, "4", "out"], relayed(R2_UNITS, 8, 8)
+    yield ["relay", "zeros-8", "train", CLOCK, "3", "out"], relayed(made(3), 0, 0)
+    # nothing was heard, or what was has no type
+    for store, vehicle in (("train", 4), ("store", 1), ("gaps", 5), ("octets", 2), ("octets", 6), ("octets", 7), ("octets", 10)):
+        yield ["relay", "coach.list", store, CLOCK, str(vehicle), "store"], refused("9: telegram type not 1-3")
+    yield ["relay", "coach.list", "octets", CLOCK, "3", "out"], relayed(nothing("R1"), 0, 129)
+    for vehicle in ("0", "64", "4294967295"):
+        yield ["relay", "coach.list", "train", CLOCK, vehicle, "store"], refused("6: vehicle not 1-63")
+    for file, line in (("store-1", NO_STORE), ("store+1", NO_STORE), ("r1", NO_STORE), ("store-older", OLDER)):
+        yield ["relay", "coach.list", file, CLOCK, "64", "store"], refused(line)
+    yield from no_list(["relay", "L.list", "store-1", CLOCK, "64", "store"], 1)
+    # over a telegram, and over nothing else
+    for file in ("r1", "r2", "r3"):
+        yield words[:5] + [file], relayed(RELAYED, 128, 129, file)
+    for file in ("store", "next.list", "v-L", "bus", "empty", "r1-127", "r1-129", "bus-40", "bus-128", "list-40", "list-128", "app", "kind", "r3-128", "last"):
+        yield words[:5] + [file], error(f"OUT '{file}': {NO_TELEGRAM}")
+    for file in ("coach.list", "train"):
+        yield words[:5] + [file], error(f"OUT '{file}': {TWICE}")
+    yield words[:5] + ["locked"], error("OUT 'locked.new': " + LEFT)
+    yield words[:5] + ["none/x"], error("OUT 'none/x.lock': " + NO_FILE)
+    yield words[:5] + ["folder"], error("OUT 'folder': is a folder")
+    yield words[:5] + [""], error("OUT '': " + NO_FILE)
+    # in form 2 the same telegram
+    yield ["relay", "coach-2.list", *words[2:], "form2"], relayed(RELAYED, 128, 129)
+    yield ["relay", "L.moved", "under-L", CLOCK, "3", "out", "form2"], relayed(UNDER_L[2][:1] + b"\x01" + UNDER_L[2][2:], 1, 1)
+    yield ["relay", "two.form2", "under-two", CLOCK, "4", "out", "form2"], refused("15 signal 2: a written value at or above 2^width, or its code not known")
+    yield ["relay", "coach-2.list", *words[2:]], refused("3 at 116: entry breaks its rule")
+    yield words + ["form2"], refused("3 at 118: entry breaks its rule")
+    for behind in (["form2", "form2"], ["form1"], ["table"], ["form2", "x"]):
+        yield words + behind, error("usage: " + text)
+    yield words[:5] + ["form2", "out"], error("usage: " + text)
+    yield words[:5] + ["form2"], says("relayed R1 version 2 octets 128, live 128 of 129 signals", form2=RELAYED)
+    yield from no_file("LIST", words, 1)
+    yield from no_file("STORE", words, 2)
+    yield from no_number("CLOCK", words, 3)
+    yield from no_number("VEHICLE", words, 4)
+
+
 def convert_table():
     words = ["convert", "coach.list", "form2", "out"]
     yield ["convert", "help"], as_in("convert-help")
@@ -790,6 +953,9 @@ SAME = [
     ["compose", "next.list", "R1", "values", "out"], ["compose", "L.list", "R1", "v-L", "out"], ["compose", "L.list", "R2", "v-place-last", "out"],
     ["compose", "across.list", "R1", "v-three", "out"], ["compose", "wide.list", "R1", "v-64", "out"], ["compose", "coach.list", "R1", "v-zero", "out"],
     ["compose", "L.list", "R1", "v-check-beside", "out"], ["compose", "L.list", "R1", "v-mark", "out"],
+    ["relay", "coach.list", "train", "7000", "1", "out"], ["relay", "next.list", "train", CLOCK, "2", "out"], ["relay", "L.list", "under-L", CLOCK, "6", "out"],
+    ["relay", "two.list", "under-two", CLOCK, "2", "out"], ["relay", "two.list", "under-two", CLOCK, "4", "out"], ["relay", "wide.list", "wide-heard", CLOCK, "1", "out"],
+    ["differ", "next.list", "next.list", "train", "7000", "behind", "last", "1000", "1"], ["differ", "across.list", "across-2.list", "train", CLOCK, "behind", "parked", "9500", "table"],
 ]
 NUMBER = r"(?:no serial number|0x[0-9A-F]{4}|\d+\.\d+[A-Z]?(?:/\d)?[de]?)"
 
@@ -888,6 +1054,23 @@ def badly_shown(folder):
         os.remove(os.path.join(folder, name))
 
 
+def badly_relayed(folder):
+    """Whether of seeded telegrams, some of whose marks and bits are no good, the same is relayed under coach.list as data/scene.py makes of them."""
+    noise, telegrams = random.Random(24), []
+    for vehicle in range(slots.VEHICLES):
+        marks = {place: noise.choices(range(4), (1, 20, 4, 1))[0] for place in scene.CHECKS}
+        octets = scene.telegram(noise.choice(TYPES), noise.choice((0, 1, 2, 3)), {}, marks)
+        telegrams.append(put(octets, *((noise.randrange(64, 8 * len(octets)), 1, 1) for _ in range(vehicle))))
+    with open(os.path.join(folder, "some"), "wb") as f:
+        f.write(slots.store(*(slots.slot(6000, telegram) for telegram in telegrams)))
+    for vehicle, telegram in enumerate(telegrams, 1):
+        run(folder, ["relay", "coach.list", "some", CLOCK, str(vehicle), "out"])
+        if held(folder).get("out") != scene.relayed(telegram):
+            yield telegram.hex(), "relayed otherwise"
+    for name in ("some", "out"):
+        os.remove(os.path.join(folder, name))
+
+
 def fill(folder):
     os.mkdir(os.path.join(folder, "folder"))
     for name, octets in {**FILES, **VALUES}.items():
@@ -945,7 +1128,7 @@ PAGED = [
 
 ONE_LINE = [
     ["take", "store", "64", "1", "r1"], ["sweep", "store-1", "1"], ["judge", "broken.list"], ["differ", "L.list", "broken.list", "train", CLOCK], ["believe", "none", "train", CLOCK],
-    ["convert", "coach-2.list", "form1", "out"],
+    ["convert", "coach-2.list", "form1", "out"], ["relay", "two.list", "under-two", CLOCK, "4", "out"], ["differ", "L.list", "L.list", "train", CLOCK, "behind", "store-1", CLOCK],
 ]
 
 
@@ -1018,7 +1201,7 @@ def main():
     folder = tempfile.mkdtemp()
     try:
         fill(folder)
-        tables = [row for table in (take_table, sweep_table, believe_table, differ_table, marshal_table, compose_table, convert_table) for row in table()]
+        tables = [row for table in (take_table, sweep_table, believe_table, differ_table, marshal_table, compose_table, relay_table, convert_table) for row in table()]
         failing = [
             (["take", "store", "1", "5000", "r1"], error("STORE 'store.new': cannot be written")),
             (["take", "new", "made"], error("STORE 'made.new': cannot be written")),
@@ -1026,6 +1209,8 @@ def main():
             (["marshal", "L.list", "train", CLOCK, "bus-4096"], error("DATA 'bus-4096.new': cannot be written")),
             (["compose", "L.list", "R1", "v-L", "out"], error("OUT 'out.new': cannot be written")),
             (["compose", "L.list", "R1", "v-L", "r3"], error("OUT 'r3.new': cannot be written")),
+            (["relay", "L.list", "under-L", CLOCK, "2", "out"], error("OUT 'out.new': cannot be written")),
+            (["relay", "L.list", "under-L", CLOCK, "2", "r3"], error("OUT 'r3.new': cannot be written")),
             (["convert", "coach.list", "form2", "out"], error("OUT 'out.new': cannot be written")),
         ]
         for words, expect, before in [(w, e, None) for w, e in tables] + [(w, e, small_files) for w, e in failing]:
@@ -1036,7 +1221,8 @@ def main():
         same, others = other_in_form_2(folder)
         numbered = list(badly_numbered(folder))
         numbered += badly_shown(folder)
-        count += len(PAGED) + len(ONE_LINE) + same + 1 + len(PARTS) + len(STORES + ALL + OTHER)
+        numbered += badly_relayed(folder)
+        count += len(PAGED) + len(ONE_LINE) + same + 1 + len(PARTS) + len(STORES + ALL + OTHER) + slots.VEHICLES
         for words, what in itertools.chain(badly_paged(folder), others):
             print(f"{' '.join(words)!r}: {what}")
             bad += 1

@@ -15,7 +15,7 @@ import time
 
 import judge as lists
 import programs
-from programs import NEW, R1, R3, slots
+from programs import NEW, R1, R3, RELAYED, slots
 
 RUN = os.path.join(programs.ROOT, "run")
 NOBODY = 65534
@@ -25,12 +25,14 @@ TAKE = ["take", "store", "1", "5000", "r1"]
 SWEEP = ["sweep", "full", "700000"]
 MARSHAL = ["marshal", "coach.list", "train", "9000", "bus"]
 COMPOSE = ["compose", "next.list", "R1", "values", "out"]
+RELAY = ["relay", "coach.list", "train", "7000", "1", "passed"]
 CONVERT = ["convert", "L.list", "form2", "moved"]
 STORE_1 = slots.taken(NEW, 1, 5000, R1)
 SWEPT = slots.expired(programs.FULL, *range(1, slots.VEHICLES + 1))
 BUS = bytes.fromhex("F334 2000 2800 3F FF 1B58 2800 000000000000 FFFF")
 # the words of each program that writes, the place of what it writes, its name there, and the octets before and after
-WRITERS = [(TAKE, 1, "STORE", NEW, STORE_1), (SWEEP, 1, "STORE", programs.FULL, SWEPT), (MARSHAL, 4, "DATA", b"\xff" * 20, BUS), (COMPOSE, 4, "OUT", R3, R1)]
+WRITERS = [(TAKE, 1, "STORE", NEW, STORE_1), (SWEEP, 1, "STORE", programs.FULL, SWEPT), (MARSHAL, 4, "DATA", b"\xff" * 20, BUS), (COMPOSE, 4, "OUT", R3, R1),
+           (RELAY, 5, "OUT", R3, RELAYED)]
 
 
 def place(pid):
@@ -46,7 +48,8 @@ class Folder:
         os.chmod(self.path, 0o777)
         for name in ("r1", "store", "full", "bus", "train", "coach.list", "next.list", "L.list", "values"):
             self.write(name, programs.FILES[name])
-        self.write("out", R3)
+        for name in ("out", "passed"):
+            self.write(name, R3)
         self.said = []
 
     def at(self, name):
@@ -143,7 +146,7 @@ def links(f):
         f.expect("links", (words[i] + ".2", f.at(target)), tuple(os.readlink(f.at(n)) for n in (words[i], words[i] + ".2")))
         f.holds(target, new)
     f.has_left()
-    f.expect("folder", ["bus", "full", "out", "store"], sorted(os.listdir(f.at("folder"))))
+    f.expect("folder", ["bus", "full", "out", "passed", "store"], sorted(os.listdir(f.at("folder"))))
 
 
 def link_to_nothing(f):
@@ -156,7 +159,10 @@ def link_to_nothing(f):
     os.symlink("made-3", f.at("new-3"))
     f.says(instead(CONVERT, 3, "new-3"), "moved to form 2: 1 signals, 46 octets")
     f.holds("made-3", lists.in_form_2(lists.L))
-    f.expect("links", ["made", "made-2", "made-3"], [os.readlink(f.at(n)) for n in ("new", "new-2", "new-3")])
+    os.symlink("made-4", f.at("new-4"))
+    f.says(instead(RELAY, 5, "new-4"), "relayed R1 version 2 octets 128, live 128 of 129 signals")
+    f.holds("made-4", RELAYED)
+    f.expect("links", ["made", "made-2", "made-3", "made-4"], [os.readlink(f.at(n)) for n in ("new", "new-2", "new-3", "new-4")])
     os.symlink("round", f.at("round"))
     f.says(*error(TAKE, 1, "STORE", "too many links", "round"))
 
@@ -197,7 +203,11 @@ def given_twice(f):
     f.says(["compose", "next.list", "R1", "values", "values.link"], "error: OUT 'values.link': is given twice")
     f.says(["compose", "L.list", "R1", "nothing", "L.list"], "error: OUT 'L.list': is given twice")
     f.says(instead(TAKE, 4, "store"), "error: STORE 'store': is given twice")
+    os.symlink("train", f.at("train.link"))
+    for words in (instead(RELAY, 5, "train"), instead(RELAY, 5, "train.link"), instead(RELAY, 2, "train.link")[:5] + ["folder/../train"], instead(RELAY, 5, "coach.list")):
+        f.says(words, f"error: OUT '{words[5]}': is given twice")
     f.holds("L.list", lists.L)
+    f.holds("train", programs.TRAIN)
     f.has_left()
 
 

@@ -100,6 +100,9 @@ static void in_form_2(void)
     expect("df_show, form 2", s.refusal == DF_REFUSAL_SCALED_KIND && !s.carried && !s.code && s.unit == DF_NO_UNIT);
     df_marshalled m = df_marshal(wide, sizeof wide, DF_FORM_2, store, sizeof store, 6000, data, sizeof data);
     expect("df_marshal, form 2", !m.refusal && m.lives == 1 && data[0] == 0x4B);
+    memset(out, 0xEE, sizeof out);
+    o = df_relay(wide, sizeof wide, DF_FORM_2, store, sizeof store, 6000, 1, out, sizeof out);
+    expect("df_relay, form 2", !o.refusal && out[0] == 0x11 && out[1] == 1 && !out[39] && out[40] == 0x10 && out[53] == 0x40);
 }
 
 static void telegrams(void)
@@ -266,6 +269,44 @@ static void shown(void)
     expect("df_show", refuses(s, DF_REFUSAL_LIST_ENDS, 40));
 }
 
+static df_outcome relay(const uint8_t *list, const uint8_t *store, uint32_t clock, uint64_t vehicle, uint8_t *out, size_t len)
+{
+    return df_relay(list, sizeof L, DF_FORM_1, store, DF_STORE_OCTETS, clock, vehicle, out, len);
+}
+
+/* an R1 of version 9, forced, with bits set that L does not know, passed on under L: in time, and a millisecond later */
+static void passed_on(void)
+{
+    static uint8_t store[DF_STORE_OCTETS];
+    uint8_t heard[128], out[128], wanted[128] = {0x11, 1}, other[sizeof L];
+    memset(heard, 0xFF, sizeof heard);
+    heard[0] = 0x11, heard[1] = 9, heard[40] = 0xEF, heard[53] = 0x4F;
+    df_outcome o = df_take(store, sizeof store, 1, 1000, heard, sizeof heard);
+    expect("df_take, to be relayed", !o.refusal);
+    wanted[40] = 0x20, wanted[53] = 0x40;
+    o = relay(L, store, 6000, 1, out, sizeof out);
+    expect("df_relay", !o.refusal && !o.carried && !memcmp(out, wanted, sizeof out));
+    wanted[40] = wanted[53] = 0;
+    o = relay(L, store, 6001, 1, out, sizeof out);
+    expect("df_relay, too old", !o.refusal && !o.carried && !memcmp(out, wanted, sizeof out));
+    /* a replacement of 7 is no code of L: it may not go out */
+    memcpy(other, L, sizeof L);
+    other[21] = 7;
+    memset(out, 0xEE, sizeof out), memset(wanted, 0xEE, sizeof wanted);
+    o = relay(other, store, 6001, 1, out, sizeof out - 1);
+    expect("df_relay", o.refusal == DF_REFUSAL_VALUE_UNFIT && !o.carried && !memcmp(out, wanted, sizeof out));
+    o = relay(other, store, 6000, 1, out, sizeof out - 1);
+    expect("df_relay", o.refusal == DF_REFUSAL_OUTPUT_LENGTH && !o.carried && !memcmp(out, wanted, sizeof out));
+    o = relay(L, store, 6000, 2, out, sizeof out);
+    expect("df_relay, never heard", o.refusal == DF_REFUSAL_TELEGRAM_TYPE && !o.carried && !memcmp(out, wanted, sizeof out));
+    o = relay(L, store, 6000, 64, out, sizeof out);
+    expect("df_relay", o.refusal == DF_REFUSAL_VEHICLE && !o.carried && !memcmp(out, wanted, sizeof out));
+    o = df_relay(L, sizeof L, DF_FORM_1, store, sizeof store - 1, 6000, 64, out, sizeof out);
+    expect("df_relay", o.refusal == DF_REFUSAL_STORE_LENGTH && !o.carried && !memcmp(out, wanted, sizeof out));
+    o = df_relay(L, sizeof L - 1, DF_FORM_1, store, sizeof store - 1, 6000, 64, out, sizeof out);
+    expect("df_relay", o.refusal == DF_REFUSAL_LIST_ENDS && o.carried == 36 && !memcmp(out, wanted, sizeof out));
+}
+
 static void train(void)
 {
     const uint8_t marks[3] = {1 | 4, 2, 2 | 16}, request[9] = {1, 2, 3, 4, 5, 6, 0x10, 0x07, 9}, head[6] = {6, 5, 4, 3, 2, 1};
@@ -303,6 +344,7 @@ int main(void)
     arrivals();
     wide_fields();
     shown();
+    passed_on();
     train();
     texts();
     if (!bad)

@@ -7,16 +7,13 @@ mod place;
 mod text;
 mod word;
 
-use files::Rules;
 use gateway::Counts;
 use gateway::EntryOutcome;
 use gateway::Judged;
 use gateway::LONGEST;
 use gateway::Outcome;
-use gateway::TELEGRAM;
 use libc::STDOUT_FILENO;
 use saying::Number;
-use words::Written;
 
 fn help() {
     io::write_all(
@@ -83,49 +80,6 @@ fn print_composed(kind: usize, version: usize, octets: usize) {
     saying::print(l);
 }
 
-// Whether OUT is not there yet, or holds a telegram: a store or a list that is given for it by mistake is not lost.
-fn is_free(path: &[u8]) -> bool {
-    if !files::is_there(path) {
-        return true;
-    }
-    let mut old = [0u8; TELEGRAM + 1];
-    let o = files::read_at(4, b"OUT", path, &mut old);
-    if !o.ok {
-        return false;
-    }
-    let n = o.octets;
-    words::may_replace(4, b"OUT", &old[..n], Written::Telegram)
-}
-
-// The telegram takes the name of OUT once all of it is written.
-fn write_at(path: &[u8], kind: usize, version: usize, out: &[u8]) -> bool {
-    let rules = Rules {
-        is_old: true,
-        is_new: true,
-        first: 1,
-        second: 3,
-    };
-    let fd = files::begin(4, b"OUT", path, rules);
-    if fd < 0 {
-        return false;
-    }
-    if !is_free(path) {
-        files::drop_new(path, fd);
-        return false;
-    }
-    let ok = files::commit(4, b"OUT", path, fd, out);
-    if ok {
-        print_composed(kind, version, out.len());
-    }
-    ok
-}
-
-fn write_out(kind: usize, version: usize, out: &[u8]) -> bool {
-    let mut path = io::buffer();
-    let n = files::target_of(4, &mut path);
-    write_at(&path[..n], kind, version, out)
-}
-
 fn compose_out(
     list: &[u8],
     form: u8,
@@ -141,7 +95,13 @@ fn compose_out(
             words::print_refused(f);
             false
         }
-        Outcome::Done => write_out(kind, n.version, out),
+        Outcome::Done => {
+            let ok = words::write_telegram(4, 1, 3, out);
+            if ok {
+                print_composed(kind, n.version, out.len());
+            }
+            ok
+        }
     }
 }
 

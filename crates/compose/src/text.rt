@@ -260,7 +260,7 @@ fn note_signal(list: &[u8], form: u8, k: usize, kind: usize, line: u64) {
         return;
     };
     let s = e.signal;
-    if (s.kind == 0) | (s.kind == kind) {
+    if words::is_carried(s, kind) {
         return;
     }
     let serial = words::serial_at(list, form, k);

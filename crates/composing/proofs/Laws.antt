@@ -11,7 +11,7 @@ use Rattle.paper.specs.Octets.{over}
 use Rattle.paper.specs.Answer.{gives, andThen}
 use Rattle.paper.specs.Telegrams.{typeLength, markWidth}
 use Rattle.paper.specs.SignalList.{SignalList, Counts, judge, listOf, version}
-use Rattle.paper.specs.Composing.{writesSignal, writesCheck, headed, composing}
+use Rattle.paper.specs.Composing.{writesSignal, writesCheck, headed, composingBy, composing}
 use Rattle.paper.proofs.ListLaws.{version-here}
 use Rattle.paper.proofs.AnswerLaws.{not-refused, past, same-then}
 use Rattle.bools.proofs.Tests.{both}
@@ -46,11 +46,14 @@ head-is xs n type h = rw (version-here xs n h)
 
 -- ---- the tests
 
+pub tested-by : (l : SignalList) (type : ℕ) (values marks : List ℕ) (room : ℕ) → composingBy type values marks room l ≡ composingUnder l type values marks room
+unfolding composingTests
+tested-by l type values marks room = past _ 9 0 _ _ _ (past _ 13 0 _ _ _ (past _ 14 0 _ _ _ (past _ 15 _ _ _ _ (past _ 16 0 _ _ _ refl))))
+
 pub tested : (form : ℕ) (xs : List ℕ) (type : ℕ) (values marks : List ℕ) (room : ℕ)
     → composing form xs type values marks room ≡ andThen (judge form xs) (λ n. composingUnder (listOf xs n) type values marks room)
-unfolding composing composingTests
-tested form xs type values marks room =
-    same-then (judge form xs) _ _ (λ n. past _ 9 0 _ _ _ (past _ 13 0 _ _ _ (past _ 14 0 _ _ _ (past _ 15 _ _ _ _ (past _ 16 0 _ _ _ refl)))))
+unfolding composing
+tested form xs type values marks room = same-then (judge form xs) _ _ (λ n. tested-by (listOf xs n) type values marks room)
 
 -- what the tests ask of the sizes
 pub sized : (xs : List ℕ) (n : Counts) (type : ℕ) (values marks : List ℕ) (room : ℕ)

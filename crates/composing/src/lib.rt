@@ -174,8 +174,8 @@ fn write_telegram(list: &[u8], n: Counts, kind: usize, values: &[u64], marks: &[
     write_checks(list, n, kind, marks, out);
 }
 
-// Composing under a list that was accepted with these counts.
-fn compose_under(
+// Inner: composing under a list that was accepted with these counts.
+pub fn compose_under(
     list: &[u8],
     n: Counts,
     kind: usize,

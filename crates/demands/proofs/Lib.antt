@@ -3,3 +3,4 @@ pub mod ReadLive
 pub mod TrueClock
 pub mod TwoArrivals
 pub mod Orders
+pub mod PassedOn

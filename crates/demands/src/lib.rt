@@ -1,6 +1,7 @@
 // Demands 2 and 3 as a function: what is composed under one list, taken from a vehicle, swept, and read under another. And C-22's two: telegrams taken
-// one after the other, and a marshalling made twice.
+// one after the other, and a marshalling made twice. And C-24's: what a gateway in the middle composes anew, taken and read by the last.
 ghost use Rattle.demands.specs.Orders.{TakenBoth, MarshalledTwice};
+ghost use Rattle.demands.specs.PassedOn.{PassedOn};
 ghost use Rattle.demands.specs.Told.{Told};
 use marshalling::Marshalled;
 use reading::ReadOutcome;
@@ -79,4 +80,39 @@ pub fn marshal_twice(list: &[u8], form: u8, store: &[u8], clock: u32, bus: &mut 
     let once = marshalling::marshal(list, form, store, clock, bus);
     let again = marshalling::marshal(list, form, store, clock, bus);
     Twice { once, again }
+}
+
+// What the gateway in the middle answers, and what its telegram is answered by the last reader.
+pub struct Passed {
+    pub relayed: Outcome,
+    pub taken: Outcome,
+    pub read: ReadOutcome,
+}
+
+// Relayed from the store `there` under the list `inner`, taken into the store `here`, and read under the list `outer`.
+pub fn pass_on(
+    inner: &[u8],
+    form: u8,
+    there: &[u8],
+    clock: u32,
+    vehicle: usize,
+    out: &mut [u8],
+    here: &mut [u8],
+    sender: usize,
+    stamp: u32,
+    outer: &[u8],
+    other: u8,
+    later: u32,
+    signal: usize,
+) -> Passed
+    ensures { λ r. ⌜ PassedOn form (now (inner .entry)) (now (there .entry)) clock vehicle (now (out .entry)) (now (here .entry)) sender stamp other (now (outer .entry)) later signal (now (out .exit)) (now (here .exit)) r ⌝ }
+{
+    let relayed = relaying::relay(inner, form, there, clock, vehicle, out);
+    let taken = store::take(here, sender, stamp, out);
+    let read = reading::read(outer, other, here, later, sender, signal);
+    Passed {
+        relayed,
+        taken,
+        read,
+    }
 }

@@ -1,4 +1,5 @@
-// Which gateway believes what: one store read by two gateways' lists, side by side.
+// Which gateway believes what: one store, or each gateway's own, read by two gateways' lists, side by side.
+ghost use Prim.Native.Nat.{_≤_};
 use gateway::Counts;
 use gateway::EntryOutcome;
 use gateway::FORM_2;
@@ -41,6 +42,9 @@ enum Accepted {
 // What is asked: of one vehicle or of all; only the lines that differ; as lines for people, or as a table; the form of each list.
 struct Asked {
     clock: u32,
+    // whether the second gateway has a store of its own, and the clock at which it is read
+    behind: bool,
+    second_clock: u32,
     vehicle: usize,
     all: bool,
     only: bool,
@@ -61,7 +65,7 @@ struct Count {
 fn help() {
     io::write_all(
         STDOUT_FILENO,
-        b"differ LIST LIST STORE CLOCK [VEHICLE] [only] [table]
+        b"differ LIST LIST STORE CLOCK [behind STORE2 CLOCK2] [VEHICLE] [only] [table]
        [first-form2] [second-form2]
 
 Which gateway believes what: STORE, read at CLOCK by two gateways' signal lists,
@@ -91,7 +95,13 @@ PLACE has the signal's serial number behind it, as `(4.3)`, or, where the two
 lists have different ones, both, as `(4.3, no serial number)`. No answer differs
 by that, and it alone puts no * before a line. The table has two columns more
 behind the gap, serial_1 and serial_2, with a dash for none. `convert help` says
-how a serial number is printed. The words may be combined, in any order.
+how a serial number is printed. These words may be combined, in any order.
+With the word `behind`, next to CLOCK, the second gateway reads a store of its
+own, STORE2, at its own counter, CLOCK2, as one does that hears the train behind
+another gateway (`relay help`). All vehicles that either has heard are gone
+through, and the line of one says both gateways' telegrams, as
+`vehicle 1: R1 version 3 age 3000 ms gap 6000 ms | never heard`. The table has
+four columns more behind all others: telegram_2, version_2, age_2 and gap_2.
 `believe help` lists the reasons. Bad input gets one line that begins with
 `refused` and the number of document 01, or with `error`.
 The exit status is as of `diff`: 0 no difference, 1 differences, 2 bad input.
@@ -215,10 +225,20 @@ fn form_of_table(asked: Asked) -> u8 {
     words::form_of((asked.first_form == FORM_2) | (asked.second_form == FORM_2))
 }
 
+// What the second gateway holds of the vehicle in a store of its own, behind all other columns.
+fn say_behind(line: Line, other: &[u8], asked: Asked) -> Line {
+    if !asked.behind {
+        return line;
+    }
+    let l = words::say_held_tabs(line, other, asked.second_clock, asked.vehicle);
+    words::say_gap_tab(l, other, asked.vehicle)
+}
+
 // The same as a row of the table.
 fn print_row(
     page: &mut Page,
     store: &[u8],
+    other: &[u8],
     asked: Asked,
     differs: u64,
     place: Side,
@@ -235,7 +255,8 @@ fn print_row(
     let l = words::say_serial_tab(l, form, b.serial);
     let first = a.shown;
     let second = b.shown;
-    saying::add(page, words::say_both_shown_tabs(l, first, second));
+    let l = words::say_both_shown_tabs(l, first, second);
+    saying::add(page, say_behind(l, other, asked));
 }
 
 fn more(n: u64) -> u64 {
@@ -245,6 +266,7 @@ fn more(n: u64) -> u64 {
 fn print_line(
     page: &mut Page,
     store: &[u8],
+    other: &[u8],
     asked: Asked,
     same: bool,
     place: Side,
@@ -255,7 +277,8 @@ fn print_line(
         return;
     }
     if asked.table {
-        print_row(page, store, asked, if same { 0 } else { 1 }, place, a, b);
+        let differs = if same { 0 } else { 1 };
+        print_row(page, store, other, asked, differs, place, a, b);
         return;
     }
     print_pair(page, if same { b' ' } else { b'*' }, asked, place, a, b);
@@ -265,6 +288,7 @@ fn print_line(
 fn print_sides(
     page: &mut Page,
     store: &[u8],
+    other: &[u8],
     asked: Asked,
     a: Side,
     b: Side,
@@ -272,7 +296,7 @@ fn print_sides(
 ) -> Count {
     let lines = more(so_far.lines);
     let same = are_same(a, b);
-    print_line(page, store, asked, same, place_of(a, b), a, b);
+    print_line(page, store, other, asked, same, place_of(a, b), a, b);
     if same {
         return Count {
             lines,
@@ -301,13 +325,21 @@ fn second_side(list: &[u8], store: &[u8], asked: Asked, p: Pair) -> Side {
         list,
         asked.second_form,
         store,
-        asked.clock,
+        asked.second_clock,
         asked.vehicle,
         p.second,
     )
 }
 
-fn all_signals(page: &mut Page, first: &[u8], second: &[u8], store: &[u8], asked: Asked) -> Count {
+// `other` is the second gateway's store.
+fn all_signals(
+    page: &mut Page,
+    first: &[u8],
+    second: &[u8],
+    store: &[u8],
+    other: &[u8],
+    asked: Asked,
+) -> Count {
     let mut count = none();
     let mut key = 0;
     while key < PAST_KEYS {
@@ -316,8 +348,8 @@ fn all_signals(page: &mut Page, first: &[u8], second: &[u8], store: &[u8], asked
             return count;
         };
         let a = first_side(first, store, asked, p);
-        let b = second_side(second, store, asked, p);
-        count = print_sides(page, store, asked, a, b, count);
+        let b = second_side(second, other, asked, p);
+        count = print_sides(page, store, other, asked, a, b, count);
         key = p.key + 1;
     }
     count
@@ -330,18 +362,28 @@ fn print_of_vehicle(page: &mut Page, vehicle: usize, count: Count) {
     saying::add(page, saying::say(l, b" lines"));
 }
 
+fn print_head(page: &mut Page, store: &[u8], other: &[u8], asked: Asked) {
+    let v = asked.vehicle;
+    if asked.behind {
+        words::print_heads(page, store, asked.clock, other, asked.second_clock, v);
+    } else {
+        words::print_head(page, store, asked.clock, v);
+    }
+}
+
 fn one_vehicle(
     page: &mut Page,
     first: &[u8],
     second: &[u8],
     store: &[u8],
+    other: &[u8],
     asked: Asked,
     so_far: Count,
 ) -> Count {
     if !asked.table {
-        words::print_head(page, store, asked.clock, asked.vehicle);
+        print_head(page, store, other, asked);
     }
-    let count = all_signals(page, first, second, store, asked);
+    let count = all_signals(page, first, second, store, other, asked);
     if !asked.table {
         print_of_vehicle(page, asked.vehicle, count);
     }
@@ -352,17 +394,9 @@ fn one_vehicle(
 }
 
 fn of_vehicle(asked: Asked, vehicle: usize) -> Asked {
-    Asked {
-        clock: asked.clock,
-        vehicle,
-        all: asked.all,
-        only: asked.only,
-        table: asked.table,
-        first_form: asked.first_form,
-        second_form: asked.second_form,
-        left: asked.left,
-        right: asked.right,
-    }
+    let mut a = asked;
+    a.vehicle = vehicle;
+    a
 }
 
 // Where the line of a pair has come to once the first list's value is said, if it has one.
@@ -398,30 +432,31 @@ fn in_columns(asked: Asked, first: &[u8], second: &[u8], n: Counts, store: &[u8]
     let least = std::num::wrapping_add_usize(at, 17);
     let behind = std::num::wrapping_add_usize(at, 1);
     let form = asked.second_form;
-    Asked {
-        clock: asked.clock,
-        vehicle: asked.vehicle,
-        all: asked.all,
-        only: asked.only,
-        table: asked.table,
-        first_form: asked.first_form,
-        second_form: form,
-        left,
-        right: words::value_column(second, form, n.signals, behind, false, least),
-    }
+    let mut a = asked;
+    a.left = left;
+    a.right = words::value_column(second, form, n.signals, behind, false, least);
+    a
 }
 
-fn all_vehicles(page: &mut Page, first: &[u8], second: &[u8], store: &[u8], asked: Asked) -> Count {
+fn all_vehicles(
+    page: &mut Page,
+    first: &[u8],
+    second: &[u8],
+    store: &[u8],
+    other: &[u8],
+    asked: Asked,
+) -> Count {
     let mut count = none();
     let mut v = 1;
     while v <= VEHICLES {
-        if words::is_heard(store, v) {
-            count = one_vehicle(page, first, second, store, of_vehicle(asked, v), count);
+        if words::is_heard_by(store, other, v) {
+            let a = of_vehicle(asked, v);
+            count = one_vehicle(page, first, second, store, other, a, count);
         }
         v += 1;
     }
     if !asked.table {
-        words::print_never(page, store);
+        words::print_never_by(page, store, other);
     }
     count
 }
@@ -451,7 +486,7 @@ fn print_count(page: &mut Page, asked: Asked, count: Count) {
     saying::add(page, saying::say(l, b" lines"));
 }
 
-fn print_names(page: &mut Page, form: u8) {
+fn print_names(page: &mut Page, form: u8, is_behind: bool) {
     let l = saying::say(
         saying::empty(),
         b"vehicle\ttelegram\tversion\tage\ttype\tstart\tdiffers",
@@ -459,27 +494,41 @@ fn print_names(page: &mut Page, form: u8) {
     let l = saying::say(l, b"\twidth_1\tvalue_1\treason_1");
     let l = saying::say(l, b"\twidth_2\tvalue_2\treason_2\tgap");
     let l = words::say_serial_name(l, form, b"serial_1\tserial_2");
-    saying::add(page, saying::say(l, b"\tshown_1\tshown_2\tunit"));
+    let l = saying::say(l, b"\tshown_1\tshown_2\tunit");
+    let l = if is_behind {
+        saying::say(l, b"\ttelegram_2\tversion_2\tage_2\tgap_2")
+    } else {
+        l
+    };
+    saying::add(page, l);
 }
 
 // What stands above the lines: the two lists, or the names of the columns.
 fn print_above(page: &mut Page, m: Counts, n: Counts, asked: Asked) {
     if asked.table {
-        print_names(page, form_of_table(asked));
+        print_names(page, form_of_table(asked), asked.behind);
         return;
     }
     print_list(page, b"first  ", 1, m);
     print_list(page, b"second ", 2, n);
 }
 
-fn print_asked(first: &[u8], m: Counts, second: &[u8], n: Counts, store: &[u8], asked: Asked) {
+fn print_asked(
+    first: &[u8],
+    m: Counts,
+    second: &[u8],
+    n: Counts,
+    store: &[u8],
+    other: &[u8],
+    asked: Asked,
+) {
     let mut page = saying::new_page();
     print_above(&mut page, m, n, asked);
     if asked.all {
-        let count = all_vehicles(&mut page, first, second, store, asked);
+        let count = all_vehicles(&mut page, first, second, store, other, asked);
         print_count(&mut page, asked, count);
     } else {
-        let count = one_vehicle(&mut page, first, second, store, asked, none());
+        let count = one_vehicle(&mut page, first, second, store, other, asked, none());
         print_count(&mut page, asked, count);
     }
     saying::flush(&mut page);
@@ -497,21 +546,57 @@ fn judge(list: &[u8], form: u8, of: &[u8]) -> Accepted {
     }
 }
 
+// Whether a vehicle can be asked for in a store; `of` says which of two it is where it is refused.
+fn is_held(store: &[u8], vehicle: usize, of: &[u8]) -> bool {
+    let held = gateway::holding(store, 0, vehicle);
+    if let HeldOutcome::Refused(f) = held {
+        words::print_refused_store_of(f, store.len(), of);
+        return false;
+    }
+    true
+}
+
+// Refused is 5 of either store, then 6.
+fn are_held(store: &[u8], other: &[u8], asked: Asked) -> bool {
+    if asked.behind {
+        if !is_held(store, 1, b" (first store)") {
+            return false;
+        }
+        if !is_held(other, 1, b" (second store)") {
+            return false;
+        }
+    }
+    is_held(store, asked.vehicle, b"")
+}
+
 // Refused as a reading is: 1 to 4 of either list, then 5 and 6.
-fn compare(first: &[u8], second: &[u8], store: &[u8], asked: Asked) {
+fn compare(first: &[u8], second: &[u8], store: &[u8], other: &[u8], asked: Asked) {
     let Accepted::With(m) = judge(first, asked.first_form, b" (first list)") else {
         return;
     };
     let Accepted::With(n) = judge(second, asked.second_form, b" (second list)") else {
         return;
     };
-    let held = gateway::holding(store, asked.clock, asked.vehicle);
-    if let HeldOutcome::Refused(f) = held {
-        words::print_refused_store(f, store.len());
+    if !are_held(store, other, asked) {
         return;
     }
     let placed = in_columns(asked, first, second, n, store);
-    print_asked(first, m, second, n, store, placed);
+    print_asked(first, m, second, n, store, other, placed);
+}
+
+// The store of the second gateway is the first's, where it has none of its own.
+fn read_behind(first: &[u8], second: &[u8], store: &[u8], asked: Asked) {
+    if !asked.behind {
+        compare(first, second, store, store, asked);
+        return;
+    }
+    let mut other = [0u8; STORE + 1];
+    let s = files::read(6, b"second STORE", &mut other);
+    if !s.ok {
+        return;
+    }
+    let m = s.octets;
+    compare(first, second, store, &other[..m], asked);
 }
 
 fn read_others(first: &[u8], asked: Asked) {
@@ -527,7 +612,7 @@ fn read_others(first: &[u8], asked: Asked) {
     }
     let n = l.octets;
     let m = s.octets;
-    compare(first, &second[..n], &store[..m], asked);
+    read_behind(first, &second[..n], &store[..m], asked);
 }
 
 fn read_files(asked: Asked) {
@@ -540,16 +625,32 @@ fn read_files(asked: Asked) {
     read_others(&first[..n], asked);
 }
 
-// What the words behind the fourth say, but for the vehicle.
+// Whether the words next to the clock name a second store and its clock.
+fn is_behind(n: usize) -> bool {
+    (7 < n) & saying::is_word(5, b"behind")
+}
+
+// The place of the vehicle, if it is given, and of the options if it is not.
+fn vehicle_at(is_behind: bool) -> usize
+    ensures { λ r. ⌜ 1 ≤ r ⌝ }
+{
+    if is_behind { 8 } else { 5 }
+}
+
+// What the words behind the clocks say, but for the vehicle.
 fn options(n: usize) -> Asked {
-    let first = saying::has_option(5, n, b"first-form2");
-    let second = saying::has_option(5, n, b"second-form2");
+    let behind = is_behind(n);
+    let from = vehicle_at(behind);
+    let first = saying::has_option(from, n, b"first-form2");
+    let second = saying::has_option(from, n, b"second-form2");
     Asked {
         clock: 0,
+        behind,
+        second_clock: 0,
         vehicle: 1,
         all: true,
-        only: saying::has_option(5, n, b"only"),
-        table: saying::has_option(5, n, b"table"),
+        only: saying::has_option(from, n, b"only"),
+        table: saying::has_option(from, n, b"table"),
         first_form: words::form_of(first),
         second_form: words::form_of(second),
         left: 0,
@@ -564,24 +665,23 @@ fn words_of(n: usize, o: Asked) -> usize {
     saying::words_before(n, shown + first + second)
 }
 
-fn ask(words: usize, o: Asked) {
+// The last word before the options is the place of the vehicle, or the one before it.
+fn ask(words: usize, at: usize, o: Asked) {
     let Clock::At(clock) = saying::clock_argument(4) else {
         return;
     };
-    let Number::Is(vehicle) = saying::number_or(words, 5, b"VEHICLE", 1) else {
+    let Clock::At(second_clock) = saying::clock_argument(if o.behind { 7 } else { 4 }) else {
         return;
     };
-    read_files(Asked {
-        clock,
-        vehicle: vehicle as usize,
-        all: words == 4,
-        only: o.only,
-        table: o.table,
-        first_form: o.first_form,
-        second_form: o.second_form,
-        left: 0,
-        right: 0,
-    });
+    let Number::Is(vehicle) = saying::number_or(words, at, b"VEHICLE", 1) else {
+        return;
+    };
+    let mut asked = o;
+    asked.clock = clock;
+    asked.second_clock = second_clock;
+    asked.vehicle = vehicle as usize;
+    asked.all = words < at;
+    read_files(asked);
 }
 
 fn main() {
@@ -592,11 +692,12 @@ fn main() {
     }
     let o = options(n);
     let words = words_of(n, o);
-    if (words == 4) | (words == 5) {
-        ask(words, o);
+    let at = vehicle_at(o.behind);
+    if (words == at) | (words == at - 1) {
+        ask(words, at, o);
         return;
     }
     saying::print_usage(
-        b"differ LIST LIST STORE CLOCK [VEHICLE] [only] [table] [first-form2] [second-form2]",
+        b"differ LIST LIST STORE CLOCK [behind STORE2 CLOCK2] [VEHICLE] [only] [table] [first-form2] [second-form2]",
     );
 }

@@ -15,6 +15,7 @@ use Rattle.paper.specs.Store.{taking, gapping, sweeping}
 use Rattle.paper.specs.Reading.{Reading, reading}
 use Rattle.paper.specs.Marshalling.{Marshalled, marshalling}
 use Rattle.paper.specs.Composing.{composing}
+use Rattle.paper.specs.Relaying.{relaying}
 use Rattle.paper.specs.Shown.{Kind, ShownReading, showing}
 use Rattle.paper.specs.Train.{Vehicle, Members, resolving}
 use Rattle.paper.specs.ETelegrams.{EReading, eReading, answering}
@@ -158,6 +159,13 @@ module _ (form : ℕ) (xs : List ℕ) (type : ℕ) (values marks : List ℕ) (ro
 
   pub compose-kept : (r .refusal ≡ 0 → ⊥) → new ≡ out
   compose-kept = written-kept _ out r new w
+
+module _ (form : ℕ) (xs store : List ℕ) (now v room : ℕ) (out : List ℕ) (r : DfOutcome) (new : List ℕ) (w : WrittenC (relaying form xs store now v room) out r new) where
+  pub relay-given : (r .refusal ≡ 0) ↔ Given (relaying form xs store now v room)
+  relay-given = written-given _ out r new w (laws.numbered-relaying form xs store now v room)
+
+  pub relay-kept : (r .refusal ≡ 0 → ⊥) → new ≡ out
+  relay-kept = written-kept _ out r new w
 
 module _ (telegram head : List ℕ) (status : ℕ) (out : List ℕ) (r : DfOutcome) (new : List ℕ) (w : WrittenC (answering telegram head status out) out r new) where
   pub e-answer-given : (r .refusal ≡ 0) ↔ Given (answering telegram head status out)

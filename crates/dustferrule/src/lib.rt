@@ -13,6 +13,7 @@ ghost use Rattle.paper.specs.Store.{taking, gapping, sweeping};
 ghost use Rattle.paper.specs.Reading.{reading};
 ghost use Rattle.paper.specs.Marshalling.{marshalling};
 ghost use Rattle.paper.specs.Composing.{composing};
+ghost use Rattle.paper.specs.Relaying.{relaying};
 ghost use Rattle.paper.specs.Shown.{showing};
 ghost use Rattle.paper.specs.Train.{resolving};
 ghost use Rattle.paper.specs.ETelegrams.{eReading, answering};
@@ -600,6 +601,20 @@ pub extern "C" fn df_compose(
     ensures { λ r. ⌜ WrittenC (composing form (now (list .entry)) kind (now (values .entry)) (now (marks .entry)) (length (now (out .entry)))) (now (out .entry)) r (now (out .exit)) ⌝ }
 {
     outcome_c(gateway::compose(list, form, kind as usize, values, marks, out))
+}
+
+#[no_mangle]
+pub extern "C" fn df_relay(
+    list: &[u8],
+    form: u8,
+    store: &[u8],
+    clock: u32,
+    vehicle: u64,
+    out: &mut [u8],
+) -> DfOutcome
+    ensures { λ r. ⌜ WrittenC (relaying form (now (list .entry)) (now (store .entry)) clock vehicle (length (now (out .entry)))) (now (out .entry)) r (now (out .exit)) ⌝ }
+{
+    outcome_c(gateway::relay(list, form, store, clock, vehicle as usize, out))
 }
 
 #[no_mangle]

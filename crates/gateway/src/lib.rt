@@ -46,6 +46,7 @@ pub use refusals::Outcome;
 pub use refusals::Refusal;
 pub use refusals::carried;
 pub use refusals::number;
+pub use relaying::relay;
 pub use shown::Kind;
 pub use shown::Showing;
 pub use shown::Shown;

@@ -35,7 +35,7 @@ unplaced : (l : SignalList) (s : Signal) → s .check ≡ 0 → placeOf l s ≡ 
 unfolding placeOf
 unplaced l s z = rw z
 
-placed-at : (l : SignalList) (s : Signal) → (s .check ≡ 0 → ⊥) → placeOf l s ≡ l .check (s .check - 1)
+pub placed-at : (l : SignalList) (s : Signal) → (s .check ≡ 0 → ⊥) → placeOf l s ≡ l .check (s .check - 1)
 unfolding placeOf
 placed-at l s n = rw (ne-eqb (s .check) 0 n)
 
@@ -48,7 +48,7 @@ placed-high l h k lt n =
     rw (placed-at l (l .signal k) n) (h .check (l .signal k .check - 1) q .low)
 
 -- a mark ok or forced and a known code: the value as given
-as-given : (l : SignalList) (k mark value : ℕ) → (mark ≡ ok) ⊎ (mark ≡ forced) → knows l k value ≡ true
+pub as-given : (l : SignalList) (k mark value : ℕ) → (mark ≡ ok) ⊎ (mark ≡ forced) → knows l k value ≡ true
     → delivered l k mark value ≡ record { value = value; reason = cond (eqb mark forced) 1 0 }
 as-given l k mark value (inl e) h = rw (e, h)
 as-given l k mark value (inr e) h = rw (e, h)
@@ -84,11 +84,11 @@ module _ (w : SignalList) (hw : Kept w) (type : ℕ) (values marks : List ℕ) (
   kept-field : (s u : ℕ) → s + u ≤ 8 * typeLength type → field (padded (composed w type values marks)) s u ≡ field (composed w type values marks) s u
   kept-field s u h = field-front _ _ s u (rw (length-composed w hw type values marks fit) h)
 
-  sent-application : applicationType (padded (composed w type values marks)) ≡ 1
+  pub sent-application : applicationType (padded (composed w type values marks)) ≡ 1
   unfolding applicationType
   sent-application = field-front (composed w type values marks) _ 0 4 (omega (arith, long)) ∙ composed-application w hw type values marks fit
 
-  sent-type : telegramType (padded (composed w type values marks)) ≡ type
+  pub sent-type : telegramType (padded (composed w type values marks)) ≡ type
   unfolding telegramType
   sent-type = field-front (composed w type values marks) _ 4 4 (omega (arith, long)) ∙ composed-type w hw type values marks fit
 
@@ -102,6 +102,35 @@ module _ (w : SignalList) (hw : Kept w) (type : ℕ) (values marks : List ℕ) (
   sent-heard : (stamp : ℕ) → heard (Sent stamp) ≡ true
   unfolding heard
   sent-heard stamp = rw (sent-application, sent-type) (fit .typed)
+
+  -- a signal that both lists have and the type carries: its field holds the value given, its check's place the mark, however old they are
+  module _ (r : SignalList) (i j : ℕ) (hi : i < w .signals) (same-one : Agree w r i j) (carried : carries type (r .signal j .type) ≡ true) where
+    carried-there : carries type (w .signal i .type) ≡ true
+    carried-there = rw (same-one .type) carried
+
+    pub sent-code : codeOf (r .signal j) (padded (composed w type values marks)) ≡ getD values i 0
+    unfolding codeOf
+    sent-code =
+        rw (← same-one .start, ← same-one .width)
+        (kept-field (w .signal i .start) (w .signal i .width) (carried-within w hw type i hi carried-there .1)
+        ∙ composed-signal w hw type values marks fit i hi carried-there)
+
+    -- the mark at the place of the check, whichever index it has in either list
+    pub sent-mark : Kept r → j < r .signals → markOf r (r .signal j) (padded (composed w type values marks)) ≡ givenMark marks (w .signal i)
+    unfolding markOf
+    sent-mark hr hj = by (ℕ-discrete (w .signal i .check) 0) (ℕ-discrete (r .signal j .check) 0)
+      where
+        by : Dec (w .signal i .check ≡ 0) → Dec (r .signal j .check ≡ 0)
+            → cond (eqb (r .signal j .check) 0) ok (field (padded (composed w type values marks)) (placeOf r (r .signal j)) markWidth)
+            ≡ cond (eqb (w .signal i .check) 0) ok (getD marks (w .signal i .check - 1) 0)
+        by (yes a) (yes b) = rw (a, b)
+        by (yes a) (no b) = absurd (omega (arith, placed-high r hr j hj b, same-one .place, unplaced w (w .signal i) a))
+        by (no a) (yes b) = absurd (omega (arith, placed-high w hw i hi a, same-one .place, unplaced r (r .signal j) b))
+        by (no a) (no b) =
+            let q : w .signal i .check - 1 < w .checks = omega (arith, hw .signal i hi .named .exists, positive a) in
+            let named = named-written w hw type i hi carried-there (positive a) in
+            rw (ne-eqb _ _ a, ne-eqb _ _ b, ← same-one .place, placed-at w (w .signal i) a)
+            (kept-field (w .check (w .signal i .check - 1)) 2 (leb-true _ _ named) ∙ composed-check w hw type values marks fit (w .signal i .check - 1) q named)
 
   -- a reader within its time limit gets past reasons 2 and 3, and goes by the type and version that were sent
   module _ (r : SignalList) (stamp now j : ℕ) (within : inTime (age now stamp) (r .signal j .limit) ≡ true) where
@@ -132,39 +161,12 @@ module _ (w : SignalList) (hw : Kept w) (type : ℕ) (values marks : List ℕ) (
 
     -- a signal that both lists have and the type carries
     module _ (i : ℕ) (hi : i < w .signals) (same-one : Agree w r i j) (carried : carries type (r .signal j .type) ≡ true) where
-      carried-there : carries type (w .signal i .type) ≡ true
-      carried-there = rw (same-one .type) carried
-
-      sent-code : codeOf (r .signal j) (padded (composed w type values marks)) ≡ getD values i 0
-      unfolding codeOf
-      sent-code =
-          rw (← same-one .start, ← same-one .width)
-          (kept-field (w .signal i .start) (w .signal i .width) (carried-within w hw type i hi carried-there .1)
-          ∙ composed-signal w hw type values marks fit i hi carried-there)
-
-      -- the mark at the place of the check, whichever index it has in either list
-      sent-mark : Kept r → j < r .signals → markOf r (r .signal j) (padded (composed w type values marks)) ≡ givenMark marks (w .signal i)
-      unfolding markOf
-      sent-mark hr hj = by (ℕ-discrete (w .signal i .check) 0) (ℕ-discrete (r .signal j .check) 0)
-        where
-          by : Dec (w .signal i .check ≡ 0) → Dec (r .signal j .check ≡ 0)
-              → cond (eqb (r .signal j .check) 0) ok (field (padded (composed w type values marks)) (placeOf r (r .signal j)) markWidth)
-              ≡ cond (eqb (w .signal i .check) 0) ok (getD marks (w .signal i .check - 1) 0)
-          by (yes a) (yes b) = rw (a, b)
-          by (yes a) (no b) = absurd (omega (arith, placed-high r hr j hj b, same-one .place, unplaced w (w .signal i) a))
-          by (no a) (yes b) = absurd (omega (arith, placed-high w hw i hi a, same-one .place, unplaced r (r .signal j) b))
-          by (no a) (no b) =
-              let q : w .signal i .check - 1 < w .checks = omega (arith, hw .signal i hi .named .exists, positive a) in
-              let named = named-written w hw type i hi carried-there (positive a) in
-              rw (ne-eqb _ _ a, ne-eqb _ _ b, ← same-one .place, placed-at w (w .signal i) a)
-              (kept-field (w .check (w .signal i .check - 1)) 2 (leb-true _ _ named) ∙ composed-check w hw type values marks fit (w .signal i .check - 1) q named)
-
       -- the written value with its mark, or the reader's own replacement with the named reason
       sent-delivered : Kept r → j < r .signals → readingOf r (Sent stamp) now j ≡ delivered r j (givenMark marks (w .signal i)) (getD values i 0)
       unfolding readingOf
       sent-delivered hr hj =
           let old : ltb (version w) (r .signal j .since) ≡ false = le-ltb (version w) (r .signal j .since) (rw (same-one .since) at (version-at w i hi)) in
-          rw (sent-reason, carried, old, sent-mark hr hj, sent-code)
+          rw (sent-reason, carried, old, sent-mark r i j hi same-one carried hr hj, sent-code r i j hi same-one carried)
 
 -- ---- a signal's reading, as a call gives it
 
@@ -195,10 +197,10 @@ module _ (form : ℕ) (xs : List ℕ) (type : ℕ) (values marks : List ℕ) (ro
   same-list : made .counts ≡ m
   same-list = gives-one (judge form xs) (made .counts) m (made .accepted) writer
 
-  fitted : Fitting (listOf xs m) type values marks
+  pub fitted : Fitting (listOf xs m) type values marks
   fitted = rw same-list at (made .fitting)
 
-  is-composed : composed (listOf xs m) type values marks ≡ telegram
+  pub is-composed : composed (listOf xs m) type values marks ≡ telegram
   is-composed = rw same-list at (made .is)
 
   module _ (form′ : ℕ) (ys : List ℕ) (n : Counts) (reader : judge form′ ys ≡ gives n) (v stamp now j : ℕ) (store : List ℕ) (hj : j < n .signals)
@@ -263,7 +265,7 @@ module _ (form : ℕ) (xs : List ℕ) (type : ℕ) (values marks : List ℕ) (ro
             let i = t .0 in
             let p = same-of (w .signal i) (r .signal j) (t .1 .1) in
             let a = agree w r (kept form xs m writer) (kept form′ ys n reader) related i j (t .1 .0) hj (p .0) (p .1) in
-            let mark = sent-mark w (kept form xs m writer) type values marks fitted r stamp now j (stands .within) i (t .1 .0) a e (kept form′ ys n reader) hj in
+            let mark = sent-mark w (kept form xs m writer) type values marks fitted r i j (t .1 .0) a e (kept form′ ys n reader) hj in
             let small = rw mark at (mark-lt r (r .signal j) (padded (composed w type values marks))) in (
               delivered r j (givenMark marks (w .signal i)) (getD values i 0),
               (

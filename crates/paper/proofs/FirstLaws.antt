@@ -2,15 +2,17 @@
 use Prim.Native.Nat.{ℕ, zero, suc, _+_, _≤_, _<_, max}
 use mathlib.Core.Path.{_≡_, refl, sym, ap, ap₂, _∙_}
 use mathlib.Core.Logic.{_⊎_, inl, inr, _↔_}
-use mathlib.Core.Bool.{Bool, true, false, not, cond, false≢true}
+use mathlib.Core.Bool.{Bool, true, false, not, cond, _&&_, _||_, false≢true}
 use mathlib.Core.List.{List, [], _∷_, _++_}
-use lib.ListN.{length}
+use lib.ListN.{length, getD, length-append, List·getD-append}
+use lib.Seq.{getD-at}
 use lib.Dec.{eqb}
+use borrow.Author.Count.{below-more}
 use borrow.Author.Tests.{eq-eqb, ne-eqb, eqb-true, eqb-false, not-true, not-false}
 use native.Mathlib.Nat.{eq-or-lt-of-le, lt-irrefl}
 use native.Mathlib.Numerals.{add-one}
 use native.Mathlib.Omega.{arith}
-use Rattle.paper.specs.First.{stop, firstFrom, firstBad, all, some, count, greatest, firstOf}
+use Rattle.paper.specs.First.{stop, firstFrom, firstBad, all, some, listed, count, greatest, firstOf}
 
 module _ (ok : ℕ → Bool) where
   stop-true : (b : Bool) (h l : ℕ) → b ≡ true → stop b h l ≡ l
@@ -110,6 +112,15 @@ module _ (ok : ℕ → Bool) where
   unfolding all
   all-at n t k h = first-passed n k (rw (eqb-true (firstBad ok n) n t) h)
 
+  -- one index more
+  pub all-more : (n : ℕ) → all ok (n + 1) ≡ (all ok n && ok n)
+  all-more n = by (all ok n) (ok n) refl refl
+    where
+      by : (a b : Bool) → all ok n ≡ a → ok n ≡ b → all ok (n + 1) ≡ (a && b)
+      by true true e q = all-true (n + 1) (below-more _ _ (all-at n e) q)
+      by true false e q = all-false (n + 1) n (omega arith) q
+      by false b e q = all-false (n + 1) (firstBad ok n) (omega (arith, not-all n e)) (first-fails n (not-all n e))
+
 -- the same of `some`
 module _ (ok : ℕ → Bool) where
   pub some-true : (n r : ℕ) → r < n → ok r ≡ true → some ok n ≡ true
@@ -131,6 +142,15 @@ module _ (ok : ℕ → Bool) where
       let k = firstBad (λ j. not (ok j)) n in
       let h : k < n = not-all (λ j. not (ok j)) n (not-true _ e) in
       (k, (h, not-false (ok k) (first-fails (λ j. not (ok j)) n h)))
+
+  -- one index more
+  pub some-more : (n : ℕ) → some ok (n + 1) ≡ (some ok n || ok n)
+  some-more n = by (some ok n) (ok n) refl refl
+    where
+      by : (a b : Bool) → some ok n ≡ a → ok n ≡ b → some ok (n + 1) ≡ (a || b)
+      by true b e q = let t = some-at n e in some-true (n + 1) (t .0) (omega (arith, t .1 .0)) (t .1 .1)
+      by false true e q = some-true (n + 1) n (omega arith) q
+      by false false e q = some-false (n + 1) (below-more _ _ (some-none n e) q)
 
 -- a search for the one index at which the test passes finds it
 pub finds-exactly : (ok : ℕ → Bool) (n : ℕ) → ((i j : ℕ) → i < n → j < n → ok i ≡ true → ok j ≡ true → i ≡ j)
@@ -238,3 +258,24 @@ module _ (least : ℕ) (f : ℕ → ℕ) where
   unfolding greatest
   greatest-most zero b h below = h
   greatest-most (suc n) b h below = omega (arith, greatest-most n b h (λ k l. below k (omega arith)), below n (omega arith))
+
+-- a list of the numbers f 0, f 1, ..
+module _ (f : ℕ → ℕ) where
+  pub length-listed : (n : ℕ) → length (listed f n) ≡ n
+  unfolding listed
+  length-listed zero = refl
+  length-listed (suc n) = omega (arith, length-append (listed f n) (f n ∷ []), length-listed n)
+
+  pub listed-at : (n k : ℕ) → k < n → getD (listed f n) k 0 ≡ f k
+  unfolding listed
+  listed-at zero k h = absurd (omega arith)
+  listed-at (suc n) k h = by (eq-or-lt-of-le h) (λ l. listed-at n k l)
+    where
+      by : (suc k ≡ suc n) ⊎ (suc k < suc n) → (k < n → getD (listed f n) k 0 ≡ f k) → getD (listed f n ++ (f n ∷ [])) k 0 ≡ f k
+      by (inl e) rest = let q : n ≡ k = omega arith in getD-at (listed f n) (f n) [] 0 k (length-listed n ∙ q) ∙ ap f q
+      by (inr l) rest = let q : k < n = omega arith in List·getD-append (listed f n) (f n ∷ []) 0 k (omega (arith, length-listed n)) ∙ rest q
+
+pub listed-same : (f g : ℕ → ℕ) (n : ℕ) → ((k : ℕ) → k < n → f k ≡ g k) → listed f n ≡ listed g n
+unfolding listed
+listed-same f g zero h = refl
+listed-same f g (suc n) h = ap₂ (λ (l : List ℕ) (x : ℕ). l ++ (x ∷ [])) (listed-same f g n (λ k lt. h k (omega arith))) (h n (omega arith))

@@ -68,7 +68,7 @@ first-arrival store v now t new h never e =
 -- ---- what takes nothing from a vehicle
 
 -- a sweep leaves both stamps, and that the slot was heard
-ever-aged : (s : Slot) (now : ℕ) → everHeard (aged s now) ≡ everHeard s
+pub ever-aged : (s : Slot) (now : ℕ) → everHeard (aged s now) ≡ everHeard s
 unfolding stale
 ever-aged s now = by (stale s now) refl
   where
@@ -84,7 +84,7 @@ unfolding gap
 gap-aged s now = ap (λ (b : Bool). cond b (age (s .stamp) (s .previous)) 0) (ever-aged s now)
 
 -- what a sweep leaves of a slot, every step leaves that takes nothing from the vehicle: another's telegram, a refused one, a sweep
-module _ (of : Slot → ℕ) (aging : (s : Slot) (now : ℕ) → of (aged s now) ≡ of s) (v : ℕ) (first : 1 ≤ v) (last : v ≤ vehicles) where
+module _ {A : Type 0} (of : Slot → A) (aging : (s : Slot) (now : ℕ) → of (aged s now) ≡ of s) (v : ℕ) (first : 1 ≤ v) (last : v ≤ vehicles) where
   left-step : (store : List ℕ) (s : Step) → Passes v store s → of (slotOf (step store s) v) ≡ of (slotOf store v)
   left-step store (offer w now t) p = ap of (step-other v store (offer w now t) first last p tt)
   left-step store (sweep now) p = by (sweeping store now) refl
@@ -93,7 +93,7 @@ module _ (of : Slot → ℕ) (aging : (s : Slot) (now : ℕ) → of (aged s now)
       by (refused n at) e = refl
       by (gives new) e = let t = sweeps store now new e in rw (← t .1) (ap of (slot-swept store now (t .0) v first last) ∙ aging (slotOf store v) now)
 
-  left-run : (store : List ℕ) (steps : List Step) → NoneLater v store steps → of (slotOf (run store steps) v) ≡ of (slotOf store v)
+  pub left-run : (store : List ℕ) (steps : List Step) → NoneLater v store steps → of (slotOf (run store steps) v) ≡ of (slotOf store v)
   unfolding run NoneLater
   left-run store [] none = refl
   left-run store (s ∷ ss) none = left-run (step store s) ss (none .1) ∙ left-step store s (none .0)

@@ -26,5 +26,6 @@ pub mod WidthLaws
 pub mod PairLaws
 pub mod RefusalLaws
 pub mod Demands
+pub mod RelayingLaws
 pub mod TrueClock
 pub mod WrongLaws

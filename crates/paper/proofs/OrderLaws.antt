@@ -136,7 +136,7 @@ step-refused s v now t never = by (taking s v now t) refl
 short : {s : List ℕ} {v : ℕ} {t : List ℕ} → Takes s v t → length t ≤ telegramOctets
 short {s} {v} {t} g = omega (arith, g .long, type-short (telegramType t))
 
-long-taken : (s : List ℕ) (v now : ℕ) (t : List ℕ) → Takes s v t → length (taken s v now t) ≡ length s
+pub long-taken : (s : List ℕ) (v now : ℕ) (t : List ℕ) → Takes s v t → length (taken s v now t) ≡ length s
 long-taken s v now t g = length-taken s v now t (g .whole) (g .first) (g .last) (short g)
 
 forget-if : {A : Type 0} (b : Bool) (n at : ℕ) (x y : Answer A) → forget x ≡ forget y → forget (refuseIf b n at x) ≡ forget (refuseIf b n at y)

@@ -15,6 +15,7 @@ use Rattle.paper.specs.Store.{taking, gapping, sweeping}
 use Rattle.paper.specs.Reading.{reading, readingBy}
 use Rattle.paper.specs.Marshalling.{marshalling}
 use Rattle.paper.specs.Composing.{composing}
+use Rattle.paper.specs.Relaying.{relaying}
 use Rattle.paper.specs.Shown.{Kind, showing}
 use Rattle.paper.specs.Train.{Vehicle, resolving}
 use Rattle.paper.specs.ETelegrams.{eReading, answering}
@@ -144,6 +145,14 @@ numbered-composing form xs type values marks room =
     numbered-under form xs _ (λ n.
     numbered-if _ 9 _ _ (omega arith) (numbered-if _ 13 _ _ (omega arith) (numbered-if _ 14 _ _ (omega arith)
     (numbered-if _ 15 _ _ (omega arith) (numbered-if _ 16 _ _ (omega arith) (numbered-gives _))))))
+
+pub numbered-relaying : (form : ℕ) (xs store : List ℕ) (now v room : ℕ) → Numbered (relaying form xs store now v room)
+unfolding relaying
+numbered-relaying form xs store now v room =
+    numbered-under form xs _ (λ n.
+    numbered-if _ 5 _ _ (omega arith) (numbered-if _ 6 _ _ (omega arith)
+    (numbered-if _ 9 _ _ (omega arith) (numbered-if _ 13 _ _ (omega arith) (numbered-if _ 14 _ _ (omega arith)
+    (numbered-if _ 15 _ _ (omega arith) (numbered-if _ 16 _ _ (omega arith) (numbered-gives _))))))))
 
 pub numbered-showing : (form : ℕ) (xs store : List ℕ) (now v k : ℕ) (kind : Kind) → Numbered (showing form xs store now v k kind)
 unfolding showing

@@ -15,6 +15,7 @@ use Rattle.paper.specs.Reading.{readingBy, reading}
 use Rattle.paper.specs.Shown.{Kind, showingBy, showing}
 use Rattle.paper.specs.Marshalling.{marshallingBy, marshalling}
 use Rattle.paper.specs.Composing.{composingBy, composing}
+use Rattle.paper.specs.Relaying.{relayingBy, relaying}
 use Rattle.paper.proofs.BrokenLaws.{fault-exactly}
 use Rattle.paper.proofs.FormLaws.{form-2, accepted-dropped, same-answers, same-answers-first, same-answers-second}
 
@@ -46,6 +47,10 @@ module _ (xs : List ℕ) (n : Counts) (e : judge 2 xs ≡ gives n) where
   pub composes-same : (type : ℕ) (values marks : List ℕ) (room : ℕ) → composing 2 xs type values marks room ≡ composing 1 (dropped xs) type values marks room
   unfolding composing
   composes-same type values marks room = same-answers xs n (composingBy type values marks room) e
+
+  pub relays-same : (store : List ℕ) (now v room : ℕ) → relaying 2 xs store now v room ≡ relaying 1 (dropped xs) store now v room
+  unfolding relaying
+  relays-same store now v room = same-answers xs n (relayingBy store now v room) e
 
   -- of two lists, the first, then the second
   pub extends-same-first : (form : ℕ) (ys : List ℕ) → extendsLists 2 xs form ys ≡ extendsLists 1 (dropped xs) form ys

@@ -16,6 +16,7 @@ use Rattle.paper.specs.Store.{taking, gapping, sweeping}
 use Rattle.paper.specs.Reading.{Reading, Held, holding, reading}
 use Rattle.paper.specs.Marshalling.{marshalling}
 use Rattle.paper.specs.Composing.{composing}
+use Rattle.paper.specs.Relaying.{relaying}
 use Rattle.paper.specs.Shown.{Kind, Shown, ShownReading, asCode, asSpeed, asPercentage, asCurrent, showing}
 use Rattle.paper.specs.Train.{Vehicle, Members, resolving}
 use Rattle.paper.specs.ETelegrams.{EReading, eReading, answering}
@@ -98,6 +99,8 @@ pub data Question : Type 0 where
   marshalsIn : ℕ → List ℕ → List ℕ → ℕ → List ℕ → Question
   -- a list, a type, values, marks and an output; the elements of the output that are looked at afterwards
   composesIn : ℕ → List ℕ → ℕ → List ℕ → List ℕ → List ℕ → List ℕ → Question
+  -- a list, a store, the clock, a vehicle and an output; the elements of the output that are looked at afterwards
+  relaysIn : ℕ → List ℕ → List ℕ → ℕ → ℕ → List ℕ → List ℕ → Question
   -- a list, a store, the clock, a vehicle, a signal and a kind
   showsIn : ℕ → List ℕ → List ℕ → ℕ → ℕ → ℕ → Kind → Question
   -- a consist and an address
@@ -131,6 +134,9 @@ pairs xs ys from = pairsIn 1 xs 1 ys from
 
 abbrev pub reads : List ℕ → List ℕ → ℕ → ℕ → ℕ → Question
 reads xs store now v k = readsIn 1 xs store now v k
+
+abbrev pub relays : List ℕ → List ℕ → ℕ → ℕ → List ℕ → List ℕ → Question
+relays xs store now v out at = relaysIn 1 xs store now v out at
 
 abbrev pub shows : List ℕ → List ℕ → ℕ → ℕ → ℕ → Kind → Question
 shows xs store now v k kind = showsIn 1 xs store now v k kind
@@ -237,6 +243,7 @@ ask (marshalsIn form xs store now bus) =
     let a = marshalling form xs store now bus in
     said (λ m. m .lives ∷ []) a ++ after bus (mapAnswer (λ m. m .octets) a)
 ask (composesIn form xs type values marks out at) = wrote out (composing form xs type values marks (length out)) at
+ask (relaysIn form xs store now v out at) = wrote out (relaying form xs store now v (length out)) at
 ask (showsIn form xs store now v k kind) = said ofShownReading (showing form xs store now v k kind)
 ask (resolves train a) = said ofMembers (resolving train a)
 ask (eReads telegram) = said ofERead (eReading telegram)

@@ -5,8 +5,8 @@ use mathlib.Core.List.{List, [], _∷_, _++_, map}
 use lib.ListN.{take, replicate, set}
 use lib.Ieee.{toBits, ofBits, round}
 use Rattle.paper.specs.Octets.{field, bit, number, octetsOf, over, put, puts, setBit, withBit}
-use Rattle.paper.specs.Answer.{refuseIf}
-use Rattle.paper.specs.First.{firstFrom, firstBad, all, some, count, greatest}
+use Rattle.paper.specs.Answer.{refuseIf, after}
+use Rattle.paper.specs.First.{firstFrom, firstBad, all, some, count, greatest, listed}
 use Rattle.paper.specs.Telegrams.{applicationType, telegramType, versionOf, rows, placeIn}
 use Rattle.paper.specs.SignalList
 use Rattle.paper.specs.SignalList.{Signal, judgeTo, version, hasCodes, inRange, knownIn, knows, placeOf}
@@ -15,12 +15,13 @@ use Rattle.paper.specs.Store.{slotOf, taken, taking, age, gap, gapping, 
 use Rattle.paper.specs.Reading.{heard, markOf, codeOf, hindrances, reasonOf, readingOf, readingAt, reading}
 use Rattle.paper.specs.Marshalling.{routed, marshalled, live, marshalling}
 use Rattle.paper.specs.Composing.{headed, composed, markFits, valueFits, composing}
+use Rattle.paper.specs.Relaying.{relayType, readLive, under, allLive, vouched, relayMark, relayValue, relaying}
 use Rattle.paper.specs.Shown.{speed, showing}
 use Rattle.paper.specs.Train.{noVehicle, consistRule, meets, member, setTo, membersOf, resolving}
 use Rattle.paper.specs.ETelegrams.{requests, isRequest, isReport, eReading, answerTo, answering}
 use Rattle.paper.specs.Bench.{listL, listL2, listV}
 use Rattle.paper.specs.Marked.{telegram, silent, heardAt, rawAt}
-use Rattle.paper.specs.Cases.{joined, made, made2, signal, code, route, Question, judges, judgesIn, serialsIn, movesTo2, movesTo1, places, takes, gaps, sweeps, reads, marshals, composes, shows, resolves, eReads, gave, refuses, ask}
+use Rattle.paper.specs.Cases.{joined, made, made2, signal, code, route, Question, judges, judgesIn, serialsIn, movesTo2, movesTo1, places, takes, gaps, sweeps, reads, marshals, composes, relays, shows, resolves, eReads, gave, refuses, ask}
 
 pub record Edge : Type 0 where
   pub at : Question
@@ -253,6 +254,12 @@ edges =
     ∷ between (composesWide 63) 0x7FFFFFFFFFFFFFFF (gave []) 0x8000000000000000 (refuses 15 0)
     ∷ between (composesWide 64) 0xFFFFFFFFFFFFFFFF (gave []) 0x10000000000000000 (refuses 15 0)
     ∷ between (λ n. composes listL 1 (0 ∷ []) (1 ∷ []) (replicate n 0) []) 128 (gave []) 127 (refuses 16 0)
+    -- C-24: relaying what vehicle 63 was heard saying, and vehicle 64; into an output of its type's length, and one octet less; with the replacement 6, which the
+    -- list knows, and 7, which it doesn't
+    ∷ between (λ v. relays listL (after silent (taking silent 63 0 (telegram 0x10 0x40))) 0 v (replicate 128 0xEE) (53 ∷ [])) 63 (gave (0x40 ∷ [])) 64 (refuses 6 0 ++ (0xEE ∷ []))
+    ∷ between (λ n. relays listL (heardAt 0x10 0x40 0) 0 1 (replicate n 0xEE) (40 ∷ [])) 128 (gave (0x10 ∷ [])) 127 (refuses 16 0 ++ (0xEE ∷ []))
+    ∷ between (λ r. relays (set listL 21 r) (heardAt 0x10 0x70 0) 0 1 (replicate 128 0xEE) (40 ∷ 53 ∷ [])) 6 (gave (0x00 ∷ 0x60 ∷ [])) 7
+    (refuses 15 0 ++ (0xEE ∷ 0xEE ∷ []))
     -- shown; the grouping; the train; E-telegrams
     ∷ between (λ w. shows (listV w 0) (rawAt 128) 5000 1 0 speed) 16 (gave (1 ∷ 0x40000000 ∷ 0 ∷ [])) 15 (refuses 26 0)
     ∷ between (λ w. shows (listV w 0) (rawAt 128) 5000 1 0 speed) 16 (gave (1 ∷ 0x40000000 ∷ 0 ∷ [])) 17 (refuses 26 0)
@@ -276,6 +283,6 @@ unfolding edges evens joined made made2 ask listL listL2 listV rawAt serialAt se
     SignalList.checkRule SignalList.signalRuleTo SignalList.codeRule SignalList.routeRule SignalList.opening SignalList.judgeEntries SignalList.judgeSection
     SignalList.greatestSince SignalList.ending SignalList.fromRoutes SignalList.fromCodes SignalList.fromSignalsTo judgeTo hasCodes inRange knownIn knows
     placeOf version slotOf taken taking age gap gapping stale sweptOne sweptTo sweeping heard markOf codeOf hindrances reasonOf readingOf readingAt reading routed marshalled live marshalling headed
-    composed markFits valueFits composing showing ofBits round toBits consistRule meets member setTo membersOf resolving requests isRequest isReport
+    composed markFits valueFits composing relayType readLive under allLive vouched relayMark relayValue relaying listed showing ofBits round toBits consistRule meets member setTo membersOf resolving requests isRequest isReport
     eReading answerTo answering
 at-each-edge = refl

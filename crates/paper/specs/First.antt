@@ -2,7 +2,7 @@
 use Prim.Native.Nat.{ℕ, zero, suc, _+_, _-_, _<_, max}
 use mathlib.Core.Path.{_≡_}
 use mathlib.Core.Bool.{Bool, true, false, not, cond}
-use mathlib.Core.List.{List, [], _∷_}
+use mathlib.Core.List.{List, [], _∷_, _++_}
 use lib.ListN.{getD}
 use lib.Dec.{eqb}
 
@@ -49,6 +49,11 @@ count ok (suc n) = count ok n + cond (ok n) 1 0
 unfoldable pub greatest : ℕ → (ℕ → ℕ) → ℕ → ℕ
 greatest least f zero = least
 greatest least f (suc n) = max (greatest least f n) (f n)
+
+-- the n numbers f 0, f 1, ..
+unfoldable pub listed : (ℕ → ℕ) → ℕ → List ℕ
+listed f zero = []
+listed f (suc n) = listed f n ++ (f n ∷ [])
 
 -- the number of the first of the tests that holds, numbered from n on; `other` where none holds
 abbrev pub firstOf : ℕ → List Bool → ℕ → ℕ

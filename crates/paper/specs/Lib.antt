@@ -20,10 +20,12 @@ pub mod Train
 pub mod ETelegrams
 pub mod Demands
 pub mod Order
+pub mod Relaying
 pub mod Bench
 pub mod Marked
 pub mod Parked
 pub mod Cases
 pub mod Edges
 pub mod Breaks
+pub mod RelayCases
 pub mod Wrong

@@ -10,8 +10,8 @@ use lib.ListN.{take, drop, replicate, set}
 use lib.Dec.{eqb}
 use lib.Ieee.{toBits, ofBits, round}
 use Rattle.paper.specs.Octets.{field, bit, number, octetsOf, over, put, puts, setBit, withBit}
-use Rattle.paper.specs.Answer.{refuseIf}
-use Rattle.paper.specs.First.{firstFrom, firstBad, all, some, next, count, greatest}
+use Rattle.paper.specs.Answer.{refuseIf, after}
+use Rattle.paper.specs.First.{firstFrom, firstBad, all, some, next, count, greatest, listed}
 use Rattle.paper.specs.Telegrams.{applicationType, telegramType, versionOf, rows, placeIn}
 use Rattle.paper.specs.SignalList
 use Rattle.paper.specs.SignalList.{Signal, judgeTo, version, hasCodes, inRange, knownIn, knows, placeOf}
@@ -24,13 +24,14 @@ use Rattle.paper.specs.Store.{slotHead, slotOctets, storeOctets, slotSta
 use Rattle.paper.specs.Reading.{heard, heldIn, holding, markOf, codeOf, hindrances, reasonOf, readingOf, readingAt, reading}
 use Rattle.paper.specs.Marshalling.{routed, marshalled, live, marshalling}
 use Rattle.paper.specs.Composing.{headed, composed, markFits, valueFits, composing}
+use Rattle.paper.specs.Relaying.{relayType, readLive, under, allLive, vouched, relayMark, relayValue, relaying}
 use Rattle.paper.specs.Shown.{Kind, speed, percentage, signedPercentage, showing}
 use Rattle.paper.specs.Shown as Shown
 use Rattle.paper.specs.Train.{Vehicle, consistRule, meets, member, setTo, membersOf, resolving}
 use Rattle.paper.specs.ETelegrams.{requests, isRequest, isReport, eReading, answerTo, answering}
 use Rattle.paper.specs.Bench.{listL, listL2, listV}
 use Rattle.paper.specs.Marked.{telegram, silent, heardAt, rawAt}
-use Rattle.paper.specs.Cases.{joined, made, made2, signal, code, route, Question, judges, judgesIn, faults, faultsIn, extends, extendsIn, serialsIn, movesTo2, movesTo1, readsIn, signalEntries, routeEntries, finds, pairs, places, takes, gaps, sweeps, holds, reads, marshals, composes, shows, resolves, eReads, eAnswers, gave, refuses, ask}
+use Rattle.paper.specs.Cases.{joined, made, made2, signal, code, route, Question, judges, judgesIn, faults, faultsIn, extends, extendsIn, serialsIn, movesTo2, movesTo1, readsIn, signalEntries, routeEntries, finds, pairs, places, takes, gaps, sweeps, holds, reads, marshals, composes, relays, shows, resolves, eReads, eAnswers, gave, refuses, ask}
 
 -- ---- A wrong gateway
 
@@ -143,6 +144,26 @@ filled lives octet = gave (lives ∷ octet ∷ [])
 -- a raw value of 16 bits, 5,000 ms old, shown
 abbrev shown-as : Kind → ℕ → Question
 shown-as kind raw = shows (listV 16 64) (rawAt raw) 5000 1 0 kind
+
+-- C-24: a list with these checks, two common signals of 4 bits at 24 and 28, under the first check and under this one, replacement 1 and this one, which
+-- know the codes 0 to 5
+abbrev relay-list : List ℕ → ℕ → ℕ → List ℕ
+relay-list checks second replacement =
+    made checks (signal 24 4 0 1 1 0 1 ∷ signal 28 4 0 second 1 0 replacement ∷ []) (code 0 0 5 ∷ code 1 0 5 ∷ []) []
+
+-- an R3 of version 3 with these octets 3, 4 and 5 relayed into octets EE; octets 1 to 5 of what comes out
+abbrev relayed-r3 : List ℕ → ℕ → ℕ → ℕ → Question
+relayed-r3 xs o3 o4 o5 =
+    relays xs (after silent (taking silent 1 0 (0x13 ∷ 0x03 ∷ o3 ∷ o4 ∷ o5 ∷ replicate 35 0))) 0 1 (replicate 40 0xEE) (0 ∷ 1 ∷ 2 ∷ 3 ∷ 4 ∷ [])
+
+abbrev comes-out : ℕ → ℕ → ℕ → ℕ → List ℕ
+comes-out o2 o3 o4 o5 = gave (0x13 ∷ o2 ∷ o3 ∷ o4 ∷ o5 ∷ [])
+
+abbrev under-two : List ℕ
+under-two = relay-list (16 ∷ 18 ∷ []) 2 1
+
+abbrev under-one : List ℕ
+under-one = relay-list (16 ∷ 18 ∷ []) 1 1
 
 -- an R1 composed with a value and a mark into octets EE: octets 1, 2, 41 and 54
 abbrev compose : List ℕ → ℕ → ℕ → Question
@@ -472,6 +493,22 @@ table =
     (composes listL 3 (4 ∷ []) (5 ∷ []) (replicate 40 0xEE) (0 ∷ 39 ∷ [])) (gave (0x13 ∷ 0 ∷ []))
     (refuses 14 0 ++ (0xEE ∷ 0xEE ∷ []))
     ∷ saying "rest-not-zeroed" (composes listL 1 (4 ∷ []) (1 ∷ []) (replicate 128 0xEE) (127 ∷ [])) (gave (0 ∷ [])) (gave (0xEE ∷ []))
+    -- relaying: octets 1 to 5
+    ∷ saying "relays-nothing" (relayed-r3 under-two 0x50 0x44 0) (comes-out 1 0x50 0x44 0) (gave (0xEE ∷ 0xEE ∷ 0xEE ∷ 0xEE ∷ 0xEE ∷ []))
+    ∷ saying "mark-passed-on" (relayed-r3 under-one 0x40 0x47 0) (comes-out 1 0x00 0x41 0) (comes-out 1 0x40 0x41 0)
+    ∷ saying "first-signal-decides" (relayed-r3 under-one 0x40 0x74 0) (comes-out 1 0x00 0x14 0) (comes-out 1 0x40 0x14 0)
+    ∷ saying "error-for-the-first-check-only" (relayed-r3 under-two 0x50 0x77 0) (comes-out 1 0x00 0x11 0) (comes-out 1 0x10 0x11 0)
+    ∷ saying "error-for-every-check" (relayed-r3 under-two 0x50 0x74 0) (comes-out 1 0x10 0x14 0) (comes-out 1 0x00 0x14 0)
+    ∷ saying "forced-relayed-as-ok" (relayed-r3 under-one 0x80 0x44 0) (comes-out 1 0x80 0x44 0) (comes-out 1 0x40 0x44 0)
+    ∷ saying "incoming-version-passed-on" (relayed-r3 under-two 0x50 0x44 0) (comes-out 1 0x50 0x44 0) (comes-out 3 0x50 0x44 0)
+    ∷ saying "newer-signal-copied" (relayed-r3 under-two 0x50 0x44 0xFF) (comes-out 1 0x50 0x44 0) (comes-out 1 0x50 0x44 0xFF)
+    ∷ saying "check-without-signals-ok" (relayed-r3 under-one 0x50 0x44 0) (comes-out 1 0x40 0x44 0) (comes-out 1 0x50 0x44 0)
+    ∷ saying "code-passed-on" (relayed-r3 under-two 0x50 0x47 0) (comes-out 1 0x40 0x41 0) (comes-out 1 0x40 0x47 0)
+    ∷ saying "relays-what-was-never-heard" (relays under-two silent 0 1 (replicate 40 0xEE) (0 ∷ [])) (refuses 9 0 ++ (0xEE ∷ [])) (gave (0x10 ∷ []))
+    ∷ saying "unknown-replacement-relayed" (relayed-r3 (relay-list (16 ∷ 18 ∷ []) 2 8) 0x50 0x47 0)
+    (refuses 15 1 ++ (0xEE ∷ 0xEE ∷ 0xEE ∷ 0xEE ∷ 0xEE ∷ [])) (comes-out 1 0x40 0x48 0)
+    ∷ saying "sixteen-before-nine" (relays under-two silent 0 1 (replicate 39 0xEE) (0 ∷ [])) (refuses 9 0 ++ (0xEE ∷ [])) (refuses 16 0 ++ (0xEE ∷ []))
+    ∷ saying "relay-vehicle-before-store" (relays under-two [] 0 64 (0xEE ∷ []) (0 ∷ [])) (refuses 5 0 ++ (0xEE ∷ [])) (refuses 6 0 ++ (0xEE ∷ []))
     -- showing: the case, the code or the bits of the f32, and the reason
     ∷ asked-as "signed-edge" (shown-as signedPercentage 32768) (gave (2 ∷ 0xC3480000 ∷ 0 ∷ [])) (shown-as percentage 32768) (gave (2 ∷ 0x43480000 ∷ 0 ∷ []))
     ∷ saying "speed-scale" (shown-as speed 64) (gave (1 ∷ 0x3F800000 ∷ 0 ∷ [])) (gave (1 ∷ 0x3F820821 ∷ 0 ∷ []))
@@ -540,6 +577,6 @@ unfolding table answered sameNumbers joined made made2 ask listL listL2 listV ra
     SignalList.judgeEntries SignalList.judgeSection SignalList.greatestSince SignalList.ending SignalList.fromRoutes SignalList.fromCodes
     SignalList.fromSignalsTo judgeTo faultIn faultFromRoutes faultFromCodes faultFromSignals faultOf hasCodes inRange knownIn knows placeOf version codesKept keeps stands newer Extending.extends extendsLists entryOf
     routeEntry signalFound finding has index nextPair pairing slotOf taken taking age gap gapping stale sweptOne sweptTo sweeping heard heldIn holding markOf codeOf hindrances reasonOf readingOf
-    readingAt reading routed marshalled live marshalling headed composed markFits valueFits composing showing ofBits round toBits consistRule meets member
+    readingAt reading routed marshalled live marshalling headed composed markFits valueFits composing relayType readLive under allLive vouched relayMark relayValue relaying listed showing ofBits round toBits consistRule meets member
     setTo membersOf resolving requests isRequest isReport eReading answerTo answering
 wrong = refl

@@ -1,10 +1,11 @@
 -- The code's readings as those of the paper, and the parts in which the code works them out.
 use Prim.Native.Nat.{ℕ}
+use mathlib.Core.Path.{_≡_}
 use mathlib.Core.Bool.{Bool, not, cond}
 use mathlib.Core.List.{List, [], _∷_}
 use lib.Dec.{ltb, leb, eqb}
 use Rattle.paper.specs.Answer.{Answer, gives, refuseIf}
-use Rattle.paper.specs.First.{firstOf}
+use Rattle.paper.specs.First.{firstOf, listed}
 use Rattle.paper.specs.Telegrams.{telegramType, versionOf, carries, error, forced, undefined}
 use Rattle.paper.specs.SignalList.{Signal, SignalList, knows}
 use Rattle.paper.specs.Store.{Slot, isStore, isVehicle, timely}
@@ -45,6 +46,11 @@ telegramReading l telegram k =
     let code = paper.codeOf s telegram in
     let reason = telegramReason (paper.markOf l s telegram) (knows l k code) in
     record { value = cond (leb 2 reason) (s .replacement) code; reason = reason }
+
+-- the value and the reason of every signal, in list order
+pub record EachRead (l : SignalList) (store : List ℕ) (now v : ℕ) (values reasons : List ℕ) : Type 0 where
+  pub value : values ≡ listed (λ k. paper.readingAt l store now v k .value) (l .signals)
+  pub reason : reasons ≡ listed (λ k. paper.readingAt l store now v k .reason) (l .signals)
 
 -- the paper's `reading` under a list
 unfoldable pub readingUnder : SignalList → List ℕ → ℕ → ℕ → ℕ → Answer paper.Reading

@@ -10,7 +10,7 @@ ghost use Rattle.paper.specs.Accepted.{Laid};
 ghost use Rattle.entries.specs.Entries.{signalOf};
 ghost use Rattle.lists.specs.Judged.{countsOf};
 ghost use Rattle.known.specs.Known.{Entries};
-ghost use Rattle.reading.specs.Reading.{asReading, readAnswer, slotTests, telegramReason, telegramReading, readingUnder};
+ghost use Rattle.reading.specs.Reading.{asReading, readAnswer, slotTests, telegramReason, telegramReading, EachRead, readingUnder};
 use entries::Signal;
 use known::Span;
 use lists::Counts;
@@ -150,7 +150,33 @@ pub fn read_at(
     )
 }
 
-// Inner: the same with the refusals 5, 6 and 11.
+// Inner: every signal of a vehicle, its value and its reason; e is where the code entries of the next are looked for.
+pub fn read_each(
+    list: &[u8],
+    n: Counts,
+    store: &[u8],
+    clock: u32,
+    vehicle: usize,
+    values: &mut [u64],
+    reasons: &mut [u8],
+)
+    requires { ⌜ (Laid (now list) (countsOf n)) × (length (now values) ≡ n .signals) × (length (now reasons) ≡ n .signals) ⌝ }
+    requires { ⌜ (length (now store) ≡ storeOctets) × (1 ≤ vehicle) × (vehicle ≤ vehicles) ⌝ }
+    ensures { λ _. ⌜ EachRead (listOf (now (list .entry)) (countsOf n)) (now (store .entry)) clock vehicle (now (values .exit)) (now (reasons .exit)) ⌝ }
+{
+    let mut k = 0;
+    let mut e = 0;
+    while k < n.signals {
+        let own = known::entries_from(list, n, e, k);
+        let r = read_with(list, n, store, clock, vehicle, k, own);
+        values[k] = r.value;
+        reasons[k] = r.reason;
+        e = own.to;
+        k += 1;
+    }
+}
+
+// Inner: a signal of a vehicle, with the refusals 5, 6 and 11.
 pub fn read_under(
     list: &[u8],
     n: Counts,

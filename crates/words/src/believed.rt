@@ -59,36 +59,63 @@ fn say_age(line: Line, age: u64) -> Line {
     l
 }
 
-// The head line of a vehicle.
-pub fn print_head(page: &mut Page, store: &[u8], clock: u32, vehicle: usize) {
-    let l = say(say_number(say(empty(), b"vehicle "), vehicle as u64), b": ");
+// What is held of a vehicle: type, version, age and gap of its telegram.
+fn say_held(line: Line, store: &[u8], clock: u32, vehicle: usize) -> Line {
     let h = held_of(store, clock, vehicle);
     if !h.heard {
-        add(page, say(l, b"never heard"));
-        return;
+        return say(line, b"never heard");
     }
-    let l = say_number(say(say_telegram(l, h.kind), b" version "), h.version as u64);
+    let l = say_telegram(line, h.kind);
+    let l = say_number(say(l, b" version "), h.version as u64);
     let l = if h.expired {
         say(l, b" expired")
     } else {
         say_age(l, h.age as u64)
     };
-    add(page, say_gap(l, store, vehicle));
+    say_gap(l, store, vehicle)
 }
 
-// The same as columns of a table, behind the vehicle's: telegram, version and age, or `expired` for the age; a dash each where it was never
-// heard.
-pub fn say_head(line: Line, store: &[u8], clock: u32, vehicle: usize) -> Line {
+fn say_vehicle(vehicle: usize) -> Line {
+    say(say_number(say(empty(), b"vehicle "), vehicle as u64), b": ")
+}
+
+// The head line of a vehicle.
+pub fn print_head(page: &mut Page, store: &[u8], clock: u32, vehicle: usize) {
+    add(page, say_held(say_vehicle(vehicle), store, clock, vehicle));
+}
+
+// The same as two gateways have it, each by a store and a clock of its own.
+pub fn print_heads(
+    page: &mut Page,
+    first: &[u8],
+    first_clock: u32,
+    second: &[u8],
+    second_clock: u32,
+    vehicle: usize,
+) {
+    let l = say_held(say_vehicle(vehicle), first, first_clock, vehicle);
+    add(
+        page,
+        say_held(say(l, b" | "), second, second_clock, vehicle),
+    );
+}
+
+// The same as the next columns of a table: telegram, version and age, or `expired` for the age; a dash each where it was never heard.
+pub fn say_held_tabs(line: Line, store: &[u8], clock: u32, vehicle: usize) -> Line {
     let h = held_of(store, clock, vehicle);
-    let l = put(say_number(line, vehicle as u64), b'\t');
     if !h.heard {
-        return say(l, b"-\t-\t-");
+        return say(line, b"\t-\t-\t-");
     }
-    let l = say_tab(say_telegram(l, h.kind), h.version as u64);
+    let l = say_tab(say_telegram(put(line, b'\t'), h.kind), h.version as u64);
     if h.expired {
         return say(l, b"\texpired");
     }
     say_tab(l, h.age as u64)
+}
+
+// Those columns behind the vehicle's.
+pub fn say_head(line: Line, store: &[u8], clock: u32, vehicle: usize) -> Line {
+    say_held_tabs(say_number(line, vehicle as u64), store, clock, vehicle)
 }
 
 // The gap as the next column of a table, a dash where the vehicle was never heard.
@@ -104,11 +131,16 @@ pub fn is_heard(store: &[u8], vehicle: usize) -> bool {
     h.heard
 }
 
-fn never_heard(store: &[u8]) -> Vehicles {
+// By either of two gateways, each with a store of its own.
+pub fn is_heard_by(first: &[u8], second: &[u8], vehicle: usize) -> bool {
+    is_heard(first, vehicle) | is_heard(second, vehicle)
+}
+
+fn never_heard(first: &[u8], second: &[u8]) -> Vehicles {
     let mut s = no_vehicles();
     let mut v = 1;
     while v <= VEHICLES {
-        if !is_heard(store, v) {
+        if !is_heard_by(first, second, v) {
             s = with_vehicle(s, v);
         }
         v += 1;
@@ -116,15 +148,20 @@ fn never_heard(store: &[u8]) -> Vehicles {
     s
 }
 
-// The vehicles that were never heard, in one line.
-pub fn print_never(page: &mut Page, store: &[u8]) {
+// The vehicles that neither of the two has heard, in one line.
+pub fn print_never_by(page: &mut Page, first: &[u8], second: &[u8]) {
     let head = say(empty(), b"never heard:");
-    let never = never_heard(store);
+    let never = never_heard(first, second);
     if never.count == 0 {
         add(page, say(head, b" none"));
         return;
     }
     add(page, say_vehicles(head, never));
+}
+
+// Those of one store.
+pub fn print_never(page: &mut Page, store: &[u8]) {
+    print_never_by(page, store, store);
 }
 
 // How often each reason was given.

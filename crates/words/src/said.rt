@@ -175,8 +175,8 @@ pub fn say_refused(f: Refusal, of: &[u8]) -> Line {
 }
 
 // The same of a call that is given a store of so many octets, with what can be said of one of the older layout.
-pub fn say_refused_store(f: Refusal, octets: usize) -> Line {
-    let l = say_refused(f, b"");
+fn say_refused_store_of(f: Refusal, octets: usize, of: &[u8]) -> Line {
+    let l = say_refused(f, of);
     if (gateway::number(f) == 5) & (octets == OLDER_STORE) {
         return say(
             l,
@@ -184,6 +184,14 @@ pub fn say_refused_store(f: Refusal, octets: usize) -> Line {
         );
     }
     l
+}
+
+pub fn say_refused_store(f: Refusal, octets: usize) -> Line {
+    say_refused_store_of(f, octets, b"")
+}
+
+pub fn print_refused_store_of(f: Refusal, octets: usize, of: &[u8]) {
+    print(say_refused_store_of(f, octets, of));
 }
 
 pub fn print_refused_store(f: Refusal, octets: usize) {

@@ -299,6 +299,39 @@ fn compose(name: &str, list: &'static [u8], values: Vec<u64>, marks: Vec<u8>) ->
     )
 }
 
+/// The telegram of vehicle 63 passed on: every signal is live, so that every check keeps its mark.
+fn relay(name: &str, list: &'static [u8], telegram: &[u8]) -> Case {
+    let store = leak(lists::store(telegram));
+    let mut out = vec![0; telegram.len()];
+    let relayed = reference::relay(list, Form::One, store, NOW, 63, &mut out);
+    relayed.expect("the telegram of the bench is relayed");
+    assert_eq!(out, telegram, "{name}");
+    said(
+        name,
+        vec![0xA5; telegram.len()],
+        move |out| {
+            proved::relay(
+                black_box(list),
+                one(),
+                black_box(store),
+                black_box(NOW),
+                black_box(63),
+                out,
+            )
+        },
+        move |out| {
+            rust::relay(
+                black_box(list),
+                one(),
+                black_box(store),
+                black_box(NOW),
+                black_box(63),
+                out,
+            )
+        },
+    )
+}
+
 /// Fields of 64 bits, one from each bit of an octet: all but the first lie over nine octets.
 fn wide() -> [Case; 3] {
     let list = leak(lists::wide());
@@ -493,6 +526,10 @@ fn refused_alike_in(form: Form, list: Vec<u8>) {
             reference::marshal(short, form, &[], 0, &mut [])
         );
         assert_eq!(
+            proved::relay(short, form, &[], 0, 0, &mut []).said(),
+            reference::relay(short, form, &[], 0, 0, &mut [])
+        );
+        assert_eq!(
             proved::serial(short, form, 0).said(),
             reference::serial(short, form, 0)
         );
@@ -534,6 +571,7 @@ pub fn all() -> Vec<Case> {
             lists::values(64),
             lists::marks(64),
         ),
+        relay("relay R1, 256 signals", longest, &telegram),
         take("take R1", telegram),
         take("take R3", r3),
         gap(),

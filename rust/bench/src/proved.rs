@@ -158,6 +158,18 @@ extern "C" {
         out_len: usize,
     ) -> Outcome;
     #[rustfmt::skip]
+    fn df_relay(
+        list: *const u8,
+        list_len: usize,
+        form: u8,
+        store: *const u8,
+        store_len: usize,
+        clock: u32,
+        vehicle: u64,
+        out: *mut u8,
+        out_len: usize,
+    ) -> Outcome;
+    #[rustfmt::skip]
     fn df_take(
         store: *mut u8,
         store_len: usize,
@@ -294,6 +306,30 @@ pub fn compose(
             values.len(),
             marks.as_ptr(),
             marks.len(),
+            out.as_mut_ptr(),
+            out.len(),
+        )
+    }
+}
+
+#[inline(always)]
+pub fn relay(
+    list: &[u8],
+    form: Form,
+    store: &[u8],
+    now: u32,
+    vehicle: u64,
+    out: &mut [u8],
+) -> Outcome {
+    unsafe {
+        df_relay(
+            list.as_ptr(),
+            list.len(),
+            form as u8,
+            store.as_ptr(),
+            store.len(),
+            now,
+            vehicle,
             out.as_mut_ptr(),
             out.len(),
         )

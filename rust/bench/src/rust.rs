@@ -76,6 +76,18 @@ pub fn compose(
 }
 
 #[inline(never)]
+pub fn relay(
+    list: &[u8],
+    form: Form,
+    store: &[u8],
+    now: u32,
+    vehicle: u64,
+    out: &mut [u8],
+) -> Result<(), Refusal> {
+    reference::relay(list, form, store, now, vehicle, out)
+}
+
+#[inline(never)]
 pub fn take(store: &mut [u8], vehicle: u64, now: u32, telegram: &[u8]) -> Result<(), Refusal> {
     reference::take(store, vehicle, now, telegram)
 }

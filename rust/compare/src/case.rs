@@ -21,6 +21,7 @@ pub enum Call {
     Show,
     Marshal,
     Compose,
+    Relay,
     Resolve,
     ERead,
     EAnswer,
@@ -49,7 +50,7 @@ const fn takes(
 }
 
 impl Call {
-    pub const ALL: [Call; 18] = [
+    pub const ALL: [Call; 19] = [
         Call::Judge,
         Call::Extends,
         Call::SignalEntry,
@@ -65,6 +66,7 @@ impl Call {
         Call::Show,
         Call::Marshal,
         Call::Compose,
+        Call::Relay,
         Call::Resolve,
         Call::ERead,
         Call::EAnswer,
@@ -88,6 +90,7 @@ impl Call {
             Call::Show => takes("show", &["list", "store"], None, &["form", "clock", "vehicle", "signal", "kind"]),
             Call::Marshal => takes("marshal", &["list", "store", "data"], Some(2), &["form", "clock"]),
             Call::Compose => takes("compose", &["list", "marks", "out"], Some(2), &["form", "type"]),
+            Call::Relay => takes("relay", &["list", "store", "out"], Some(2), &["form", "clock", "vehicle"]),
             Call::Resolve => takes("resolve", &["marks"], None, &["address"]),
             Call::ERead => takes("e_read", &["telegram"], None, &[]),
             Call::EAnswer => takes("e_answer", &["telegram", "head", "out"], Some(2), &["status"]),

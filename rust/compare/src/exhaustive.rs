@@ -4,7 +4,7 @@ use std::ops::Range;
 
 use crate::case::{Call, Case, KINDS};
 use crate::generate::REQUESTS;
-use crate::list::{List, Route, Signal};
+use crate::list::{Code, List, Route, Signal};
 use crate::store::{plant, OLD_STORE};
 use reference::{write_field, PREVIOUS, SLOT, STORE, TELEGRAM, VEHICLES};
 
@@ -39,6 +39,9 @@ pub fn each(mut try_one: impl FnMut(Case)) {
     shows(&mut try_one);
     kinds(&mut try_one);
     refused_shows(&mut try_one);
+    under_one_check(&mut try_one);
+    one_of_most(&mut try_one);
+    refused_relays(&mut try_one);
     arrivals(&mut try_one);
     sweeps(&mut try_one);
     widths(&mut try_one);
@@ -163,6 +166,8 @@ fn forms(try_one: &mut impl FnMut(Case)) {
             ask(Call::Show, vec![store.clone()], &[0, 1, 0, 1]);
             ask(Call::Marshal, vec![store, vec![0xAB]], &[0]);
             ask(Call::Compose, vec![vec![1], vec![0xEE; TELEGRAM]], &[1]);
+            let heard = l_heard(1, [(1, 0x11), (2, 1), (41, 0x10), (54, 0x40)]);
+            ask(Call::Relay, vec![heard, vec![0xEE; TELEGRAM]], &[0, 1]);
             let areas = vec![L.to_vec(), list];
             try_one(Case::new(Call::Extends, areas, vec![1, form]));
         }
@@ -297,18 +302,31 @@ fn signals(try_one: &mut impl FnMut(Case)) {
     }
 }
 
-/// The list L read, and shown as a code, with every head, every version, every mark and every code, at the ages around its limit.
+/// A store in which vehicle 1 was heard at 0, or not, with these octets.
+fn l_heard(heard: u8, octets: [(usize, u8); 4]) -> Vec<u8> {
+    let mut telegram = [0; TELEGRAM];
+    octets
+        .iter()
+        .for_each(|&(octet, value)| telegram[octet - 1] = value);
+    let mut store = vec![0; STORE];
+    plant(&mut store, 1, heard, 0, &telegram);
+    store
+}
+
+/// The list L read, shown as a code and relayed, with every head, every version, every mark and every code, at the ages around its limit.
 fn readings(try_one: &mut impl FnMut(Case)) {
     let mut read = |heard: u8, octets: [(usize, u8); 4], clock: u64| {
-        let mut telegram = [0; TELEGRAM];
-        octets
-            .iter()
-            .for_each(|&(octet, value)| telegram[octet - 1] = value);
-        let mut store = vec![0; STORE];
-        plant(&mut store, 1, heard, 0, &telegram);
-        let areas = vec![L.to_vec(), store];
+        let areas = vec![L.to_vec(), l_heard(heard, octets)];
         try_one(Case::new(Call::Read, areas.clone(), vec![1, clock, 1, 0]));
-        try_one(Case::new(Call::Show, areas, vec![1, clock, 1, 0, 0]));
+        try_one(Case::new(
+            Call::Show,
+            areas.clone(),
+            vec![1, clock, 1, 0, 0],
+        ));
+        for len in [40, TELEGRAM] {
+            let areas = [areas.clone(), vec![vec![0xEE; len]]].concat();
+            try_one(Case::new(Call::Relay, areas, vec![1, clock, 1]));
+        }
     };
     for any in 0..=255 {
         read(any, [(1, 0x11), (2, 1), (41, 0x10), (54, 0x40)], 5_000);
@@ -368,8 +386,9 @@ fn kinds(try_one: &mut impl FnMut(Case)) {
 
 /// The list as it is, and as it is refused: it ends too soon, has too many checks, a signal with since-version 0, an octet too many.
 fn spoilt(list: &[u8]) -> [Vec<u8>; 5] {
+    let checks = usize::from(list[1]);
     let mut broken = list.to_vec();
-    broken[9] = 0;
+    broken[2 + 2 * checks + 2 + 5] = 0;
     [
         list.to_vec(),
         list[..list.len() - 1].to_vec(),
@@ -391,6 +410,125 @@ fn refused_shows(try_one: &mut impl FnMut(Case)) {
                 for (vehicle, signal) in [0, 1, 64].iter().flat_map(|&v| [0, 1].map(|s| (v, s))) {
                     let numbers = vec![1, 0, vehicle, signal, kind];
                     try_one(Case::new(Call::Show, areas.to_vec(), numbers));
+                }
+            }
+        }
+    }
+}
+
+/// Two signals of R1 and one of R2 under one check, each live, or lost in a way of its own; with replacements that are known and that are
+/// not, and every mark, in every type.
+fn under_one_check(try_one: &mut impl FnMut(Case)) {
+    let places = [(1, 424), (1, 428), (2, 424)];
+    for states in 0..8 * 8 * 8 {
+        let mut list = List {
+            form: 1,
+            checks: vec![322],
+            ..List::default()
+        };
+        let mut telegrams = [0x11, 0x12, 0x13].map(|head| {
+            let mut telegram = [0x55; TELEGRAM];
+            (telegram[0], telegram[1]) = (head, 1);
+            telegram
+        });
+        for (number, (kind, start)) in (0..).zip(places) {
+            let state = states >> (3 * number);
+            let (fate, known) = (state & 3, state & 4 == 0);
+            list.signals.push(Signal {
+                start,
+                width: 4,
+                kind,
+                check: 1,
+                since: if fate == 1 { 2 } else { 1 },
+                limit: if fate == 2 { 1 } else { 0 },
+                replacement: if known { 6 } else { 7 },
+                serial: 0,
+            });
+            list.codes.push(Code {
+                signal: number,
+                low: 0,
+                high: 6,
+            });
+            let value = if fate == 3 { 9 } else { 1 + number };
+            write_field(&mut telegrams[kind as usize - 1], start as usize, 4, value);
+        }
+        for (telegram, mark) in telegrams.iter().flat_map(|t| [0, 1, 2, 3].map(|m| (t, m))) {
+            let mut telegram = *telegram;
+            write_field(&mut telegram, 322, 2, mark);
+            let len = if telegram[0] == 0x13 { 40 } else { TELEGRAM };
+            for heard in [1, 2] {
+                let mut store = vec![0; STORE];
+                plant(&mut store, 1, heard, 0, &telegram[..len]);
+                let areas = vec![list.octets(), store, vec![0xEE; len]];
+                try_one(Case::new(Call::Relay, areas, vec![1, 2, 1]));
+            }
+        }
+    }
+}
+
+/// As many signals as there can be, of which one says what it does not know: its check is lost or, by its replacement, it is at fault.
+fn one_of_most(try_one: &mut impl FnMut(Case)) {
+    let mut list = most_serials();
+    for (number, s) in (0..).zip(&mut list.signals) {
+        s.replacement = 0;
+        list.codes.push(Code {
+            signal: number,
+            low: 0,
+            high: s.top() - 1,
+        });
+    }
+    for kind in [1, 2, 3] {
+        let len = if kind == 3 { 40 } else { TELEGRAM };
+        let mut telegram = vec![0; len];
+        telegram[..2].copy_from_slice(&[0x10 | kind, 255]);
+        for &check in &list.checks {
+            write_field(&mut telegram, check as usize, 2, 1 + check / 2 % 2);
+        }
+        for number in 0..list.signals.len() {
+            let s = list.signals[number];
+            let mut said = telegram.clone();
+            if s.carried_by(kind.into()) {
+                write_field(&mut said, s.start as usize, s.width as usize, s.top());
+            }
+            let mut store = vec![0; STORE];
+            plant(&mut store, 63, 1, 0, &said);
+            for replacement in [0, s.top()] {
+                list.signals[number].replacement = replacement;
+                let areas = vec![list.octets(), store.clone(), vec![0xEE; len]];
+                try_one(Case::new(Call::Relay, areas, vec![2, 0, 63]));
+            }
+            list.signals[number].replacement = 0;
+        }
+    }
+}
+
+/// All that relaying can be refused for, alone and together: vehicles 1 to 5 are in time, in time with R3, too old, of no R-telegram and never
+/// heard.
+fn refused_relays(try_one: &mut impl FnMut(Case)) {
+    let mut list = L.to_vec();
+    list[21] = 7;
+    let mut store = vec![0; STORE];
+    let mut telegram = [0; TELEGRAM];
+    (telegram[1], telegram[40], telegram[53]) = (1, 0x10, 0x40);
+    for (vehicle, heard, head, stamp) in [
+        (1, 1, 0x11, 5_000),
+        (2, 1, 0x13, 5_000),
+        (3, 1, 0x11, 4_999),
+        (4, 1, 0x21, 5_000),
+        (5, 0, 0x11, 5_000),
+    ] {
+        telegram[0] = head;
+        let len = if head == 0x13 { 40 } else { TELEGRAM };
+        plant(&mut store, vehicle, heard, stamp, &telegram[..len]);
+    }
+    for list in spoilt(&list) {
+        for len in [STORE].into_iter().chain(other_lengths()) {
+            let mut store = store.clone();
+            store.resize(len, 0);
+            for vehicle in (0..=6).chain([63, 64, 257, u64::MAX]) {
+                for len in [0, 1, 39, 40, 41, 127, 128, 129, 256] {
+                    let areas = vec![list.clone(), store.clone(), vec![0xEE; len]];
+                    try_one(Case::new(Call::Relay, areas, vec![1, 10_000, vehicle]));
                 }
             }
         }
@@ -524,7 +662,7 @@ fn saying(signal: &Signal, value: u64, heard: u8, around: u8) -> Vec<u8> {
     store
 }
 
-/// The value composed; and heard, then read, shown and marshalled, as it is and where it was never heard.
+/// The value composed; and heard, then read, shown, relayed and marshalled, as it is and where it was never heard.
 fn wide_field(try_one: &mut impl FnMut(Case), list: &List, value: u64) {
     let octets = list.octets();
     try_one(Case {
@@ -543,6 +681,8 @@ fn wide_field(try_one: &mut impl FnMut(Case), list: &List, value: u64) {
             let numbers = vec![1, 0, 1, 0, kind];
             try_one(Case::new(Call::Show, areas.clone(), numbers));
         }
+        let relayed = [areas.clone(), vec![vec![!around; TELEGRAM]]].concat();
+        try_one(Case::new(Call::Relay, relayed, vec![1, 0, 1]));
         let end = (list.routes[0].start + signal.width).div_ceil(8) as usize;
         for len in [end, end.saturating_sub(1), end + 9] {
             let areas = [areas.clone(), vec![vec![!around; len]]].concat();
@@ -587,8 +727,10 @@ mod tests {
     #[test]
     fn a_spoilt_list_is_refused_each_number() {
         let [list, _] = one_shown(16, 1);
-        let refused = spoilt(&list).map(|list| reference::judge(&list, Form::One).err());
-        let numbers = refused.map(|refused| refused.map_or(0, |refusal| refusal.number));
-        assert_eq!(numbers, [0, 1, 2, 3, 4]);
+        for list in [list, L.to_vec()] {
+            let refused = spoilt(&list).map(|list| reference::judge(&list, Form::One).err());
+            let numbers = refused.map(|refused| refused.map_or(0, |refusal| refusal.number));
+            assert_eq!(numbers, [0, 1, 2, 3, 4]);
+        }
     }
 }

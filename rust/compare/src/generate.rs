@@ -1,11 +1,13 @@
 //! Cases of every call.
 
+use std::mem;
+
 use crate::case::{is_scaled, Call, Case, KINDS};
-use crate::damage::{any_list, mostly_good, said_form};
+use crate::damage::{any_list, damaged, mostly_good, said_form};
 use crate::list::List;
 use crate::random::Random;
 use crate::{make, pair, store};
-use reference::{SLOT, STORE};
+use reference::{HEAD, SLOT, STORE, VEHICLES};
 
 /// The request codes of document 01.
 pub const REQUESTS: [u16; 25] = [
@@ -15,7 +17,7 @@ pub const REQUESTS: [u16; 25] = [
 ];
 
 pub fn case(r: &Random) -> Case {
-    match r.below(123) {
+    match r.below(135) {
         0..=13 => {
             let (list, form) = any_list(r);
             Case::new(Call::Judge, vec![list], vec![form])
@@ -33,6 +35,7 @@ pub fn case(r: &Random) -> Case {
         62..=70 => marshal(r),
         71..=82 => compose(r),
         83..=85 | 114..=122 => show(r),
+        123..=134 => relay(r),
         86..=91 => resolve(r),
         92..=94 => e_read(r),
         95..=99 => e_answer(r),
@@ -155,20 +158,23 @@ fn resized(r: &Random, mut octets: Vec<u8>, len: usize) -> Vec<u8> {
 /// A store, at times of another length.
 fn any_store(r: &Random, store: Vec<u8>) -> Vec<u8> {
     match r.below(24) {
-        0 => {
-            let len = r.of(&[
-                STORE - 1,
-                STORE + 1,
-                STORE - SLOT,
-                STORE + SLOT,
-                0,
-                store::OLD_STORE,
-                store::OLD_STORE,
-            ]);
-            resized(r, store, len)
-        }
+        0 => no_store(r, store),
         _ => store,
     }
+}
+
+/// A store, of another length.
+fn no_store(r: &Random, store: Vec<u8>) -> Vec<u8> {
+    let len = r.of(&[
+        STORE - 1,
+        STORE + 1,
+        STORE - SLOT,
+        STORE + SLOT,
+        0,
+        store::OLD_STORE,
+        store::OLD_STORE,
+    ]);
+    resized(r, store, len)
 }
 
 fn take(r: &Random) -> Case {
@@ -326,6 +332,42 @@ fn marks(r: &Random, list: &List) -> Vec<u8> {
     let len = about(r, marks.len()).min(marks.len() + 1);
     marks.resize(len, 1);
     marks
+}
+
+/// What a vehicle was heard with, mostly, and an output of the length that its type has.
+fn relay(r: &Random) -> Case {
+    let list = make::list_to_relay(r);
+    let now = store::clock(r);
+    let store = store::store(r, &list, now);
+    let vehicle = vehicle(r);
+    let head = match vehicle as usize {
+        1..=VEHICLES => store[SLOT * (vehicle as usize - 1) + HEAD],
+        _ => 0,
+    };
+    let len = about(r, if head & 15 == 3 { 40 } else { 128 });
+    let areas = vec![mostly_good(r, &list), any_store(r, store), r.octets(len)];
+    let numbers = vec![said_form(r, &list), now.into(), vehicle];
+    let mut case = Case::new(Call::Relay, areas, numbers);
+    if r.one_in(8) {
+        worsen(r, list, &mut case);
+    }
+    case
+}
+
+/// Several faults in a case of relaying, which come together by chance too seldom.
+fn worsen(r: &Random, list: List, case: &mut Case) {
+    if r.one_in(2) {
+        case.areas[0] = damaged(r, list);
+    }
+    if r.one_in(2) {
+        case.areas[1] = no_store(r, mem::take(&mut case.areas[1]));
+    }
+    if r.one_in(2) {
+        case.numbers[2] = r.of(&[0, 64, 65, 255, u64::MAX, r.beyond(1)]);
+    }
+    if r.one_in(2) {
+        case.areas[2].push(r.octet());
+    }
 }
 
 /// A consist: one leading vehicle or none, led ones among the tractive; at times a rule is broken.

@@ -162,6 +162,23 @@ impl List {
         self.codes.iter().filter(of)
     }
 
+    /// Whether a signal knows a value: one with no entry knows every code.
+    pub fn knows(&self, signal: usize, value: u64) -> bool {
+        let mut codes = self.codes_of(signal).peekable();
+        codes.peek().is_none() || codes.any(|code| (code.low..=code.high).contains(&value))
+    }
+
+    /// The place of the check that a signal names, if it names one.
+    pub fn place(&self, signal: &Signal) -> Option<u64> {
+        let check = signal.check.checked_sub(1)?;
+        self.checks.get(check as usize).copied()
+    }
+
+    /// The signals under a check, by its number from 1.
+    pub fn under(&self, check: u64) -> impl Iterator<Item = &Signal> {
+        self.signals.iter().filter(move |s| s.check == check)
+    }
+
     /// Whether a field of this type is clear of every check and of every field of its type.
     pub fn is_free(&self, kind: u64, start: u64, width: u64) -> bool {
         let end = start + width;

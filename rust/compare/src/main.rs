@@ -18,8 +18,10 @@ mod list;
 mod make;
 mod memory;
 mod pair;
+mod passed_on;
 mod random;
 mod reached;
+mod relayed;
 mod run;
 mod shrink;
 mod sides;
@@ -100,17 +102,26 @@ fn compare(cases: u64, seed: u64, memory: Memory) -> bool {
             return false;
         }
     };
-    print!("{reached}{clocked}");
-    let faults = [reached.faults(), clocked.faults()].concat();
+    let passed_on = match passed_on::all(cases / 40, seed) {
+        Ok(passed_on) => passed_on,
+        Err(why) => {
+            println!("NOT PASSED ON: {why}");
+            return false;
+        }
+    };
+    print!("{reached}{clocked}{passed_on}");
+    let faults = [reached.faults(), clocked.faults(), passed_on.faults()].concat();
     if !faults.is_empty() {
         println!("{}", faults.join("\n"));
         return false;
     }
     println!(
         "{cases} cases of seed {seed} and {exhaustive} exhaustive ones: no difference; \
-         {} kinds of answer, all reached; {} readings by the true clock; {exact} shown values exact; {} s",
+         {} kinds of answer, all reached; {} readings by the true clock; {} behind an old gateway; \
+         {exact} shown values exact; {} s",
         reached.rows(),
         clocked.readings(),
+        passed_on.readings(),
         run.started.elapsed().as_secs()
     );
     true

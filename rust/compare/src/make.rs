@@ -115,6 +115,29 @@ pub fn list_to_scale(r: &Random) -> List {
     list_with(r, |list| list.signals.iter().any(Signal::is_near_16_bits))
 }
 
+/// A good list that has several signals under a check, with replacements that are known; mostly.
+pub fn list_to_relay(r: &Random) -> List {
+    let several = |list: &List, check| list.under(check).nth(1).is_some();
+    let mut list = list_with(r, |list| {
+        (1..=list.checks.len() as u64).any(|check| several(list, check))
+    });
+    if !r.one_in(4) {
+        know_replacements(r, &mut list);
+    }
+    list
+}
+
+/// Gives every signal a replacement that it knows.
+pub fn know_replacements(r: &Random, list: &mut List) {
+    for number in 0..list.signals.len() {
+        if !list.knows(number, list.signals[number].replacement) {
+            let known: Vec<Code> = list.codes_of(number).copied().collect();
+            let range = r.of(&known);
+            list.signals[number].replacement = r.of(&[range.low, range.high]);
+        }
+    }
+}
+
 fn list_with(r: &Random, wanted: impl Fn(&List) -> bool) -> List {
     loop {
         let list = list(r);

@@ -4,6 +4,7 @@ use crate::damage;
 use crate::list::{Code, List, Signal};
 use crate::make;
 use crate::random::Random;
+use reference::{Extends, Form};
 
 /// The two, and the forms that are said with them.
 pub fn pair(r: &Random) -> (Vec<Vec<u8>>, Vec<u64>) {
@@ -28,6 +29,27 @@ pub fn pair(r: &Random) -> (Vec<Vec<u8>>, Vec<u64>) {
         pair.reverse();
     }
     pair.into_iter().unzip()
+}
+
+/// A list that extends another: of some edits those that keep what it promised.
+pub fn extension(r: &Random, a: &List) -> List {
+    let mut b = a.clone();
+    for _ in 0..r.below(9) {
+        let mut edited = b.clone();
+        edit(r, &mut edited, a.version());
+        if extends(a, &edited) {
+            b = edited;
+        }
+    }
+    if r.one_in(2) {
+        make::lay_out(r, &mut b, make::form(r));
+    }
+    b
+}
+
+fn extends(a: &List, b: &List) -> bool {
+    let (form, other) = (Form::of(a.form), Form::of(b.form));
+    reference::extends(&a.octets(), form, &b.octets(), other) == Extends::Yes
 }
 
 fn damaged_rarely(r: &Random, list: List) -> Vec<u8> {

@@ -5,11 +5,12 @@ use std::fmt;
 
 use crate::case::{is_scaled, Answer, Call, Case, KINDS};
 use crate::list::{longest, sizes, Route, Signal, MOST};
+use crate::relayed;
 use crate::store::{stamp_at, OLD_STORE};
 use reference::{Form, HEAD, HEARD, PREVIOUS, SIGNAL_SIZE, SLOT, STAMP, VEHICLES};
 
 /// What an answer shows, with a number where there are several.
-type Row = (&'static str, u64);
+pub type Row = (&'static str, u64);
 
 pub struct Reached {
     wanted: BTreeMap<(Call, Row), u64>,
@@ -17,9 +18,13 @@ pub struct Reached {
     strange: BTreeSet<(Call, Row)>,
 }
 
+/// The same with each of these numbers.
+pub fn each(what: &'static str, numbers: &[u64]) -> Vec<Row> {
+    numbers.iter().map(|&n| (what, n)).collect()
+}
+
 /// All that each call can give.
 fn wanted(call: Call) -> Vec<Row> {
-    let each = |what, numbers: &[u64]| numbers.iter().map(|&n| (what, n)).collect::<Vec<Row>>();
     let refusals = |numbers: &[u64]| each("refusal", numbers);
     let in_forms = each("in form", &[0, 1, 2, 3, 255]);
     let moved = vec![
@@ -172,6 +177,11 @@ fn wanted(call: Call) -> Vec<Row> {
             ]
             .concat(),
         ],
+        Call::Relay => [
+            each("type", &[1, 2, 3]),
+            refusals(&[1, 2, 3, 4, 5, 6, 9, 15, 16]),
+            [relayed::wanted(), in_forms].concat(),
+        ],
         Call::Resolve => [
             each("address", &[1, 63, 64, 65, 66, 67, 70, 92]),
             refusals(&[17, 18, 19, 20]),
@@ -236,6 +246,8 @@ fn rows(case: &Case, answer: &Answer) -> Vec<Row> {
         Call::Show => show_rows(case.numbers[4], answer),
         Call::Marshal => vec![(lives(case, first), 0)],
         Call::Compose => vec![("type", case.numbers[1])],
+        // What became of its checks and signals is told by `relayed`.
+        Call::Relay => vec![],
         Call::Resolve => vec![("address", case.numbers[0])],
         Call::ERead => vec![(["request", "report"][second as usize], 0)],
         Call::EAnswer => vec![("ok", 0)],
@@ -243,11 +255,11 @@ fn rows(case: &Case, answer: &Answer) -> Vec<Row> {
 }
 
 /// A vehicle's slot, and what is behind it.
-fn slot_of(store: &[u8], vehicle: u64) -> &[u8] {
+pub fn slot_of(store: &[u8], vehicle: u64) -> &[u8] {
     &store[SLOT * (vehicle as usize - 1)..]
 }
 
-fn is_r_head(head: u8) -> bool {
+pub fn is_r_head(head: u8) -> bool {
     matches!(head, 0x11..=0x13)
 }
 
@@ -572,7 +584,14 @@ impl Reached {
     }
 
     pub fn count(&mut self, case: &Case, answer: &Answer) {
-        let all = [rows, wide_rows, form_rows, length_rows, scaled_rows];
+        let all = [
+            rows,
+            wide_rows,
+            form_rows,
+            length_rows,
+            scaled_rows,
+            relayed::rows,
+        ];
         let all = all.map(|rows| rows(case, answer));
         for row in all.concat() {
             let row = (case.call, row);

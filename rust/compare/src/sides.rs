@@ -118,6 +118,9 @@ macro_rules! side {
                 (Call::Compose, [list, marks, out], &[said, kind]) => {
                     $library::compose(list, form(said), kind, lent.values, marks, out).map(done)
                 }
+                (Call::Relay, [list, store, out], &[said, clock, vehicle]) => {
+                    $library::relay(list, form(said), store, clock as u32, vehicle, out).map(done)
+                }
                 (Call::Resolve, [marks], &[address]) => $library::resolve(marks, address)
                     .map(|members| Answer::gives([members.set, members.size.into()])),
                 (Call::ERead, [telegram], []) => $library::e_read(telegram)
@@ -243,6 +246,14 @@ pub fn by_header(call: Call, mut lent: Lent) -> Answer {
                     to,
                     out.len(),
                 )
+            })
+        }
+        (Call::Relay, [list, store, out], &[form, clock, vehicle]) => {
+            let (list, len, form) = (list.as_ptr(), list.len(), form as u8);
+            let (from, from_len, clock) = (store.as_ptr(), store.len(), clock as u32);
+            let (to, to_len) = (out.as_mut_ptr(), out.len());
+            outcome(unsafe {
+                raw::df_relay(list, len, form, from, from_len, clock, vehicle, to, to_len)
             })
         }
         (Call::Resolve, [marks], &[address]) => {

@@ -42,15 +42,32 @@ fn age(r: &Random, list: &List) -> u32 {
 
 /// A value that the signal knows, mostly.
 pub fn value(r: &Random, list: &List, signal: usize) -> u64 {
-    let s = &list.signals[signal];
+    match r.one_in(5) {
+        true => any_value(r, &list.signals[signal]),
+        false => known_value(r, list, signal),
+    }
+}
+
+fn any_value(r: &Random, signal: &Signal) -> u64 {
+    let top = signal.top();
+    r.of(&[0, top, r.word() & top])
+}
+
+/// A value that the signal knows.
+pub fn known_value(r: &Random, list: &List, signal: usize) -> u64 {
     let known: Vec<_> = list.codes_of(signal).collect();
-    match known.is_empty() || r.one_in(5) {
-        true => r.of(&[0, s.top(), r.word() & s.top()]),
+    match known.is_empty() {
+        true => any_value(r, &list.signals[signal]),
         false => {
             let range = r.of(&known);
             r.of(&[range.low, range.high, r.within(range.low, range.high)])
         }
     }
+}
+
+/// A mark, mostly one that lets its signals be live.
+pub fn mark(r: &Random) -> u64 {
+    r.of(&[1, 1, 1, 2, 2, 0, 3])
 }
 
 /// A telegram of this type as another vehicle might send it under this list: mostly good marks and known values.
@@ -64,8 +81,7 @@ pub fn telegram(r: &Random, list: &List, kind: u64) -> Vec<u8> {
     let version = list.version() as u8;
     telegram[1] = r.of(&[version, version, version, version - 1, 0, 1, 255]);
     for &check in &list.checks {
-        let mark = r.of(&[1, 1, 1, 2, 2, 0, 3]);
-        write_field(&mut telegram, check as usize, 2, mark);
+        write_field(&mut telegram, check as usize, 2, mark(r));
     }
     let carried = |s: &Signal| s.carried_by(kind);
     for (number, s) in list.signals.iter().enumerate().filter(|(_, s)| carried(s)) {
@@ -76,7 +92,7 @@ pub fn telegram(r: &Random, list: &List, kind: u64) -> Vec<u8> {
 }
 
 /// A telegram type; mostly one that carries some signal of the list.
-fn kind(r: &Random, list: &List) -> u64 {
+pub fn kind(r: &Random, list: &List) -> u64 {
     match list.signals.len() {
         len if len > 0 && !r.one_in(3) => match list.signals[r.index(len)].kind {
             0 => r.within(1, 3),

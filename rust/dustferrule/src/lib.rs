@@ -267,6 +267,34 @@ pub fn compose(
     unless_refused(r.refusal, r.carried, ())
 }
 
+/// Composes anew into `out` the R-telegram that a vehicle (1-63) was last heard with, expired or not, as a gateway in the middle passes it on:
+/// of the same type, with the list's version, each signal that the type carries as it is read, live or replaced. A check keeps its mark if
+/// the type carries signals under it and all these are live, else it is error; what the list does not know is 0. Refusals 1 to 4, then 5, 6,
+/// 9 where there is no such telegram, 15 where a replacement would go out that is no known code, 16.
+pub fn relay(
+    list: &[u8],
+    form: Form,
+    store: &[u8],
+    now: u32,
+    vehicle: u64,
+    out: &mut [u8],
+) -> Result<(), Error> {
+    let r = unsafe {
+        raw::df_relay(
+            list.as_ptr(),
+            list.len(),
+            form as u8,
+            store.as_ptr(),
+            store.len(),
+            now,
+            vehicle,
+            out.as_mut_ptr(),
+            out.len(),
+        )
+    };
+    unless_refused(r.refusal, r.carried, ())
+}
+
 /// The vehicles of a train that meet an address. A vehicle is one octet of marks: 1 leading, 2 coach, 4 tractive, 8 led, 16 sleeping;
 /// the three high bits are not read. Refusals 17 to 20.
 pub fn resolve(marks: &[u8], address: u64) -> Result<Members, Error> {

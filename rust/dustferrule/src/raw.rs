@@ -229,6 +229,18 @@ extern "C" {
         out_len: usize,
     ) -> df_outcome;
 
+    pub fn df_relay(
+        list: *const u8,
+        list_len: usize,
+        form: u8,
+        store: *const u8,
+        store_len: usize,
+        clock: u32,
+        vehicle: u64,
+        out: *mut u8,
+        out_len: usize,
+    ) -> df_outcome;
+
     pub fn df_resolve(marks: *const u8, marks_len: usize, address: u64) -> df_members;
 
     pub fn df_e_read(telegram: *const u8, telegram_len: usize) -> df_e_reading;

@@ -64,6 +64,7 @@ calls! {
     sweep(store: &mut [u8], now: u32) -> ();
     marshal(list: &[u8], form: Form, store: &[u8], now: u32, bus: &mut [u8]) -> u64;
     compose(list: &[u8], form: Form, kind: u64, values: &[u64], marks: &[u8], out: &mut [u8]) -> ();
+    relay(list: &[u8], form: Form, store: &[u8], now: u32, vehicle: u64, out: &mut [u8]) -> ();
     resolve(marks: &[u8], address: u64) -> Members;
     e_read(telegram: &[u8]) -> EReading;
     e_answer(telegram: &[u8], head: &[u8], status: u8, out: &mut [u8]) -> ();
@@ -127,6 +128,8 @@ mod list;
 mod marshal;
 #[path = "../../reference/tests/reading.rs"]
 mod reading;
+#[path = "../../reference/tests/relay.rs"]
+mod relay;
 #[path = "../../reference/tests/shown.rs"]
 mod shown;
 #[path = "../../reference/tests/store.rs"]

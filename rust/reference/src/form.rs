@@ -45,7 +45,7 @@ pub fn serial(list: &[u8], form: Form, signal: u64) -> Result<u16, Refusal> {
 /// "Moving to form 2 writes 0s". Refusals 1 to 4, 33.
 pub fn to_form_2(list: &[u8], out: &mut [u8]) -> Result<(), Refusal> {
     let judged = List::judged(list, Form::One)?;
-    relay(list, &judged, Form::Two, out)
+    lay_out(list, &judged, Form::Two, out)
 }
 
 /// "moving back needs every serial number 0". Refusals 1 to 4, 32, 33.
@@ -54,12 +54,12 @@ pub fn to_form_1(list: &[u8], out: &mut [u8]) -> Result<(), Refusal> {
     if (0..judged.signals.len()).any(|signal| judged.signals.serial(signal) != 0) {
         return Err(Refusal::plain(32));
     }
-    relay(list, &judged, Form::One, out)
+    lay_out(list, &judged, Form::One, out)
 }
 
 /// Writes a judged list that has no serial number in a form: what stands before and behind the signal
 /// entries stays as it is. Refusal 33.
-fn relay(list: &[u8], judged: &List, form: Form, out: &mut [u8]) -> Result<(), Refusal> {
+fn lay_out(list: &[u8], judged: &List, form: Form, out: &mut [u8]) -> Result<(), Refusal> {
     let signals = judged.signals.len();
     let before = 2 + judged.checks.as_flattened().len() + 2;
     let behind = &list[before + judged.signals.octets().len()..];

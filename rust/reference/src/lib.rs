@@ -1,6 +1,7 @@
 //! The gateway library of document 01, written a second time and independently: taking R-telegrams into
-//! a store, the gap between two of them, sweeping it, reading, showing and marshalling signals, composing R-telegrams, judging signal
-//! lists and moving them from one form to the other, resolving addresses, and reading and answering E-telegrams.
+//! a store, the gap between two of them, sweeping it, reading, showing and marshalling signals, composing R-telegrams, also anew from
+//! what was taken, judging signal lists and moving them from one form to the other, resolving addresses, and reading and answering
+//! E-telegrams.
 //!
 //! Every function is total: it answers or refuses for every input and never panics. Every public call
 //! tests its own input, and a refusal changes no lent octet.
@@ -19,6 +20,7 @@ mod marshal;
 mod octets;
 mod reading;
 mod refusal;
+mod relay;
 mod shown;
 mod sizes;
 mod store;
@@ -35,6 +37,7 @@ pub use marshal::marshal;
 pub use octets::{read_field, write_field};
 pub use reading::{read, Reading};
 pub use refusal::Refusal;
+pub use relay::relay;
 pub use shown::{show, Kind, Shown, ShownReading};
 pub use sizes::{
     HEAD, HEARD, PREVIOUS, SERIAL_SIZE, SIGNAL_SIZE, SLOT, STAMP, STORE, TELEGRAM, VEHICLES,

@@ -10,10 +10,10 @@ use Rattle.differ.proofs.all_signals.Statement.{statement}
 use Rattle.differ.proofs.all_signals.Tie as tie
 
 abbrev Inv-loop : tie.InvT-loop
-Inv-loop page₀ first second store asked count₀ key₀ page count key = Unit {0}
+Inv-loop page₀ first second store other asked count₀ key₀ page count key = Unit {0}
 
 abbrev μ-loop : tie.MeasureT-loop
-μ-loop page₀ first second store asked count₀ key₀ page count key = signalKeys - key
+μ-loop page₀ first second store other asked count₀ key₀ page count key = signalKeys - key
 
 -- where the next pair is known
 abbrev paired : tie.After-struct-known Inv-loop μ-loop → tie.After-pairing Inv-loop μ-loop

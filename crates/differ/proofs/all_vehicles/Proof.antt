@@ -5,10 +5,10 @@ use Rattle.differ.proofs.all_vehicles.Statement.{statement}
 use Rattle.differ.proofs.all_vehicles.Tie as tie
 
 abbrev Inv-loop : tie.InvT-loop
-Inv-loop page₀ first second store asked count₀ v₀ page count v = 1 ≤ v
+Inv-loop page₀ first second store other asked count₀ v₀ page count v = 1 ≤ v
 
 abbrev μ-loop : tie.MeasureT-loop
-μ-loop page₀ first second store asked count₀ v₀ page count v = 64 - v
+μ-loop page₀ first second store other asked count₀ v₀ page count v = 64 - v
 
 pub all-vehicles-spec : {M : Type 1} → statement M
 all-vehicles-spec =

@@ -292,3 +292,15 @@ pub fn values(r: &mut Random, list: &List) -> Vec<u64> {
         })
         .collect()
 }
+
+/// Gives every signal a replacement that it knows.
+pub fn know_replacements(r: &mut Random, list: &mut List) {
+    for i in 0..list.signals.len() {
+        let s = &list.signals[i];
+        if !list.knows(i as u64, s.replacement) {
+            let known: Vec<&Code> = list.codes.iter().filter(|c| c.signal == i as u64).collect();
+            let range = r.of(&known);
+            list.signals[i].replacement = r.within(range.low, range.high);
+        }
+    }
+}

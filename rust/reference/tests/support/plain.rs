@@ -427,3 +427,53 @@ pub fn compose(
     }
     Ok(())
 }
+
+/// Check by check, with every signal looked at for each.
+pub fn relay(
+    list: &List,
+    store: &[u8],
+    now: u32,
+    vehicle: u64,
+    out: &mut [u8],
+) -> Result<(), Refusal> {
+    let refuse = |number, carried| Err(Refusal { number, carried });
+    let slot = &store[SLOT * (vehicle as usize - 1)..SLOT * vehicle as usize];
+    let telegram = &slot[HEAD..];
+    let kind = get(telegram, 4, 4);
+    let heard = slot[HEARD] == 1 || slot[HEARD] == 2;
+    if !heard || get(telegram, 0, 4) != 1 || !(1..=3).contains(&kind) {
+        return refuse(9, 0);
+    }
+    let carried: Vec<(&Signal, u64, Reading)> = (0..)
+        .zip(&list.signals)
+        .filter(|(_, s)| s.kind == 0 || s.kind == kind)
+        .map(|(i, s)| (s, i, read(list, store, now, vehicle, i)))
+        .collect();
+    for (_, i, reading) in &carried {
+        if !list.knows(*i, reading.value) {
+            return refuse(15, *i);
+        }
+    }
+    let length = if kind == 3 { 40 } else { 128 };
+    if out.len() != length {
+        return refuse(16, 0);
+    }
+    out.fill(0);
+    put(out, 0, 4, 1);
+    put(out, 4, 4, kind);
+    put(out, 8, 8, list.version());
+    for (s, _, reading) in &carried {
+        put(out, s.start as usize, s.width as usize, reading.value);
+    }
+    for &check in &list.checks {
+        let mut under = carried
+            .iter()
+            .filter(|(s, ..)| list.place(s) == Some(check))
+            .peekable();
+        if under.peek().is_some() && under.all(|(.., reading)| reading.reason < 2) {
+            let mark = get(telegram, check as usize, 2);
+            put(out, check as usize, 2, mark);
+        }
+    }
+    Ok(())
+}

@@ -5,10 +5,10 @@ use Rattle.words.proofs.believed.never_heard.Statement.{statement}
 use Rattle.words.proofs.believed.never_heard.Tie as tie
 
 abbrev Inv-loop : tie.InvT-loop
-Inv-loop store s₀ v₀ s v = 1 ≤ v
+Inv-loop first second s₀ v₀ s v = 1 ≤ v
 
 abbrev μ-loop : tie.MeasureT-loop
-μ-loop store s₀ v₀ s v = 64 - v
+μ-loop first second s₀ v₀ s v = 64 - v
 
 pub never-heard-spec : {M : Type 1} → statement M
 never-heard-spec =
