@@ -3,7 +3,7 @@
 use Prim.Native.Nat.{ℕ, _<_, _^_}
 use mathlib.Core.Path.{_≡_, refl, sym, ap, subst, _∙_}
 use mathlib.Core.Logic.{_↔_}
-use mathlib.Core.Bool.{Bool, true, false, not, _&&_, true≢false, false≢true}
+use mathlib.Core.Bool.{Bool, true, false, not, _&&_, false≢true}
 use mathlib.Core.List.{List}
 use lib.Dec.{eqb}
 use borrow.Author.Tests.{eqb-true, ne-eqb, not-false, ltb-true}
@@ -13,7 +13,7 @@ use Rattle.paper.specs.Accepted.{Laid}
 use Rattle.paper.specs.Store.{slotOf}
 use Rattle.paper.specs.Reading.{Reading, readingAt, readingBy, reading}
 use Rattle.paper.specs.Shown.{Kind, scaled, ShownReading, shownOf, shownWidth, showing}
-use Rattle.paper.proofs.AnswerLaws.{not-refused, and-then, gives-one, never-both, last-here}
+use Rattle.paper.proofs.AnswerLaws.{not-refused, and-then, gives-one, last-here}
 use Rattle.paper.proofs.ListLaws.{kept-of, laid}
 use Rattle.paper.proofs.MarshallingLaws.{reading-fits}
 
