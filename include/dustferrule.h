@@ -42,7 +42,7 @@ enum df_kind { DF_CODE = 0, DF_SPEED = 1, DF_PERCENTAGE = 2, DF_SIGNED_PERCENTAG
 /* What a shown value is in. */
 enum df_unit { DF_NO_UNIT = 0, DF_KM_PER_HOUR = 1, DF_PERCENT = 2, DF_AMPERE = 3 };
 
-/* The refusals, in the words of document 01 and, from 32 on, of document 02: X(name, number, text). A new one is a line. */
+/* The refusals, in the words of document 01 or, as 5, 26 and those from 32 on, of document 02: X(name, number, text). A new one is a line. */
 #define DF_REFUSALS(X) \
     X(LIST_ENDS, 1, "list ends inside a count or a section") \
     X(COUNT_ABOVE, 2, "count above its limit") \

@@ -12,7 +12,7 @@ use borrow.Author.Tests.{leb-true, le-leb, eqb-true, eq-eqb, ne-eqb}
 use Rattle.bools.proofs.Tests.{both, other}
 use Rattle.paper.specs.Octets.{field}
 use Rattle.paper.specs.Answer.{gives, refuseIf}
-use Rattle.paper.specs.First.{all, some, listed}
+use Rattle.paper.specs.First.{all, some}
 use Rattle.paper.specs.Telegrams.{applicationType, telegramType, isType, typeLength, carries, error, ok, forced, markWidth}
 use Rattle.paper.specs.SignalList.{SignalList, Counts, judge, listOf, knows}
 use Rattle.paper.specs.Accepted.{Kept}
@@ -264,6 +264,23 @@ module _ (form : ℕ) (xs : List ℕ) (m : Counts) (form′ : ℕ) (ys : List �
 
   of-vehicle : Takes (mid .last .before) v (mid .first)
   of-vehicle = took-it v stamp (mid .first) store (mid .last)
+
+  -- "for each signal of A that the type carries": the last reader has it, and the type carries it there too
+  pub has-shared : (i : ℕ) → i < m .signals → carries type (listOf xs m .signal i .type) ≡ true
+      → (k : ℕ) × ((k < n .signals) × Shared (listOf xs m) (listOf ys n) type i k)
+  has-shared i hi carried =
+      let w = extended a c (mid .extending) .stands-in i hi in
+      let g = w .1 .1 .agrees in (
+        w .0,
+        (
+          w .1 .0,
+          record {
+            there = hi;
+            one = rw (eq-eqb (a .signal i .type) (c .signal (w .0) .type) (g .type)) (eq-eqb (a .signal i .start) (c .signal (w .0) .start) (g .start));
+            carried = rw (← g .type) carried;
+          },
+        ),
+      )
 
   -- composing in the middle is never refused
   pub middle-relays : ReplacementsKnown (listOf xs m) → relaying form xs store now v (typeLength type) ≡ gives (relayed (listOf xs m) (slotOf store v) now)

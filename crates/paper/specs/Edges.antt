@@ -235,6 +235,7 @@ edges =
     ∷ between (λ n. sweeps (zeros n) 0 []) 8631 (gave []) 8379 (refuses 5 0)
     ∷ between (λ n. reads listL (zeros n) 0 1 0) 8631 (gave (0 ∷ 2 ∷ [])) 8379 (refuses 5 0)
     ∷ between (λ n. shows (listV 16 64) (zeros n) 0 1 0 speed) 8631 (gave (1 ∷ 0x3F800000 ∷ 2 ∷ [])) 8379 (refuses 5 0)
+    ∷ between (λ n. relays listL (zeros n) 0 1 (0xEE ∷ []) (0 ∷ [])) 8631 (refuses 9 0 ++ (0xEE ∷ [])) 8379 (refuses 5 0 ++ (0xEE ∷ []))
     ∷ between (λ n. marshals listL (zeros n) 0 (0 ∷ [])) 8631 (gave (0 ∷ 0 ∷ [])) 8379 (refuses 5 0 ++ (0 ∷ []))
     -- C-12: "a heard slot whose age is above 600,000 ms"; "Refusals: 5"
     ∷ between (λ now. sweeps (heardAt 0x10 0x40 0) now (0 ∷ [])) 600000 (gave (1 ∷ [])) 600001 (gave (2 ∷ []))

@@ -12,7 +12,7 @@ use Rattle.paper.specs.First.{firstFrom, firstBad, all, some, greatest, 
 use Rattle.paper.specs.Telegrams.{applicationType, telegramType, versionOf, error, ok, forced, undefined}
 use Rattle.paper.specs.SignalList
 use Rattle.paper.specs.SignalList.{Counts, judgeTo, listOf, hasCodes, inRange, knownIn, knows, placeOf, version}
-use Rattle.paper.specs.Extends.{codesKept, keeps, stands, newer, extends, extendsLists}
+use Rattle.paper.specs.Extends.{codesKept, keeps, stands, newer, extends}
 use Rattle.paper.specs.Store.{slotOf, taken, taking, age, inTime, stale, sweptOne, sweptTo, sweeping}
 use Rattle.paper.specs.Reading.{Reading, heard, markOf, codeOf, hindrances, reasonOf, readingOf, readingAt, reading}
 use Rattle.paper.specs.Composing.{headed, composed, markFits, valueFits, composing}
@@ -103,14 +103,16 @@ table =
     gets (trip A C (4 ∷ []) ok 0) 4 0
     ∷ gets (trip A C (4 ∷ []) forced 0) 4 1
     ∷ gets (trip A C (7 ∷ []) ok 0) 2 6  -- not known in the middle
+    ∷ gets (trip A C (4 ∷ []) error 0) 2 6
     ∷ gets (trip A C (4 ∷ []) undefined 0) 2 6
     ∷ gets (trip (two 1 1 5) (two 1 2 9) (4 ∷ 3 ∷ []) ok 0) 4 0
     ∷ gets (trip (two 1 1 5) (two 1 2 9) (4 ∷ 7 ∷ []) ok 0) 2 6  -- the other signal under the check was not live there
     ∷ gets (trip A (two 2 2 9) (4 ∷ 3 ∷ []) ok 1) 2 5  -- only in C
     ∷ gets (trip A with-r1 (4 ∷ 3 ∷ []) ok 1) 3 4  -- only in C, and not carried
-    -- too old in the middle, and expired there: error, so neither premise is needed there
+    -- past its limit in the middle, or expired there with one: error, so neither premise is needed there; without a limit it is read all the same
     ∷ gets (timed C (one 1 100 1 5) C (4 ∷ []) ok [] 101 [] 0 0) 2 6
     ∷ gets (timed C (one 1 100 1 5) C (4 ∷ []) ok (sweep 600001 ∷ []) 0 [] 0 0) 2 6
+    ∷ gets (timed C A C (4 ∷ []) ok (sweep 600001 ∷ []) 600001 [] 0 0) 4 0
     -- without "every signal of A has a check": the middle's own replacement comes as live, where 7 was written
     ∷ gets (trip (one 0 0 1 5) (one 0 0 2 9) (7 ∷ []) ok 0) 1 0
     -- without "every replacement in A is a code known to A": composing in the middle is refused

@@ -89,7 +89,7 @@ pub record Last (v stamp : ℕ) (telegram store : List ℕ) : Type 0 where
   pub reached : run (taken before v stamp telegram) steps ≡ store
 
 -- "a gateway that reads under list A", here xs, "for a reader under list C", here ys, "where C extends A"; "the first telegram was composed under C" and
--- is the last that was taken in the middle. What is too old there, or expired, is relayed as error: no time limit is asked for, and no sweep excluded
+-- is the last that was taken in the middle. What is past its limit there, or expired with one, is relayed as error: no time limit is asked for, and no sweep excluded
 pub record Middle (form : ℕ) (xs : List ℕ) (m : Counts) (form′ : ℕ) (ys : List ℕ) (n : Counts) (type : ℕ) (values marks : List ℕ) (v stamp : ℕ) (store : List ℕ)
     : Type 0 where
   pub inner : judge form xs ≡ gives m

@@ -495,6 +495,8 @@ table =
     ∷ saying "rest-not-zeroed" (composes listL 1 (4 ∷ []) (1 ∷ []) (replicate 128 0xEE) (127 ∷ [])) (gave (0 ∷ [])) (gave (0xEE ∷ []))
     -- relaying: octets 1 to 5
     ∷ saying "relays-nothing" (relayed-r3 under-two 0x50 0x44 0) (comes-out 1 0x50 0x44 0) (gave (0xEE ∷ 0xEE ∷ 0xEE ∷ 0xEE ∷ 0xEE ∷ []))
+    ∷ saying "refuses-every-relay" (relayed-r3 under-two 0x50 0x44 0) (comes-out 1 0x50 0x44 0) (refuses 9 0 ++ (0xEE ∷ 0xEE ∷ 0xEE ∷ 0xEE ∷ 0xEE ∷ []))
+    ∷ saying "too-old-passed-on" (relays listL (heardAt 0x10 0x40 0) 5001 1 (replicate 128 0xEE) (40 ∷ 53 ∷ [])) (gave (0 ∷ 0 ∷ [])) (gave (0x10 ∷ 0x40 ∷ []))
     ∷ saying "mark-passed-on" (relayed-r3 under-one 0x40 0x47 0) (comes-out 1 0x00 0x41 0) (comes-out 1 0x40 0x41 0)
     ∷ saying "first-signal-decides" (relayed-r3 under-one 0x40 0x74 0) (comes-out 1 0x00 0x14 0) (comes-out 1 0x40 0x14 0)
     ∷ saying "error-for-the-first-check-only" (relayed-r3 under-two 0x50 0x77 0) (comes-out 1 0x00 0x11 0) (comes-out 1 0x10 0x11 0)
@@ -508,6 +510,10 @@ table =
     ∷ saying "unknown-replacement-relayed" (relayed-r3 (relay-list (16 ∷ 18 ∷ []) 2 8) 0x50 0x47 0)
     (refuses 15 1 ++ (0xEE ∷ 0xEE ∷ 0xEE ∷ 0xEE ∷ 0xEE ∷ [])) (comes-out 1 0x40 0x48 0)
     ∷ saying "sixteen-before-nine" (relays under-two silent 0 1 (replicate 39 0xEE) (0 ∷ [])) (refuses 9 0 ++ (0xEE ∷ [])) (refuses 16 0 ++ (0xEE ∷ []))
+    ∷ saying "sixteen-before-fifteen" (relays (relay-list (16 ∷ 18 ∷ []) 2 8) (after silent (taking silent 1 0 (0x13 ∷ 0x03 ∷ 0x50 ∷ 0x47 ∷ replicate 36 0))) 0 1 (0xEE ∷ []) (0 ∷ []))
+    (refuses 15 1 ++ (0xEE ∷ [])) (refuses 16 0 ++ (0xEE ∷ []))
+    ∷ saying "fifteen-before-nine" (relays (relay-list (16 ∷ 18 ∷ []) 2 8) silent 0 1 (replicate 40 0xEE) (0 ∷ [])) (refuses 9 0 ++ (0xEE ∷ [])) (refuses 15 1 ++ (0xEE ∷ []))
+    ∷ saying "relay-store-before-list" (relays [] [] 0 1 (0xEE ∷ []) (0 ∷ [])) (refuses 1 0 ++ (0xEE ∷ [])) (refuses 5 0 ++ (0xEE ∷ []))
     ∷ saying "relay-vehicle-before-store" (relays under-two [] 0 64 (0xEE ∷ []) (0 ∷ [])) (refuses 5 0 ++ (0xEE ∷ [])) (refuses 6 0 ++ (0xEE ∷ []))
     -- showing: the case, the code or the bits of the f32, and the reason
     ∷ asked-as "signed-edge" (shown-as signedPercentage 32768) (gave (2 ∷ 0xC3480000 ∷ 0 ∷ [])) (shown-as percentage 32768) (gave (2 ∷ 0x43480000 ∷ 0 ∷ []))

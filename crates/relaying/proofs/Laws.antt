@@ -22,7 +22,7 @@ use Rattle.refusals.specs.Outcome.{Written}
 use Rattle.reading.specs.Reading.{EachRead}
 use Rattle.composing.specs.Composing.{composingUnder}
 use Rattle.composing.proofs.Laws.{tested-by}
-use Rattle.relaying.specs.Relaying.{worse, Zeros, Noted, stateOf, Stated, markBy, MarkedBy, marksFrom, relayingSlot}
+use Rattle.relaying.specs.Relaying.{stateWith, Zeros, Noted, stateOf, Stated, markBy, MarkedBy, marksFrom, relayingSlot}
 
 -- room for states is handed over as zeros
 pub zeros-part : (n m : ℕ) → Zeros (take n (replicate m 0))
@@ -51,7 +51,7 @@ module _ (l : SignalList) (type reason k : ℕ) (old : List ℕ) where
   noted-not e = noted-none (λ j. rw e)
 
   -- it is under this one
-  pub noted-under : (j x : ℕ) → carries type (l .signal k .type) ≡ true → l .signal k .check ≡ suc j → j < length old → x ≡ worse (getD old j 0) reason
+  pub noted-under : (j x : ℕ) → carries type (l .signal k .type) ≡ true → l .signal k .check ≡ suc j → j < length old → x ≡ stateWith (getD old j 0) reason
       → Noted l type reason k old (set old j x)
   unfolding under
   noted-under j x carried named lt is = record {
@@ -100,7 +100,7 @@ module _ (l : SignalList) (type : ℕ) (reasons : List ℕ) where
         | no h ↦ rw (le-ltb 1 r (omega arith), le-leb r 1 (omega arith))
       ]
 
-      more : (j : ℕ) → cond (under l type j k) (worse (stateOf l type reasons k j) (getD reasons k 0)) (stateOf l type reasons k j) ≡ stateOf l type reasons (k + 1) j
+      more : (j : ℕ) → cond (under l type j k) (stateWith (stateOf l type reasons k j) (getD reasons k 0)) (stateOf l type reasons k j) ≡ stateOf l type reasons (k + 1) j
       more j =
           rw (live-not (getD reasons k 0), all-more (test j) k, some-more (under l type j) k)
           (one-more (all (test j) k) (some (under l type j) k) (under l type j k) (leb (getD reasons k 0) 1))

@@ -15,8 +15,8 @@ use Rattle.paper.specs.Composing.{composingBy}
 use Rattle.paper.specs.Relaying.{relayType, under, relayValues, relayMarks}
 
 -- the state of a check with one signal more under it, read for this reason
-abbrev pub worse : ℕ → ℕ → ℕ
-worse state reason = cond (ltb 1 reason) 2 (cond (eqb state 2) 2 1)
+abbrev pub stateWith : ℕ → ℕ → ℕ
+stateWith state reason = cond (ltb 1 reason) 2 (cond (eqb state 2) 2 1)
 
 -- nothing but zeros
 abbrev pub Zeros : List ℕ → Type 0
@@ -25,7 +25,7 @@ Zeros xs = (j : ℕ) → getD xs j 0 ≡ 0
 -- the states before and after signal k, which was read for this reason
 pub record Noted (l : SignalList) (type reason k : ℕ) (old new : List ℕ) : Type 0 where
   pub long : length new ≡ length old
-  pub each : (j : ℕ) → j < l .checks → getD new j 0 ≡ cond (under l type j k) (worse (getD old j 0) reason) (getD old j 0)
+  pub each : (j : ℕ) → j < l .checks → getD new j 0 ≡ cond (under l type j k) (stateWith (getD old j 0) reason) (getD old j 0)
 
 -- of the first k signals: 0 none is under check j, 1 all that are were read live, 2 one was not
 abbrev pub stateOf : SignalList → ℕ → List ℕ → ℕ → ℕ → ℕ

@@ -8,7 +8,7 @@ ghost use Rattle.paper.specs.Relaying.{relayType, relayingBy, relaying};
 ghost use Rattle.paper.specs.Accepted.{Laid};
 ghost use Rattle.refusals.specs.Outcome.{Written};
 ghost use Rattle.lists.specs.Judged.{countsOf};
-ghost use Rattle.relaying.specs.Relaying.{worse, Zeros, Noted, Stated, markBy, MarkedBy, marksFrom, relayingSlot};
+ghost use Rattle.relaying.specs.Relaying.{stateWith, Zeros, Noted, Stated, markBy, MarkedBy, marksFrom, relayingSlot};
 use lists::Counts;
 use lists::Judged;
 use refusals::Outcome;
@@ -16,8 +16,8 @@ use refusals::Refusal;
 
 // What is known of a check so far: 0 nothing is under it, 1 all that is was read live, 2 something was not. A signal that was read for this reason
 // is under it too.
-fn worsened(state: u8, reason: u8) -> u8
-    ensures { λ r. ⌜ r ≡ worse state reason ⌝ }
+fn state_with(state: u8, reason: u8) -> u8
+    ensures { λ r. ⌜ r ≡ stateWith state reason ⌝ }
 {
     if 1 < reason {
         return 2;
@@ -41,7 +41,7 @@ fn note_signal(list: &[u8], n: Counts, kind: usize, reason: u8, k: usize, states
         return;
     }
     let j = s.check - 1;
-    states[j] = worsened(states[j], reason);
+    states[j] = state_with(states[j], reason);
 }
 
 // Every signal.
@@ -188,7 +188,7 @@ fn relay_under(
 }
 
 // Reads every signal of a vehicle at `clock` and composes the telegram of its type anew into `out`, with error for each check under which a signal was
-// not live. Refused: 1 to 4, then 5 and 6, 9 where nothing was heard, 15 and 16, and `out` stays as it was.
+// not live, or which has none under it. Refused: 1 to 4, then 5 and 6, 9 where nothing was heard, 15 and 16, and `out` stays as it was.
 pub fn relay(
     list: &[u8],
     form: u8,

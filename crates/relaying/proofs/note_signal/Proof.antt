@@ -42,8 +42,8 @@ within : (c : tie.After-struct-known2) →
     g .signal-in .result .check - 1 < length (now (start g .args .states))
 within c = omega (arith, exists (c .before .before .before .before .before), c .before .before .before .if1 .left)
 
-slice-read-worsened : tie.Need-slice-read-worsened
-slice-read-worsened c = within (c .before)
+slice-read-state-with : tie.Need-slice-read-state-with
+slice-read-state-with c = within (c .before)
 
 slice-write-states : tie.Need-slice-write-states
 slice-write-states c = within (c .before .before)
@@ -55,7 +55,7 @@ returns-3 c =
     let g = t .before .before .before .before in
     let e : listOf (now (start g .args .list)) (countsOf (start g .args .n)) .signal (start g .args .k) .check ≡ suc (g .signal-in .result .check - 1) =
     omega (arith, named g, t .before .before .if1 .left) in
-    noted-under _ _ _ _ _ _ _ (sym (carried (t .before)) ∙ not-false _ (t .if2 .left)) e (within k) (c .worsened .ensures)
+    noted-under _ _ _ _ _ _ _ (sym (carried (t .before)) ∙ not-false _ (t .if2 .left)) e (within k) (c .state-with .ensures)
 
 pub note-signal-spec : {M : Type 1} → statement M
 note-signal-spec =
@@ -66,7 +66,7 @@ note-signal-spec =
     (λ c κs. search needs)
     returns-2
     (λ c. search needs)
-    slice-read-worsened
+    slice-read-state-with
     (λ c κs. search needs)
     slice-write-states
     (λ c. search needs)
