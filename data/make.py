@@ -1,7 +1,8 @@
 #!/usr/bin/env python3
 """Writes the signal lists of this folder from signals.csv. data/README.md says what is the sources' and what is a choice.
 
-    data/make.py            writes coach.list, coach-2.list, coach-next.list, coach-wrong.list, counters.list and L.list
+    data/make.py            writes coach.list, coach-2.list, coach-next.list, coach-wrong.list, plain-coach.list, driving-trailer.list,
+                            counters.list and L.list
     data/make.py --check    only says whether they are as they would be written, and whether the programs' table of kinds is the column `kind`
 """
 import csv
@@ -26,6 +27,23 @@ ROUTES = [
     (("R2", 416), 2, 48), (("R2", 400), 2, 64), (("R3", 80), 2, 80), (("R3", 96), 3, 96),
 ]
 
+# document 01's R1 grouping: the check place of each bit of octets 47-73, by the bits that each place covers, in their order
+COVERED = [56, 32, 8, 24, 4, 4] + [8] * 11
+GROUPING = dict(enumerate((320 + 2 * row for row, bits in enumerate(COVERED) for _ in range(bits)), 368))
+
+# common signals, by their start, that are a tractive unit's alone: the controller (4.25), faults of traction and of the dynamic brake (8.4R)
+OF_TRACTIVE_UNITS = {68, *range(214, 218), *range(224, 227)}
+# those that a driving trailer has room for: who leads and is led, direction and speed, the time, doors
+OF_DRIVING_TRAILERS = {*range(64, 71), 79, 80, 96, *range(152, 158)}
+
+# the locked doors of three vehicles; doors and lighting as vehicle 1 commands them; the brakes of the other two; the speed, to the last bit allowed
+PLAIN_COACH_ROUTES = ROUTES[:6] + [
+    (("R3", 152), 1, 8), (("R3", 153), 1, 9), (("R3", 154), 1, 10), (("R3", 155), 1, 11), (("R3", 148), 1, 12), (("R3", 176), 2, 16), (("R3", 176), 3, 18),
+    (("R3", 80), 1, 112),
+]
+# those of the coach but R2's, the last two closer up, to the last bit allowed
+DRIVING_TRAILER_ROUTES = ROUTES[:10] + [(("R3", 80), 2, 64), (("R3", 96), 3, 80)]
+
 
 def ranges(text):
     if text == "all":
@@ -48,13 +66,13 @@ def n(value, octets):
     return value.to_bytes(octets, "big")
 
 
-def pack(signals, routes, form=1):
+def pack(signals, routes, form=1, checks=CHECKS):
     signals = sorted(signals, key=lambda s: (s["type"], s["start"]))
     place = {(s["telegram"], s["start"]): k for k, s in enumerate(signals)}
-    out = n(len(CHECKS), 2) + b"".join(n(c, 2) for c in CHECKS)
+    out = n(len(checks), 2) + b"".join(n(c, 2) for c in checks)
     out += n(len(signals), 2)
     for s in signals:
-        out += n(s["start"], 2) + bytes([s["width"], s["type"], CHECKS.index(s["check"]) + 1, s["since"]])
+        out += n(s["start"], 2) + bytes([s["width"], s["type"], checks.index(s["check"]) + 1, s["since"]])
         out += n(s["limit"], 4) + n(s["replacement"], 6) + (n(s["serial"], 2) if form == 2 else b"")
     codes = [(k, lo, hi) for k, s in enumerate(signals) for lo, hi in s["known"]]
     out += n(len(codes), 2) + b"".join(n(k, 2) + n(lo, 2) + n(hi, 2) for k, lo, hi in codes)
@@ -72,6 +90,26 @@ def successor(signals, since):
         if (s["telegram"], s["start"]) == ("R1", 424):
             s["limit"], s["replacement"] = 2500, 15
     return signals + [{"telegram": "R1", "type": 1, "start": 524, "width": 4, "check": 338, "since": since, "limit": LIMIT, "replacement": 0, "known": [(0, 3)]}]
+
+
+def is_grouped(s):
+    """Whether a signal stands wholly under the check place that the grouping gives for its bits."""
+    return all(GROUPING.get(bit) == s["check"] for bit in range(s["start"], s["start"] + s["width"]))
+
+
+def plain_coach(signals):
+    """The common signals that Appendix A numbers, but those of tractive units."""
+    return [s for s in signals if s["type"] == 0 and s["serial"] and s["start"] not in OF_TRACTIVE_UNITS]
+
+
+def driving_trailer(signals):
+    """Every R1 signal that the profile can accept, and the common signals for which it leaves room."""
+    return [s for s in signals if s["type"] == 1 and is_grouped(s) or s["type"] == 0 and s["start"] in OF_DRIVING_TRAILERS]
+
+
+def profiled(signals, routes):
+    """A list for a small controller, with the check places that its signals stand under and no other."""
+    return pack(signals, routes, checks=sorted({s["check"] for s in signals}))
 
 
 L = bytes.fromhex("0001 0142 0001 01A8 04 01 01 01 00001388 000000000000 0002 0000 0000 0006 0000 000F 000F 0001 0000 01 00 0000")
@@ -118,6 +156,8 @@ def main():
         "coach-2.list": pack(list(read_signals()), ROUTES, form=2),
         "coach-next.list": pack(successor(list(read_signals()), 3), ROUTES),
         "coach-wrong.list": pack(successor(list(read_signals()), 2), ROUTES),
+        "plain-coach.list": profiled(plain_coach(read_signals()), PLAIN_COACH_ROUTES),
+        "driving-trailer.list": profiled(driving_trailer(read_signals()), DRIVING_TRAILER_ROUTES),
     }
     return settle(files, "make.py") or "--check" in sys.argv and check_kinds()
 

@@ -16,7 +16,7 @@
  * are a serial number, 0 for none. Any number of 8 bits but 2 is form 1. A list in form 2 answers as the same list without its serial numbers
  * does in form 1; offsets follow the longer entries.
  *
- * `carried` is the offset in the list of the section's count (1, 2), of the entry (3) or of the first octet too many (4), and the number
+ * `carried` is the offset in the list of the section's count (1, 2), of the entry (3, 34) or of the first octet too many (4), and the number
  * of the signal, from 0, that is at fault (15). The rules of a list's entries stand in docs/PROMISES.md, under "The signal list".
  * Nothing here allocates, blocks, keeps state or calls back.
  */
@@ -35,6 +35,9 @@ extern "C" {
 
 /* The forms of a list: signal entries of 16 octets, and of 18, with a serial number behind each. */
 enum df_form { DF_FORM_1 = 1, DF_FORM_2 = 2 };
+
+/* The profiles, by whose controllers a list is for; a number that is none of these is the plain coach's, the narrower. */
+enum df_profile { DF_PLAIN_COACH = 1, DF_DRIVING_TRAILER = 2 };
 
 /* How a value is shown; a number that is none of these shows the code. */
 enum df_kind { DF_CODE = 0, DF_SPEED = 1, DF_PERCENTAGE = 2, DF_SIGNED_PERCENTAGE = 3, DF_CURRENT = 4 };
@@ -72,7 +75,8 @@ enum df_unit { DF_NO_UNIT = 0, DF_KM_PER_HOUR = 1, DF_PERCENT = 2, DF_AMPERE = 3
     X(SCALED_KIND, 26, "scaled kind, with width not 16") \
     X(NO_CHECK_PLACE, 27, "no check place in the table") \
     X(SERIAL_SET, 32, "serial number set") \
-    X(FORM_OUTPUT, 33, "output not of the needed length")
+    X(FORM_OUTPUT, 33, "output not of the needed length") \
+    X(PROFILE, 34, "profile rule broken")
 
 /* The reasons of a reading, likewise. */
 #define DF_REASONS(X) \
@@ -146,6 +150,13 @@ typedef struct { uint32_t refusal; uint32_t code; uint32_t report; uint32_t stat
 
 /* Judges a signal list. Refusals 1-4. */
 df_judged df_judge(const uint8_t *list, size_t list_len, uint8_t form);
+
+/* Judges a signal list by a profile: what it accepts, df_judge accepts too, with the same answer. In a plain coach's list there are at most 64
+ * signals, all of type 0, each with a check, a time limit of 1-5,000 ms and a replacement that is a known code; and every route ends within 16
+ * octets of data. In a driving trailer's there may be R1 signals too, each with all its bits in octets 47-73 and under the check at the place
+ * that df_check_place gives for them. Any profile but 2 is the plain coach's. Refusals 1-4, then 34 at the first entry that breaks a rule; a
+ * 65th signal does, whatever it is. */
+df_judged df_judge_profile(uint8_t profile, const uint8_t *list, size_t list_len, uint8_t form);
 
 /* Does the second list, of form `other`, extend the first? Refusals 1-4 of the first list that is refused. */
 df_extending df_extends(const uint8_t *a, size_t a_len, uint8_t form, const uint8_t *b, size_t b_len, uint8_t other);

@@ -21,8 +21,9 @@ TOOLS = ("sh", "awk", "readlink", "uname")  # what an installed program needs be
 BUILT = ("bin", "stamp")  # of target/: what a run goes by that finds all proved
 OTHER = os.uname().machine != "x86_64"
 COACH, NEXT, WRONG, STORE = "data/coach.list", "data/coach-next.list", "data/coach-wrong.list", "data/scene/train.store"
-COACH_2 = "data/coach-2.list"
+COACH_2, PLAIN = "data/coach-2.list", "data/plain-coach.list"
 OK = "list ok checks=48 signals=165 codes=41 routes=14 version=2\n"
+OK_PLAIN = "list ok profile=plain-coach checks=11 signals=64 codes=3 routes=14 version=2\n"
 
 count, amiss = 0, []
 
@@ -79,6 +80,10 @@ def statuses(how, start, env=None):
     end(1, ["believe", COACH, STORE, "9000", "64"], err="refused 6: ")
     end(0, ["judge", COACH_2, "form2"], OK)
     end(1, ["judge", COACH_2], err="refused 3 at 116: ")
+    end(0, ["judge", PLAIN, "plain-coach"], OK_PLAIN)
+    end(1, ["judge", COACH, "plain-coach"], err="refused 34 at 1124: ")
+    end(1, ["judge", COACH_2, "driving-trailer", "form2"], err="refused 34 at 1252: ")
+    end(2, ["judge", PLAIN, "coach"], err="error: usage: judge ")
     end(1, ["convert", COACH_2, "form1", "data/none"], err="refused 32: ")
     end(2, ["convert", COACH, "form2", "data"], err="error: OUT 'data': exists already")
     end(0, ["extends", COACH, NEXT], "extends: yes\n")
@@ -158,6 +163,7 @@ def standard_input():
             return run([me, *words], folder, stdin=f)
 
     ends("judge -", given(COACH, "judge", "-"), 0, OK)
+    ends("judge - under a profile", given(PLAIN, "judge", "-", "plain-coach"), 0, OK_PLAIN)
     ends("extends - of the first", given(COACH, "extends", "-", NEXT), 0, "extends: yes\n")
     ends("extends - of the second", given(WRONG, "extends", COACH, "-"), 1, "extends: no\n")
     ends("extends - twice", given(COACH, "extends", "-", "-"), 2, err="error: ")

@@ -1,6 +1,6 @@
 #!/usr/bin/env python3
-"""The table of `judge`'s runs: a list, and the line that the program prints for it, in both forms. Run from the root, after the programs are
-built."""
+"""The table of `judge`'s runs: a list, and the line that the program prints for it, in both forms; those under a profile stand in profiles.py.
+Run from the root, after the programs are built."""
 import os
 import re
 import subprocess
@@ -12,6 +12,7 @@ import serials  # from data/
 
 WORDS = {
     1: "list ends inside a count or a section", 2: "count above its limit", 3: "entry breaks its rule", 4: "octets after the routes",
+    34: "profile rule broken",
 }
 # the octets of a check, a signal, a code range and a route
 SIZES = (2, 16, 6, 6)
@@ -41,8 +42,8 @@ def pack(checks=(), signals=(), codes=(), routes=()):
     return b"".join(n(len(part), 2) + b"".join(part) for part in (checks, signals, codes, routes))
 
 
-def ok(checks, signals, codes, routes, version):
-    return f"list ok checks={checks} signals={signals} codes={codes} routes={routes} version={version}"
+def ok(checks, signals, codes, routes, version, profile=""):
+    return f"list ok {profile and f'profile={profile} '}checks={checks} signals={signals} codes={codes} routes={routes} version={version}"
 
 
 def refused(number, offset):
@@ -105,8 +106,8 @@ def offset_in_form_2(octets, offset):
 
 def line_in_form_2(octets, line, serial):
     """The line that `judge` prints in form 2 where it prints this one in form 1."""
-    line = re.sub(r"(?<=^refused . at )\d+", lambda m: str(offset_in_form_2(octets, int(m[0]))), line)
-    return re.sub(r"(signal (\d+), (?:R|type ).*)(?=, rule)", lambda m: f"{m[1]} ({printed(serial(int(m[2])))})", line)
+    line = re.sub(r"^(refused \d+ at )(\d+)", lambda m: m[1] + str(offset_in_form_2(octets, int(m[2]))), line)
+    return re.sub(r"(signal (\d+), (?:R|type ).*)(?=, (?:profile )?rule)", lambda m: f"{m[1]} ({printed(serial(int(m[2])))})", line)
 
 
 L = bytes.fromhex("0001 0142 0001 01A8 04 01 01 01 00001388 000000000000 0002 0000 0000 0006 0000 000F 000F 0001 0000 01 00 0000")
@@ -346,8 +347,54 @@ WORDS_WRONG = [
     ("another program's word", ["FOLDER/list", "table"]),
     ("the word form2 and another", ["FOLDER/list", "form2", "table"]),
     ("the word form2 alone", ["form2"]),
+    ("a missing file under a profile", ["FOLDER/none", "plain-coach"]),
+    ("a profile alone", ["driving-trailer"]),
 ]
-USAGE = "error: usage: judge LIST [form2]\n"
+LINE = "judge LIST [form2] [plain-coach|driving-trailer]"
+USAGE = f"error: usage: {LINE}\n"
+COACH = "data/coach.list"
+
+# the words, and how what is printed begins
+OTHERWISE = [
+    ([], USAGE),
+    (["help"], LINE + "\n\n"),
+    (["--help"], LINE + "\n\n"),
+    ([COACH, "form2", "form2"], USAGE),
+    ([COACH, "Form2"], USAGE),
+    ([COACH, "coach"], USAGE),
+    ([COACH, "Plain-coach"], USAGE),
+    ([COACH, "plain-coach", "plain-coach"], USAGE),
+    ([COACH, "plain-coach", "driving-trailer"], USAGE),
+    ([COACH, "driving-trailer", "form2", "plain-coach"], USAGE),
+    ([COACH, "plain-coach", "form2", "form2"], USAGE),
+    ([COACH, "plain-coach", "table"], USAGE),
+    (["plain-coach", COACH], USAGE),
+]
+
+# what the plain coach's list has, and the driving trailer's; the first entry at fault of the whole list, in form 1 and in form 2
+PLAIN, TRAILER = (11, 64, 3, 14, 2), (16, 64, 20, 12, 2)
+WHOLE = "signal 64, R3 octet 27 bit 7, profile rule 2: more than 64 signals"
+WHOLE_2 = "signal 64, R3 octet 27 bit 7 (8.4R), profile rule 2: more than 64 signals"
+
+# the real lists, with the words behind them
+REAL = [
+    ("coach", [], ok(48, 165, 41, 14, 2)),
+    ("coach-next", [], ok(48, 166, 42, 14, 3)),
+    ("coach-wrong", [], ok(48, 166, 42, 14, 2)),
+    ("coach-2", ["form2"], ok(48, 165, 41, 14, 2)),
+    ("plain-coach", [], ok(*PLAIN)),
+    ("plain-coach", ["plain-coach"], ok(*PLAIN, "plain-coach")),
+    ("plain-coach", ["driving-trailer"], ok(*PLAIN, "driving-trailer")),
+    ("driving-trailer", [], ok(*TRAILER)),
+    ("driving-trailer", ["driving-trailer"], ok(*TRAILER, "driving-trailer")),
+    ("driving-trailer", ["plain-coach"], f"{refused(34, behind(16, 16))}: signal 16, R1 octet 47 bit 0, profile rule 1: type not 0"),
+    ("coach", ["plain-coach"], f"{refused(34, 1124)}: {WHOLE}"),
+    ("coach", ["driving-trailer"], f"{refused(34, 1124)}: {WHOLE}"),
+    ("coach-2", ["form2", "plain-coach"], f"{refused(34, 1252)}: {WHOLE_2}"),
+    ("coach-2", ["driving-trailer", "form2"], f"{refused(34, 1252)}: {WHOLE_2}"),
+    ("coach-2", ["plain-coach"], f"{refused(3, 116)}: signal 1, type 65 octet 1 bit 0, rule 1: width not 1-64"),
+    ("counters", ["driving-trailer"], f"{refused(34, 6)}: signal 0, R1 octets 74-81, profile rule 6: not in octets 47-73, or not wholly under the check place that the R1 grouping gives its bits"),
+]
 
 
 def run(program, *args):
@@ -367,9 +414,10 @@ def both_forms():
 
 
 def main():
+    import profiles  # which stands on this file
     program = os.path.abspath("run")
     bad = 0
-    rows = list(both_forms())
+    rows = [*both_forms(), *profiles.rows()]
     with tempfile.TemporaryDirectory() as folder:
         path = os.path.join(folder, "list")
         for name, octets, words, expected in rows:
@@ -384,22 +432,18 @@ def main():
             if not got.startswith("error: ") or got.count("\n") != 1:
                 print(f"judge, {name}: expected one line that begins with error, got {got!r}")
                 bad += 1
-    first = "judge LIST [form2]\n\n"
-    others = (([], USAGE), (["help"], first), (["--help"], first), (["data/coach.list", "form2", "form2"], USAGE), (["data/coach.list", "Form2"], USAGE))
-    for args, first in others:
+    for args, first in OTHERWISE:
         got = run(program, *args)
         if not got.startswith(first):
             print(f"judge {' '.join(args)}: expected {first!r}, got {got!r}")
             bad += 1
-    lists = (("coach", [], ok(48, 165, 41, 14, 2)), ("coach-next", [], ok(48, 166, 42, 14, 3)), ("coach-wrong", [], ok(48, 166, 42, 14, 2)),
-             ("coach-2", ["form2"], ok(48, 165, 41, 14, 2)))
-    for name, words, expected in lists:
+    for name, words, expected in REAL:
         got = run(program, f"data/{name}.list", *words)
         if got != expected + "\n":
-            print(f"judge, data/{name}.list: expected {expected!r}, got {got!r}")
+            print(f"judge, data/{name}.list {' '.join(words)}: expected {expected!r}, got {got!r}")
             bad += 1
     assert len(LONGEST) == behind(64, 256, 512, 512)
-    print(f"judge: {len(rows) + len(WORDS_WRONG) + len(others) + len(lists)} runs, {bad} wrong")
+    print(f"judge: {len(rows) + len(WORDS_WRONG) + len(OTHERWISE) + len(REAL)} runs, {bad} wrong")
     return 1 if bad else 0
 
 

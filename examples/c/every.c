@@ -41,6 +41,49 @@ static void lists(void)
     expect("df_check_place", !p.refusal && p.place == 8 * 41 + 2);
 }
 
+static int refused(df_judged j, uint32_t refusal, uint64_t carried)
+{
+    return j.refusal == refusal && j.carried == carried && !j.checks && !j.signals && !j.codes && !j.routes && !j.version;
+}
+
+/* L in the profile of driving trailers, or with this octet, which may break a rule of it */
+static df_judged trailer(size_t at, uint8_t octet)
+{
+    uint8_t list[sizeof L];
+    memcpy(list, L, sizeof L);
+    list[at] = octet;
+    return df_judge_profile(DF_DRIVING_TRAILER, list, sizeof list, DF_FORM_1);
+}
+
+/* L is a driving trailer's, by its R1 signal no plain coach's; the signal stands at 6, the route at 38 */
+static void profiles(void)
+{
+    uint8_t wide[sizeof L + 2], common[sizeof L];
+    df_judged j = df_judge_profile(DF_DRIVING_TRAILER, L, sizeof L, DF_FORM_1);
+    expect("df_judge_profile", !j.refusal && !j.carried && j.checks == 1 && j.signals == 1 && j.codes == 2 && j.routes == 1 && j.version == 1);
+    expect("df_judge_profile, R1", refused(df_judge_profile(DF_PLAIN_COACH, L, sizeof L, DF_FORM_1), DF_REFUSAL_PROFILE, 6));
+    expect("df_judge_profile, profile 3", refused(df_judge_profile(3, L, sizeof L, DF_FORM_1), DF_REFUSAL_PROFILE, 6));
+    expect("df_judge_profile, no check", refused(trailer(10, 0), DF_REFUSAL_PROFILE, 6));
+    expect("df_judge_profile, limit 5001", refused(trailer(15, 0x89), DF_REFUSAL_PROFILE, 6));
+    expect("df_judge_profile, replacement 7", refused(trailer(21, 7), DF_REFUSAL_PROFILE, 6));
+    /* check 41 4/5 instead, then octet 53, which is under check 41 0/1 */
+    expect("df_judge_profile, another check", refused(trailer(3, 0x44), DF_REFUSAL_PROFILE, 6));
+    expect("df_judge_profile, another row", refused(trailer(7, 0xA0), DF_REFUSAL_PROFILE, 6));
+    expect("df_judge_profile, 16 octets", !trailer(43, 124).refusal);
+    expect("df_judge_profile, a bit more", refused(trailer(43, 125), DF_REFUSAL_PROFILE, 38));
+    expect("df_judge_profile, list refused", refused(trailer(40, 64), DF_REFUSAL_ENTRY_BROKEN, 38));
+    expect("df_judge_profile", refused(df_judge_profile(DF_PLAIN_COACH, L, sizeof L - 1, DF_FORM_1), DF_REFUSAL_LIST_ENDS, 36));
+    df_outcome o = df_to_form_2(L, sizeof L, wide, sizeof wide);
+    wide[45] = 125;
+    j = df_judge_profile(DF_DRIVING_TRAILER, wide, sizeof wide, DF_FORM_2);
+    expect("df_judge_profile, form 2", !o.refusal && refused(j, DF_REFUSAL_PROFILE, 40));
+    /* as a common signal, octet 6 under check 3 0/1, it is a plain coach's too */
+    memcpy(common, L, sizeof L);
+    common[2] = 0, common[3] = 16, common[6] = 0, common[7] = 40, common[9] = 0;
+    for (uint8_t profile = DF_PLAIN_COACH; profile <= DF_DRIVING_TRAILER; profile++)
+        expect("df_judge_profile, common", !df_judge_profile(profile, common, sizeof common, DF_FORM_1).refusal);
+}
+
 /* L in form 2: two octets more behind its signal, in which 4.3 stands as 0x40C0 */
 static void forms(void)
 {
@@ -329,6 +372,7 @@ static void texts(void)
     expect("df_refusal_text", !strcmp(df_refusal_text(DF_REFUSAL_SCALED_KIND), "scaled kind, with width not 16"));
     expect("df_refusal_text", !strcmp(df_refusal_text(27), "no check place in the table") && DF_REFUSAL_NO_CHECK_PLACE == 27);
     expect("df_refusal_text", !strcmp(df_refusal_text(33), "output not of the needed length") && DF_REFUSAL_FORM_OUTPUT == 33);
+    expect("df_refusal_text", !strcmp(df_refusal_text(34), "profile rule broken") && DF_REFUSAL_PROFILE == 34);
     expect("df_refusal_text", !strcmp(df_refusal_text(DF_NOT_REFUSED), "not refused") && df_refusal_text(UINT32_MAX));
     expect("df_reason_text", !strcmp(df_reason_text(DF_REASON_LIVE_OK), "live ok") && df_reason_text(UINT32_MAX));
     expect("df_reason_text", !strcmp(df_reason_text(8), "code not known") && DF_REASON_CODE_NOT_KNOWN == 8);
@@ -337,6 +381,7 @@ static void texts(void)
 int main(void)
 {
     lists();
+    profiles();
     forms();
     in_form_2();
     telegrams();

@@ -8,6 +8,7 @@ use native.Mathlib.Omega.{arith}
 use Rattle.paper.specs.Answer.{Answer, gives, refused, forget, mapAnswer, Given, Numbered}
 use Rattle.paper.specs.Telegrams.{checkPlace}
 use Rattle.paper.specs.SignalList.{Counts, judge, OfTwo, ofBoth, firstRefused, secondRefused, GivenTwo, NumberedTwo}
+use Rattle.paper.specs.Profiles.{Profile, profiling}
 use Rattle.paper.specs.Extends.{extendsLists}
 use Rattle.paper.specs.Pairs.{Entry, entryOf, finding}
 use Rattle.paper.specs.Forms.{serialOf, toForm2, toForm1}
@@ -93,6 +94,9 @@ delivered-kept (refused n at) old r new d h = d .octets
 
 pub judge-given : (form : ℕ) (xs : List ℕ) → (judgedC (judge form xs) .refusal ≡ 0) ↔ Given (judge form xs)
 judge-given form xs = judged-given _ (laws.numbered-judge form xs)
+
+pub judge-profile-given : (p : Profile) (form : ℕ) (xs : List ℕ) → (judgedC (profiling p form xs) .refusal ≡ 0) ↔ Given (profiling p form xs)
+judge-profile-given p form xs = judged-given _ (laws.numbered-profiling p form xs)
 
 pub extends-given : (form : ℕ) (xs : List ℕ) (form′ : ℕ) (ys : List ℕ) → (extendingC (extendsLists form xs form′ ys) .refusal ≡ 0) ↔ GivenTwo (extendsLists form xs form′ ys)
 extends-given form xs form′ ys = extending-given _ (laws.numbered-extends form xs form′ ys)

@@ -7,6 +7,7 @@ use lib.Dec.{eqb}
 use lib.Ieee.{Float, binary32, ofBits}
 use Rattle.paper.specs.Answer.{Answer, gives, refused, after, forget, mapAnswer}
 use Rattle.paper.specs.SignalList.{Counts, OfTwo, ofBoth, firstRefused, secondRefused}
+use Rattle.paper.specs.Profiles.{Profile, plainCoach, drivingTrailer}
 use Rattle.paper.specs.Pairs.{Entry}
 use Rattle.paper.specs.Reading.{Reading}
 use Rattle.paper.specs.Marshalling.{Marshalled}
@@ -39,6 +40,10 @@ abbrev pub judgedC : Answer Counts → DfJudged
 judgedC (gives n) =
     record { refusal = 0; carried = 0; checks = n .checks; signals = n .signals; codes = n .codes; routes = n .routes; version = n .version }
 judgedC (refused n at) = record { refusal = n; carried = at; checks = 0; signals = 0; codes = 0; routes = 0; version = 0 }
+
+-- C-19, the profiles by number: 2 the driving trailers', every other number the plain coaches', which allow less
+abbrev pub profileNumbered : ℕ → Profile
+profileNumbered n = cond (eqb n 2) drivingTrailer plainCoach
 
 abbrev pub extendingC : OfTwo Bool → DfExtending
 extendingC (ofBoth b) = record { refusal = 0; which = 0; carried = 0; extends = yesNo b }

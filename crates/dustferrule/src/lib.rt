@@ -6,6 +6,7 @@ ghost use lib.ListN.{length};
 ghost use Rattle.paper.specs.Answer.{gives};
 ghost use Rattle.paper.specs.Telegrams.{checkPlace};
 ghost use Rattle.paper.specs.SignalList.{judge as judging};
+ghost use Rattle.paper.specs.Profiles.{profiling};
 ghost use Rattle.paper.specs.Extends.{extendsLists};
 ghost use Rattle.paper.specs.Pairs.{entryOf, finding};
 ghost use Rattle.paper.specs.Forms.{serialOf, toForm2, toForm1};
@@ -20,6 +21,7 @@ ghost use Rattle.paper.specs.ETelegrams.{eReading, answering};
 ghost use Rattle.refusals.specs.Refusal.{numberOf, carriedOf};
 ghost use Rattle.refusals.specs.Outcome.{outcomeOf};
 ghost use Rattle.lists.specs.Judged.{judgedAnswer};
+ghost use Rattle.profiles.specs.Profiles.{profileOf};
 ghost use Rattle.extending.specs.Extending.{extendsAnswer};
 ghost use Rattle.finding.specs.Finding.{entryAnswer, foundAnswer};
 ghost use Rattle.forms.specs.Forms.{serialAnswer};
@@ -30,7 +32,7 @@ ghost use Rattle.reading.specs.Reading.{readAnswer};
 ghost use Rattle.shown.specs.Show.{kindOf, shownOf, showingAnswer};
 ghost use Rattle.train.specs.Marks.{vehicleOf, resolvedAnswer};
 ghost use Rattle.etelegrams.specs.Answers.{eReadAnswer};
-ghost use Rattle.dustferrule.specs.Results.{yesNo, kindNumbered, codeOf, unitOf, floatOf, outcomeC, judgedC, extendingC, entryC, foundC, serialC, gapC, livesC, placeC, readingC, shownC, membersC, eReadC, WrittenC, DeliveredC};
+ghost use Rattle.dustferrule.specs.Results.{yesNo, profileNumbered, kindNumbered, codeOf, unitOf, floatOf, outcomeC, judgedC, extendingC, entryC, foundC, serialC, gapC, livesC, placeC, readingC, shownC, membersC, eReadC, WrittenC, DeliveredC};
 use gateway::ERead;
 use gateway::EntryOutcome;
 use gateway::ExtendsOutcome;
@@ -41,6 +43,7 @@ use gateway::Kind;
 use gateway::Marshalled;
 use gateway::Outcome;
 use gateway::Place;
+use gateway::Profile;
 use gateway::ReadOutcome;
 use gateway::Refusal;
 use gateway::Resolved;
@@ -370,6 +373,16 @@ fn reading_c(o: ReadOutcome) -> DfReading
     }
 }
 
+// The profile by its number: any but 2 is the plain coaches'.
+fn profile_of(n: u8) -> Profile
+    ensures { λ r. ⌜ profileOf r ≡ profileNumbered n ⌝ }
+{
+    match n {
+        2 => Profile::DrivingTrailer,
+        _ => Profile::PlainCoach,
+    }
+}
+
 // The kind by its number: any but 1 to 4 is the code.
 fn kind_of(n: u8) -> Kind
     ensures { λ r. ⌜ kindOf r ≡ kindNumbered n ⌝ }
@@ -490,6 +503,13 @@ pub extern "C" fn df_judge(list: &[u8], form: u8) -> DfJudged
     ensures { λ r. ⌜ r ≡ judgedC (judging form (now (list .entry))) ⌝ }
 {
     judged_c(gateway::judge(list, form))
+}
+
+#[no_mangle]
+pub extern "C" fn df_judge_profile(profile: u8, list: &[u8], form: u8) -> DfJudged
+    ensures { λ r. ⌜ r ≡ judgedC (profiling (profileNumbered profile) form (now (list .entry))) ⌝ }
+{
+    judged_c(gateway::judge_profile(profile_of(profile), list, form))
 }
 
 #[no_mangle]

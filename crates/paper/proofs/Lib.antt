@@ -27,5 +27,6 @@ pub mod PairLaws
 pub mod RefusalLaws
 pub mod Demands
 pub mod RelayingLaws
+pub mod ProfileLaws
 pub mod TrueClock
 pub mod WrongLaws

@@ -5,7 +5,7 @@ use mathlib.Core.Logic.{_↔_}
 use mathlib.Core.Bool.{Bool, true, false, cond}
 use mathlib.Core.List.{List, [], _∷_}
 use native.Mathlib.Omega.{arith}
-use Rattle.paper.specs.Answer.{Answer, gives, refused, refuseIf, andThen, shift, mapAnswer, forget, Given, Numbered}
+use Rattle.paper.specs.Answer.{Answer, gives, refused, refuseIf, andThen, shift, mapAnswer, forget, Given, Numbered, Sought, found, nothing}
 use Rattle.paper.specs.Telegrams.{Row, covers, rows, placeIn, checkPlace}
 use Rattle.paper.specs.SignalList
 use Rattle.paper.specs.SignalList.{Counts, judge, judgeTo, listOf, OfTwo, ofTwo, firstRefused, secondRefused, NumberedTwo}
@@ -16,6 +16,8 @@ use Rattle.paper.specs.Reading.{reading, readingBy}
 use Rattle.paper.specs.Marshalling.{marshalling}
 use Rattle.paper.specs.Composing.{composing}
 use Rattle.paper.specs.Relaying.{relaying}
+use Rattle.paper.specs.Broken.{Fault}
+use Rattle.paper.specs.Profiles.{Profile, breachIn, unlessBreach, profiling}
 use Rattle.paper.specs.Shown.{Kind, showing}
 use Rattle.paper.specs.Train.{Vehicle, resolving}
 use Rattle.paper.specs.ETelegrams.{eReading, answering}
@@ -153,6 +155,14 @@ numbered-relaying form xs store now v room =
     numbered-if _ 5 _ _ (omega arith) (numbered-if _ 6 _ _ (omega arith)
     (numbered-if _ 9 _ _ (omega arith) (numbered-if _ 13 _ _ (omega arith) (numbered-if _ 14 _ _ (omega arith)
     (numbered-if _ 15 _ _ (omega arith) (numbered-if _ 16 _ _ (omega arith) (numbered-gives _))))))))
+
+pub numbered-profiling : (p : Profile) (form : ℕ) (xs : List ℕ) → Numbered (profiling p form xs)
+unfolding profiling Numbered
+numbered-profiling p form xs = numbered-under form xs _ (λ n. by n (breachIn p xs n))
+  where
+    by : (n : Counts) (x : Sought Fault) → Numbered (unlessBreach n x)
+    by n (found f) = omega arith
+    by n nothing = tt
 
 pub numbered-showing : (form : ℕ) (xs store : List ℕ) (now v k : ℕ) (kind : Kind) → Numbered (showing form xs store now v k kind)
 unfolding showing

@@ -1,5 +1,5 @@
 -- Cases for computed tables: a question to any call, and its answer as numbers, with what a lent area holds afterwards.
-use Prim.Native.Nat.{ℕ}
+use Prim.Native.Nat.{ℕ, zero, suc, _+_}
 use mathlib.Core.Bool.{Bool, cond}
 use mathlib.Core.List.{List, [], _∷_, _++_, map}
 use lib.ListN.{length, getD}
@@ -17,6 +17,7 @@ use Rattle.paper.specs.Reading.{Reading, Held, holding, reading}
 use Rattle.paper.specs.Marshalling.{marshalling}
 use Rattle.paper.specs.Composing.{composing}
 use Rattle.paper.specs.Relaying.{relaying}
+use Rattle.paper.specs.Profiles.{Profile, breachOf, profiling}
 use Rattle.paper.specs.Shown.{Kind, Shown, ShownReading, asCode, asSpeed, asPercentage, asCurrent, showing}
 use Rattle.paper.specs.Train.{Vehicle, Members, resolving}
 use Rattle.paper.specs.ETelegrams.{EReading, eReading, answering}
@@ -67,11 +68,18 @@ code signal low high = record { signal = signal; low = low; high = high }
 abbrev pub route : ℕ → ℕ → ℕ → Route
 route signal vehicle start = record { signal = signal; vehicle = vehicle; null = 0; start = start }
 
+-- n common signals of a bit, from 24 on, under the first check, with the limit 5,000
+unfoldable pub bits : ℕ → List Signal
+bits zero = []
+bits (suc n) = bits n ++ (signal (24 + n) 1 0 1 1 5000 0 ∷ [])
+
 -- ---- Questions
 
 pub data Question : Type 0 where
   -- a form and a list, here and below wherever a list stands
   judgesIn faultsIn : ℕ → List ℕ → Question
+  -- a profile and a list
+  profilesIn breachesIn : Profile → ℕ → List ℕ → Question
   -- two lists
   extendsIn : ℕ → List ℕ → ℕ → List ℕ → Question
   -- a list and a signal; a list and a route; a list, a type and a start
@@ -116,6 +124,12 @@ judges xs = judgesIn 1 xs
 
 abbrev pub faults : List ℕ → Question
 faults xs = faultsIn 1 xs
+
+abbrev pub profiles : Profile → List ℕ → Question
+profiles p xs = profilesIn p 1 xs
+
+abbrev pub breaches : Profile → List ℕ → Question
+breaches p xs = breachesIn p 1 xs
 
 abbrev pub extends : List ℕ → List ℕ → Question
 extends xs ys = extendsIn 1 xs 1 ys
@@ -225,6 +239,8 @@ wroteAll old a = said (λ new. []) a ++ after old a
 unfoldable pub ask : Question → List ℕ
 ask (judgesIn form xs) = said ofCounts (judge form xs)
 ask (faultsIn form xs) = gave (ofSought ofFault (faultOf form xs))
+ask (profilesIn p form xs) = said ofCounts (profiling p form xs)
+ask (breachesIn p form xs) = gave (ofSought ofFault (breachOf p form xs))
 ask (extendsIn form xs form′ ys) = saidOfTwo (λ b. yes-no b ∷ []) (extendsLists form xs form′ ys)
 ask (signalEntriesIn form xs k) = said ofEntry (entryOf form xs k)
 ask (routeEntriesIn form xs r) = said (ofSought routeOctets) (routeEntry form xs r)

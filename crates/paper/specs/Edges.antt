@@ -16,12 +16,13 @@ use Rattle.paper.specs.Reading.{heard, markOf, codeOf, hindrances, reaso
 use Rattle.paper.specs.Marshalling.{routed, marshalled, live, marshalling}
 use Rattle.paper.specs.Composing.{headed, composed, markFits, valueFits, composing}
 use Rattle.paper.specs.Relaying.{relayType, readLive, under, allLive, vouched, relayMark, relayValue, relaying}
+use Rattle.paper.specs.Profiles.{plainCoach, drivingTrailer, underTable, signalBroken, routeBroken, firstBreach, breachIn, profiling}
 use Rattle.paper.specs.Shown.{speed, showing}
 use Rattle.paper.specs.Train.{noVehicle, consistRule, meets, member, setTo, membersOf, resolving}
 use Rattle.paper.specs.ETelegrams.{requests, isRequest, isReport, eReading, answerTo, answering}
 use Rattle.paper.specs.Bench.{listL, listL2, listV}
 use Rattle.paper.specs.Marked.{telegram, silent, heardAt, rawAt}
-use Rattle.paper.specs.Cases.{joined, made, made2, signal, code, route, Question, judges, judgesIn, serialsIn, movesTo2, movesTo1, places, takes, gaps, sweeps, reads, marshals, composes, relays, shows, resolves, eReads, gave, refuses, ask}
+use Rattle.paper.specs.Cases.{joined, made, made2, bits, signal, code, route, Question, judges, judgesIn, profiles, serialsIn, movesTo2, movesTo1, places, takes, gaps, sweeps, reads, marshals, composes, relays, shows, resolves, eReads, gave, refuses, ask}
 
 pub record Edge : Type 0 where
   pub at : Question
@@ -119,6 +120,20 @@ composesWide width v = composes (made [] (signal 325 width 1 0 1 0 0 ∷ []) [] 
 -- an E-telegram with the code 1007 and n octets behind octet 9
 abbrev eLong : ℕ → List ℕ
 eLong n = 0 ∷ 0 ∷ 0 ∷ 0 ∷ 0 ∷ 0 ∷ 0x10 ∷ 0x07 ∷ 1 ∷ replicate n 0
+
+-- C-19: one common signal of 8 bits under the check at 16, with this limit; with a route to a bit; one R1 or R2 signal of 4 bits under the check at 320
+abbrev limited : ℕ → List ℕ
+limited limit = made (16 ∷ []) (signal 24 8 0 1 1 limit 0 ∷ []) [] []
+
+abbrev routedTo : ℕ → List ℕ
+routedTo start = made (16 ∷ []) (signal 24 8 0 1 1 5000 0 ∷ []) [] (route 0 1 start ∷ [])
+
+abbrev ownTyped : ℕ → ℕ → List ℕ
+ownTyped type start = made (320 ∷ []) (signal start 4 type 1 1 5000 0 ∷ []) [] []
+
+-- an R1 signal from a bit on, so wide, under the check at a place
+abbrev grouped : ℕ → ℕ → ℕ → List ℕ
+grouped place start width = made (place ∷ []) (signal start width 1 1 1 5000 0 ∷ []) [] []
 
 unfoldable pub edges : List Edge
 edges =
@@ -262,6 +277,19 @@ edges =
     ∷ between (λ n. relays listL (heardAt 0x10 0x40 0) 0 1 (replicate n 0xEE) (40 ∷ [])) 128 (gave (0x10 ∷ [])) 127 (refuses 16 0 ++ (0xEE ∷ []))
     ∷ between (λ r. relays (set listL 21 r) (heardAt 0x10 0x70 0) 0 1 (replicate 128 0xEE) (40 ∷ 53 ∷ [])) 6 (gave (0x00 ∷ 0x60 ∷ [])) 7
     (refuses 15 0 ++ (0xEE ∷ 0xEE ∷ []))
+    -- C-19: "only type 0 signals, at most 64"; "a time limit from 1 to 5,000 ms"; "at most 16 octets of destination data"; "octets 47-73 and wholly
+    -- under the check place"
+    ∷ edge (profiles plainCoach (limited 5000)) (counted 1 1 0 0) (profiles plainCoach (ownTyped 1 368)) (refuses 34 6)
+    ∷ between (λ t. profiles drivingTrailer (ownTyped t 368)) 1 (counted 1 1 0 0) 2 (refuses 34 6)
+    ∷ between (λ n. profiles plainCoach (made (16 ∷ []) (bits n) [] [])) 64 (counted 1 64 0 0) 65 (refuses 34 1030)
+    ∷ between (λ limit. profiles plainCoach (limited limit)) 1 (counted 1 1 0 0) 0 (refuses 34 6)
+    ∷ between (λ limit. profiles plainCoach (limited limit)) 5000 (counted 1 1 0 0) 5001 (refuses 34 6)
+    ∷ between (λ limit. profiles drivingTrailer (limited limit)) 5000 (counted 1 1 0 0) 5001 (refuses 34 6)
+    ∷ between (λ start. profiles plainCoach (routedTo start)) 120 (counted 1 1 0 1) 121 (refuses 34 26)
+    ∷ between (λ start. profiles drivingTrailer (ownTyped 1 start)) 368 (counted 1 1 0 0) 367 (refuses 34 6)
+    ∷ between (λ width. profiles drivingTrailer (grouped 352 576 width)) 8 (counted 1 1 0 0) 9 (refuses 34 6)
+    ∷ between (λ width. profiles drivingTrailer (grouped 324 456 width)) 8 (counted 1 1 0 0) 9 (refuses 34 6)
+    ∷ between (λ place. profiles drivingTrailer (grouped place 368 4)) 320 (counted 1 1 0 0) 322 (refuses 34 6)
     -- shown; the grouping; the train; E-telegrams
     ∷ between (λ w. shows (listV w 0) (rawAt 128) 5000 1 0 speed) 16 (gave (1 ∷ 0x40000000 ∷ 0 ∷ [])) 15 (refuses 26 0)
     ∷ between (λ w. shows (listV w 0) (rawAt 128) 5000 1 0 speed) 16 (gave (1 ∷ 0x40000000 ∷ 0 ∷ [])) 17 (refuses 26 0)
@@ -280,11 +308,11 @@ edges =
 
 -- the one computed test: the table with its answers worked out is the table
 pub at-each-edge : map (λ e. edge (e .at) (ask (e .at)) (e .past) (ask (e .past))) edges ≡ edges
-unfolding edges evens joined made made2 ask listL listL2 listV rawAt serialAt serialOf narrowed droppedFrom dropped spread widenedFrom widened toForm2 toForm1 telegram silent heardAt bit field withBit setBit put puts number octetsOf over refuseIf firstFrom firstBad all
+unfolding edges evens bits joined made made2 ask listL listL2 listV rawAt serialAt serialOf narrowed droppedFrom dropped spread widenedFrom widened toForm2 toForm1 telegram silent heardAt bit field withBit setBit put puts number octetsOf over refuseIf firstFrom firstBad all
     some count greatest applicationType telegramType versionOf rows placeIn SignalList.checkAt SignalList.signalSize SignalList.signalAt SignalList.among SignalList.codeAt SignalList.routeAt
     SignalList.checkRule SignalList.signalRuleTo SignalList.codeRule SignalList.routeRule SignalList.opening SignalList.judgeEntries SignalList.judgeSection
     SignalList.greatestSince SignalList.ending SignalList.fromRoutes SignalList.fromCodes SignalList.fromSignalsTo judgeTo hasCodes inRange knownIn knows
     placeOf version slotOf taken taking age gap gapping stale sweptOne sweptTo sweeping heard markOf codeOf hindrances reasonOf readingOf readingAt reading routed marshalled live marshalling headed
-    composed markFits valueFits composing relayType readLive under allLive vouched relayMark relayValue relaying listed showing ofBits round toBits consistRule meets member setTo membersOf resolving requests isRequest isReport
+    composed markFits valueFits composing relayType readLive under allLive vouched relayMark relayValue relaying underTable signalBroken routeBroken firstBreach breachIn profiling listed showing ofBits round toBits consistRule meets member setTo membersOf resolving requests isRequest isReport
     eReading answerTo answering
 at-each-edge = refl

@@ -21,6 +21,7 @@ pub mod ETelegrams
 pub mod Demands
 pub mod Order
 pub mod Relaying
+pub mod Profiles
 pub mod Bench
 pub mod Marked
 pub mod Parked

@@ -14,7 +14,7 @@ use Rattle.paper.specs.Answer.{refuseIf, after}
 use Rattle.paper.specs.First.{firstFrom, firstBad, all, some, next, count, greatest, listed}
 use Rattle.paper.specs.Telegrams.{applicationType, telegramType, versionOf, rows, placeIn}
 use Rattle.paper.specs.SignalList
-use Rattle.paper.specs.SignalList.{Signal, judgeTo, version, hasCodes, inRange, knownIn, knows, placeOf}
+use Rattle.paper.specs.SignalList.{Signal, Route, judgeTo, version, hasCodes, inRange, knownIn, knows, placeOf}
 use Rattle.paper.specs.Broken.{faultIn, faultFromRoutes, faultFromCodes, faultFromSignals, faultOf}
 use Rattle.paper.specs.Forms.{serialAt, serialOf, narrowed, droppedFrom, dropped, spread, widenedFrom, widened, toForm2, toForm1}
 use Rattle.paper.specs.Extends.{codesKept, keeps, stands, newer, extendsLists}
@@ -25,13 +25,14 @@ use Rattle.paper.specs.Reading.{heard, heldIn, holding, markOf, codeOf, 
 use Rattle.paper.specs.Marshalling.{routed, marshalled, live, marshalling}
 use Rattle.paper.specs.Composing.{headed, composed, markFits, valueFits, composing}
 use Rattle.paper.specs.Relaying.{relayType, readLive, under, allLive, vouched, relayMark, relayValue, relaying}
+use Rattle.paper.specs.Profiles.{plainCoach, drivingTrailer, underTable, signalBroken, routeBroken, firstBreach, breachIn, breachOf, profiling}
 use Rattle.paper.specs.Shown.{Kind, speed, percentage, signedPercentage, showing}
 use Rattle.paper.specs.Shown as Shown
 use Rattle.paper.specs.Train.{Vehicle, consistRule, meets, member, setTo, membersOf, resolving}
 use Rattle.paper.specs.ETelegrams.{requests, isRequest, isReport, eReading, answerTo, answering}
 use Rattle.paper.specs.Bench.{listL, listL2, listV}
 use Rattle.paper.specs.Marked.{telegram, silent, heardAt, rawAt}
-use Rattle.paper.specs.Cases.{joined, made, made2, signal, code, route, Question, judges, judgesIn, faults, faultsIn, extends, extendsIn, serialsIn, movesTo2, movesTo1, readsIn, signalEntries, routeEntries, finds, pairs, places, takes, gaps, sweeps, holds, reads, marshals, composes, relays, shows, resolves, eReads, eAnswers, gave, refuses, ask}
+use Rattle.paper.specs.Cases.{joined, made, made2, bits, signal, code, route, Question, judges, judgesIn, faults, faultsIn, profilesIn, profiles, breaches, extends, extendsIn, serialsIn, movesTo2, movesTo1, readsIn, signalEntries, routeEntries, finds, pairs, places, takes, gaps, sweeps, holds, reads, marshals, composes, relays, shows, resolves, eReads, eAnswers, gave, refuses, ask}
 
 -- ---- A wrong gateway
 
@@ -230,6 +231,24 @@ abbrev e-telegram : ℕ → ℕ → List ℕ
 e-telegram c status = 1 ∷ 2 ∷ 3 ∷ 4 ∷ 5 ∷ 6 ∷ octetsOf 2 c ++ (status ∷ [])
 
 -- ---- The table
+
+-- C-19: a check at 16 and a common signal of 4 bits at 24 with this check, limit and replacement, which knows the codes 0 to 6; with these routes
+abbrev small : ℕ → ℕ → ℕ → List Route → List ℕ
+small check limit replacement routes = made (16 ∷ []) (signal 24 4 0 check 1 limit replacement ∷ []) (code 0 0 6 ∷ []) routes
+
+-- a check at a place, and an R1 signal under it from a bit on, so wide
+abbrev small-r1 : ℕ → ℕ → ℕ → List ℕ
+small-r1 place start width = made (place ∷ []) (signal start width 1 1 1 5000 0 ∷ []) [] []
+
+-- two common signals under the check at 16, with these limits
+abbrev small-two : ℕ → ℕ → List ℕ
+small-two first second = made (16 ∷ []) (signal 24 4 0 1 1 first 0 ∷ signal 28 4 0 1 1 second 0 ∷ []) [] []
+
+abbrev accepted-small : List ℕ
+accepted-small = gave (1 ∷ 1 ∷ 1 ∷ 0 ∷ 1 ∷ [])
+
+abbrev accepted-r1 : List ℕ
+accepted-r1 = gave (1 ∷ 1 ∷ 0 ∷ 0 ∷ 1 ∷ [])
 
 unfoldable pub table : List Row
 table =
@@ -493,6 +512,40 @@ table =
     (composes listL 3 (4 ∷ []) (5 ∷ []) (replicate 40 0xEE) (0 ∷ 39 ∷ [])) (gave (0x13 ∷ 0 ∷ []))
     (refuses 14 0 ++ (0xEE ∷ 0xEE ∷ []))
     ∷ saying "rest-not-zeroed" (composes listL 1 (4 ∷ []) (1 ∷ []) (replicate 128 0xEE) (127 ∷ [])) (gave (0 ∷ [])) (gave (0xEE ∷ []))
+    -- C-19: profiles
+    ∷ saying "profile-limit-0" (profiles plainCoach (small 1 0 1 [])) (refuses 34 6) accepted-small
+    ∷ saying "profile-limit-5001" (profiles plainCoach (small 1 5001 1 [])) (refuses 34 6) accepted-small
+    ∷ saying "profile-without-check" (profiles plainCoach (small 0 5000 1 [])) (refuses 34 6) accepted-small
+    ∷ saying "profile-replacement-unknown" (profiles plainCoach (small 1 5000 7 [])) (refuses 34 6) accepted-small
+    ∷ saying "replacement-charged-to-its-codes" (profiles plainCoach (small 1 5000 7 [])) (refuses 34 6) (refuses 34 24)
+    ∷ asked-as "coach-taken-for-trailer" (profiles plainCoach (small-r1 320 368 4)) (refuses 34 6) (profiles drivingTrailer (small-r1 320 368 4)) accepted-r1
+    ∷ asked-as "trailer-taken-for-coach" (profiles drivingTrailer (small-r1 320 368 4)) accepted-r1 (profiles plainCoach (small-r1 320 368 4)) (refuses 34 6)
+    ∷ saying "r2-for-r1" (profiles drivingTrailer (made (320 ∷ []) (signal 368 4 2 1 1 5000 0 ∷ []) [] [])) (refuses 34 6) accepted-r1
+    ∷ saying "common-by-the-grouping" (profiles drivingTrailer (small 1 5000 1 [])) accepted-small (refuses 34 6)
+    ∷ saying "check-by-its-number" (profiles drivingTrailer (small-r1 322 368 4)) (refuses 34 6) accepted-r1
+    ∷ saying "first-bit-decides" (profiles drivingTrailer (small-r1 324 463 2)) (refuses 34 6) accepted-r1
+    ∷ saying "last-bit-decides" (profiles drivingTrailer (small-r1 326 463 2)) (refuses 34 6) accepted-r1
+    ∷ saying "outside-the-grouping" (profiles drivingTrailer (small-r1 352 584 1)) (refuses 34 6) accepted-r1
+    ∷ saying "route-to-129" (profiles plainCoach (small 1 5000 1 (route 0 1 125 ∷ []))) (refuses 34 32) (gave (1 ∷ 1 ∷ 1 ∷ 1 ∷ 1 ∷ []))
+    ∷ saying "route-starts-within" (profiles plainCoach (small 1 5000 1 (route 0 1 127 ∷ []))) (refuses 34 32) (gave (1 ∷ 1 ∷ 1 ∷ 1 ∷ 1 ∷ []))
+    ∷ saying "sixteen-octets-are-sixteen-bits" (profiles plainCoach (small 1 5000 1 (route 0 1 124 ∷ []))) (gave (1 ∷ 1 ∷ 1 ∷ 1 ∷ 1 ∷ [])) (refuses 34 32)
+    ∷ saying "route-before-signal" (profiles plainCoach (small 1 0 1 (route 0 1 125 ∷ []))) (refuses 34 6) (refuses 34 32)
+    ∷ saying "last-route-named" (profiles plainCoach (small 1 5000 1 (route 0 1 125 ∷ route 0 1 129 ∷ []))) (refuses 34 32) (refuses 34 38)
+    ∷ saying "last-signal-named" (profiles plainCoach (small-two 0 0)) (refuses 34 6) (refuses 34 22)
+    ∷ saying "first-signal-named" (profiles plainCoach (small-two 1 0)) (refuses 34 22) (refuses 34 6)
+    ∷ saying "sixty-five-signals" (profiles plainCoach (made (16 ∷ []) (bits 65) [] [])) (refuses 34 1030) (gave (1 ∷ 65 ∷ 0 ∷ 0 ∷ 1 ∷ []))
+    ∷ saying "sixty-fifth-at-the-count" (profiles plainCoach (made (16 ∷ []) (bits 65) [] [])) (refuses 34 1030) (refuses 34 4)
+    ∷ saying "sixty-four-signals-refused" (profiles plainCoach (made (16 ∷ []) (bits 64) [] [])) (gave (1 ∷ 64 ∷ 0 ∷ 0 ∷ 1 ∷ [])) (refuses 34 1014)
+    ∷ saying "profile-offset-of-form-1" (profilesIn plainCoach 2 (made2 (16 ∷ []) ((signal 24 4 0 1 1 1 0, 0) ∷ (signal 28 4 0 1 1 0 0, 0) ∷ []) [] []))
+    (refuses 34 24) (refuses 34 22)
+    ∷ saying "profile-before-octets-after" (profiles plainCoach (small 1 0 1 [] ++ (0 ∷ []))) (refuses 4 32) (refuses 34 6)
+    ∷ saying "profile-before-entry" (profiles plainCoach (made (16 ∷ []) (signal 24 4 0 1 1 0 0 ∷ signal 28 4 0 1 0 1 0 ∷ []) [] [])) (refuses 3 22) (refuses 34 6)
+    ∷ saying "every-profile-refused" (profiles plainCoach (small 1 5000 1 [])) accepted-small (refuses 34 6)
+    ∷ asked-as "profile-not-asked" (profiles plainCoach (small 0 0 7 [])) (refuses 34 6) (judges (small 0 0 7 [])) accepted-small
+    ∷ saying "breach-last-rule-named" (breaches plainCoach (small 1 0 7 [])) (gave (1 ∷ 2 ∷ 0 ∷ 4 ∷ 0 ∷ 0 ∷ 24 ∷ 4 ∷ 6 ∷ [])) (gave (1 ∷ 2 ∷ 0 ∷ 5 ∷ 0 ∷ 0 ∷ 24 ∷ 4 ∷ 6 ∷ []))
+    ∷ saying "breach-of-a-refused-list" (breaches plainCoach (small 1 0 1 [] ++ (0 ∷ []))) (gave (0 ∷ [])) (gave (1 ∷ 2 ∷ 0 ∷ 4 ∷ 0 ∷ 0 ∷ 24 ∷ 4 ∷ 6 ∷ []))
+    ∷ saying "breach-without-its-signal" (breaches plainCoach (small 1 5000 1 (route 0 1 125 ∷ []))) (gave (1 ∷ 4 ∷ 0 ∷ 1 ∷ 0 ∷ 0 ∷ 24 ∷ 4 ∷ 32 ∷ []))
+    (gave (1 ∷ 4 ∷ 0 ∷ 1 ∷ 0 ∷ 0 ∷ 125 ∷ 4 ∷ 32 ∷ []))
     -- relaying: octets 1 to 5
     ∷ saying "relays-nothing" (relayed-r3 under-two 0x50 0x44 0) (comes-out 1 0x50 0x44 0) (gave (0xEE ∷ 0xEE ∷ 0xEE ∷ 0xEE ∷ 0xEE ∷ []))
     ∷ saying "refuses-every-relay" (relayed-r3 under-two 0x50 0x44 0) (comes-out 1 0x50 0x44 0) (refuses 9 0 ++ (0xEE ∷ 0xEE ∷ 0xEE ∷ 0xEE ∷ 0xEE ∷ []))
@@ -580,12 +633,12 @@ written r = record { paper-says = r .right; it-says = r .wrong; same = false }
 
 -- the one computed test: of every row both answers are as written, and they differ
 pub wrong : map told table ≡ map written table
-unfolding table answered sameNumbers joined made made2 ask listL listL2 listV rawAt serialAt serialOf narrowed droppedFrom dropped spread widenedFrom widened toForm2 toForm1 telegram silent heardAt bit field withBit setBit put puts number octetsOf over refuseIf
+unfolding table bits answered sameNumbers joined made made2 ask listL listL2 listV rawAt serialAt serialOf narrowed droppedFrom dropped spread widenedFrom widened toForm2 toForm1 telegram silent heardAt bit field withBit setBit put puts number octetsOf over refuseIf
     firstFrom firstBad all some next count greatest applicationType telegramType versionOf rows placeIn SignalList.checkAt SignalList.signalSize SignalList.signalAt SignalList.among
     SignalList.codeAt SignalList.routeAt SignalList.checkRule SignalList.signalRuleTo SignalList.codeRule SignalList.routeRule SignalList.opening
     SignalList.judgeEntries SignalList.judgeSection SignalList.greatestSince SignalList.ending SignalList.fromRoutes SignalList.fromCodes
     SignalList.fromSignalsTo judgeTo faultIn faultFromRoutes faultFromCodes faultFromSignals faultOf hasCodes inRange knownIn knows placeOf version codesKept keeps stands newer Extending.extends extendsLists entryOf
     routeEntry signalFound finding has index nextPair pairing slotOf taken taking age gap gapping stale sweptOne sweptTo sweeping heard heldIn holding markOf codeOf hindrances reasonOf readingOf
-    readingAt reading routed marshalled live marshalling headed composed markFits valueFits composing relayType readLive under allLive vouched relayMark relayValue relaying listed showing ofBits round toBits consistRule meets member
+    readingAt reading routed marshalled live marshalling headed composed markFits valueFits composing relayType readLive under allLive vouched relayMark relayValue relaying underTable signalBroken routeBroken firstBreach breachIn breachOf profiling listed showing ofBits round toBits consistRule meets member
     setTo membersOf resolving requests isRequest isReport eReading answerTo answering
 wrong = refl

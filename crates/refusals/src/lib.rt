@@ -5,7 +5,7 @@ ghost use Rattle.refusals.specs.Refusal.{numberOf, carriedOf};
 
 pub struct Refusal(pub u8, pub usize);
 
-// The numbers that carry something: 1-4 the offset of the count, of the entry or of the first octet too many, 15 the signal at fault.
+// The numbers that carry something: 1-4 and 34 the offset of the count, of the entry or of the first octet too many, 15 the signal at fault.
 impl Refusal {
     pub const LIST_ENDS: u8 = 1;
 
@@ -16,6 +16,8 @@ impl Refusal {
     pub const OCTETS_AFTER: u8 = 4;
 
     pub const VALUE_UNFIT: u8 = 15;
+
+    pub const PROFILE: u8 = 34;
 }
 
 // Those that carry nothing.

@@ -1,4 +1,4 @@
-// Which entry of a refused list breaks which rule, in words. The numbers are those of the paper's sentences, in their order.
+// Which entry of a refused list breaks which rule, in words. The numbers are those of the paper's sentences, in their order; a profile has its own.
 ghost use Prim.Native.Nat.{_<_};
 use crate::said::say_field;
 use crate::said::say_refused;
@@ -6,6 +6,7 @@ use crate::said::say_telegram;
 use crate::serial::say_beside;
 use gateway::Fault;
 use gateway::FaultOutcome;
+use gateway::Profile;
 use gateway::Refusal;
 use saying::Line;
 use saying::print;
@@ -81,6 +82,35 @@ fn say_rule(line: Line, section: usize, rule: usize) -> Line {
     }
 }
 
+fn say_allowed_types(line: Line, profile: Profile) -> Line {
+    match profile {
+        Profile::PlainCoach => say(line, b"type not 0"),
+        Profile::DrivingTrailer => say(line, b"type not 0 or 1"),
+    }
+}
+
+fn say_profile_signal_rule(line: Line, profile: Profile, rule: usize) -> Line {
+    match rule {
+        1 => say_allowed_types(line, profile),
+        2 => say(line, b"more than 64 signals"),
+        3 => say(line, b"it has no check"),
+        4 => say(line, b"limit not 1-5,000"),
+        5 => say(line, b"replacement not a known code"),
+        _ => say(
+            line,
+            b"not in octets 47-73, or not wholly under the check place that the R1 grouping gives its bits",
+        ),
+    }
+}
+
+// No check and no code entry breaks a profile.
+fn say_profile_rule(line: Line, profile: Profile, section: usize, rule: usize) -> Line {
+    match section {
+        2 => say_profile_signal_rule(line, profile, rule),
+        _ => say(line, b"it ends past bit 128"),
+    }
+}
+
 // The entry's number: checks count from 1, as a signal names them, all others from 0.
 fn say_entry(line: Line, f: Fault) -> Line {
     let n = f.index as u64;
@@ -149,10 +179,20 @@ fn say_where(line: Line, list: &[u8], form: u8, f: Fault) -> Line {
     say_beside(say_field(l, f.start, width), form, serial_in(list, f))
 }
 
-fn say_fault(line: Line, list: &[u8], form: u8, f: Fault) -> Line {
+// The entry at fault, up to what its rule says: `rule` tells the paper's numbers from a profile's.
+fn say_broken(line: Line, list: &[u8], form: u8, f: Fault, rule: &[u8]) -> Line {
     let l = say_where(say_entry(say(line, b": "), f), list, form, f);
-    let l = say_number(say(l, b", rule "), f.rule as u64);
-    say_rule(say(l, b": "), f.section, f.rule)
+    say(say_number(say(l, rule), f.rule as u64), b": ")
+}
+
+fn say_fault(line: Line, list: &[u8], form: u8, f: Fault) -> Line {
+    let l = say_broken(line, list, form, f, b", rule ");
+    say_rule(l, f.section, f.rule)
+}
+
+fn say_breach(line: Line, profile: Profile, list: &[u8], form: u8, f: Fault) -> Line {
+    let l = say_broken(line, list, form, f, b", profile rule ");
+    say_profile_rule(l, profile, f.section, f.rule)
 }
 
 // The refusal of a list, with the entry at fault where there is one.
@@ -162,5 +202,16 @@ pub fn print_refused_list(list: &[u8], form: u8, f: Refusal) {
     match found {
         FaultOutcome::Entry(x) => print(say_fault(l, list, form, x)),
         FaultOutcome::NoEntry => print(l),
+    }
+}
+
+// The same of a list that was judged under a profile. What the general rules refuse has no entry that breaks the profile.
+pub fn print_refused_profile(profile: Profile, list: &[u8], form: u8, f: Refusal) {
+    let found = gateway::find_breach(profile, list, form);
+    match found {
+        FaultOutcome::Entry(x) => {
+            print(say_breach(say_refused(f, b""), profile, list, form, x));
+        }
+        FaultOutcome::NoEntry => print_refused_list(list, form, f),
     }
 }

@@ -141,6 +141,7 @@ fn say_other_refusal(line: Line, number: u8) -> Line {
         16 => say(line, b"output length not the type's"),
         32 => say(line, b"serial number set"),
         33 => say(line, b"output not of the needed length"),
+        34 => say(line, b"profile rule broken"),
         _ => say(line, b"see the table of refusals"),
     }
 }
@@ -155,9 +156,9 @@ fn say_refusal(line: Line, number: u8) -> Line {
     say_other_refusal(line, number)
 }
 
-// What a refusal carries: 1-4 an offset, 15 a signal.
+// What a refusal carries: 1-4 and 34 an offset, 15 a signal.
 fn say_carried(line: Line, number: u8, carried: usize) -> Line {
-    if number <= 4 {
+    if (number <= 4) | (number == 34) {
         return say_number(say(line, b" at "), carried as u64);
     }
     if number == 15 {

@@ -3,7 +3,7 @@
 use crate::lists::{self, NOW, STAMP};
 use crate::proved::{self, Said};
 use crate::rust;
-use reference::{Form, Kind, Shown, ShownReading};
+use reference::{Form, Kind, Profile, Shown, ShownReading};
 use std::fmt::Debug;
 use std::hint::black_box;
 
@@ -108,6 +108,20 @@ fn judge(name: &str, list: &'static [u8], form: Form) -> Case {
         vec![],
         move |_| proved::judge(black_box(list), black_box(form)),
         move |_| rust::judge(black_box(list), black_box(form)),
+    )
+}
+
+/// By the profile that allows R1 signals, a list that is in it.
+fn judge_profile() -> Case {
+    let list = leak(lists::narrow());
+    let profile = Profile::DrivingTrailer;
+    let judged = reference::judge_profile(profile, list, Form::One);
+    judged.expect("the list of the bench is in the profile");
+    said(
+        "judge profile, 64 signals of a driving trailer",
+        vec![],
+        move |_| proved::judge_profile(black_box(profile), black_box(list), one()),
+        move |_| rust::judge_profile(black_box(profile), black_box(list), one()),
     )
 }
 
@@ -498,8 +512,23 @@ fn write_fields(width: usize) -> Case {
 
 /// The two sides refuse alike, too: a wrong layout of an answer does not go unnoticed.
 pub fn refused_alike() {
-    refused_alike_in(Form::One, lists::list(8, 5_000));
-    refused_alike_in(Form::Two, lists::list_in_form_2(8, 5_000));
+    let lists = [
+        (Form::One, lists::list(8, 5_000)),
+        (Form::Two, lists::list_in_form_2(8, 5_000)),
+    ];
+    for (form, list) in lists {
+        refused_by_profiles(form, &list);
+        refused_alike_in(form, list);
+    }
+}
+
+/// A list that is in no profile.
+fn refused_by_profiles(form: Form, list: &[u8]) {
+    for profile in [Profile::PlainCoach, Profile::DrivingTrailer] {
+        let refused = reference::judge_profile(profile, list, form);
+        assert_eq!(refused.map_err(|refusal| refusal.number).err(), Some(34));
+        assert_eq!(proved::judge_profile(profile, list, form).said(), refused);
+    }
 }
 
 fn refused_alike_in(form: Form, list: Vec<u8>) {
@@ -508,6 +537,10 @@ fn refused_alike_in(form: Form, list: Vec<u8>) {
         assert_eq!(
             proved::judge(short, form).said(),
             reference::judge(short, form)
+        );
+        assert_eq!(
+            proved::judge_profile(Profile::PlainCoach, short, form).said(),
+            reference::judge_profile(Profile::PlainCoach, short, form)
         );
         assert_eq!(
             proved::extends(&list, form, short, form).said(),
@@ -560,7 +593,7 @@ pub fn all() -> Vec<Case> {
     let longest = leak(lists::list(64, 5_000));
     let telegram = lists::telegram();
     let r3 = [&[0x13], &telegram[1..40]].concat();
-    let mut cases = vec![judge];
+    let mut cases = vec![judge, judge_profile()];
     cases.extend(reads());
     cases.extend(speeds());
     cases.extend([

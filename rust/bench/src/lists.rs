@@ -44,7 +44,7 @@ pub fn list(units: usize, limit: u32) -> Vec<u8> {
     }
     put16(&mut list, 8 * units);
     for number in 0..4 * units {
-        codes(&mut list, number);
+        codes(&mut list, number, WIDTHS[number % 4]);
     }
     put16(&mut list, 8 * units);
     routes(&mut list, units);
@@ -70,8 +70,8 @@ fn signal(list: &mut Vec<u8>, units: usize, number: usize, limit: u32) {
 }
 
 /// Code 1 alone is not known.
-fn codes(list: &mut Vec<u8>, number: usize) {
-    let past = 1 << WIDTHS[number % 4];
+fn codes(list: &mut Vec<u8>, number: usize, width: u8) {
+    let past = 1 << width;
     for (low, high) in [(0, 0), (2, past - 1)] {
         put16(list, number);
         put16(list, low);
@@ -133,6 +133,39 @@ pub fn wide() -> Vec<u8> {
         put16(&mut list, (5 * number + 3) % 8);
         list.extend([1 + number as u8, 0]);
         put16(&mut list, 65 * number);
+    }
+    list
+}
+
+/// A list in the profile of driving trailers, with as much of each section as fits in it: 64 signals of two bits, of which two lie in each of the
+/// 17 rows of the R1 grouping and all others are common, two code entries and a route each.
+pub fn narrow() -> Vec<u8> {
+    let first_of = |place: usize| {
+        let under = |bit: &usize| reference::check_place(*bit as u64) == Ok(place as u64);
+        (368..584).find(under).expect("every row has a bit")
+    };
+    let places: Vec<usize> = (320..=352).step_by(2).collect();
+    let common = (0..30).map(|number| (0, 18 + 2 * number, 1));
+    let rows = (2..).zip(&places).flat_map(|(check, &place)| {
+        let first = first_of(place);
+        [(1, first, check), (1, first + 2, check)]
+    });
+    let mut list = Vec::new();
+    put16(&mut list, 1 + places.len());
+    put16(&mut list, 16);
+    places.iter().for_each(|&place| put16(&mut list, place));
+    put16(&mut list, 64);
+    for (kind, start, check) in common.chain(rows) {
+        put16(&mut list, start);
+        list.extend([2, kind, check, 1, 0, 0, 0x13, 0x88, 0, 0, 0, 0, 0, 3]);
+    }
+    put16(&mut list, 2 * 64);
+    (0..64).for_each(|number| codes(&mut list, number, 2));
+    put16(&mut list, 64);
+    for number in 0..64 {
+        put16(&mut list, number);
+        list.extend([1 + (number % 63) as u8, 0]);
+        put16(&mut list, 2 * number);
     }
     list
 }

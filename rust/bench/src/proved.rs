@@ -2,7 +2,7 @@
 //! x86-64 that is what C does with such an answer; on other machines it is not, so it is said here.
 
 use reference::{
-    Counts, EReading, Extends, Form, Kind, Members, Reading, Refusal, Shown, ShownReading,
+    Counts, EReading, Extends, Form, Kind, Members, Profile, Reading, Refusal, Shown, ShownReading,
 };
 use std::mem::MaybeUninit;
 
@@ -94,6 +94,8 @@ pub type To<T> = *mut MaybeUninit<T>;
 
 extern "C" {
     fn df_judge(to: To<Judged>, list: *const u8, list_len: usize, form: u8);
+    #[rustfmt::skip]
+    fn df_judge_profile(to: To<Judged>, profile: u8, list: *const u8, list_len: usize, form: u8);
     #[rustfmt::skip]
     fn df_extends(
         to: To<Extending>,
@@ -201,6 +203,12 @@ pub fn answer<T>(call: impl FnOnce(To<T>)) -> T {
 #[inline(always)]
 pub fn judge(list: &[u8], form: Form) -> Judged {
     answer(|to| unsafe { df_judge(to, list.as_ptr(), list.len(), form as u8) })
+}
+
+#[inline(always)]
+pub fn judge_profile(profile: Profile, list: &[u8], form: Form) -> Judged {
+    let (profile, form) = (profile as u8, form as u8);
+    answer(|to| unsafe { df_judge_profile(to, profile, list.as_ptr(), list.len(), form) })
 }
 
 #[inline(always)]

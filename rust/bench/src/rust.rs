@@ -1,10 +1,17 @@
 //! The independent implementation, each function a call as the proved one is, whose archive is never inlined into the bench.
 
-use reference::{Counts, EReading, Extends, Form, Kind, Members, Reading, Refusal, ShownReading};
+use reference::{
+    Counts, EReading, Extends, Form, Kind, Members, Profile, Reading, Refusal, ShownReading,
+};
 
 #[inline(never)]
 pub fn judge(list: &[u8], form: Form) -> Result<Counts, Refusal> {
     reference::judge(list, form)
+}
+
+#[inline(never)]
+pub fn judge_profile(profile: Profile, list: &[u8], form: Form) -> Result<Counts, Refusal> {
+    reference::judge_profile(profile, list, form)
 }
 
 #[inline(never)]

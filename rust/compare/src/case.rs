@@ -7,6 +7,7 @@ use crate::list::List;
 #[derive(Debug, Clone, Copy, PartialEq, Eq, PartialOrd, Ord)]
 pub enum Call {
     Judge,
+    JudgeProfile,
     Extends,
     SignalEntry,
     FindSignal,
@@ -50,8 +51,9 @@ const fn takes(
 }
 
 impl Call {
-    pub const ALL: [Call; 19] = [
+    pub const ALL: [Call; 20] = [
         Call::Judge,
+        Call::JudgeProfile,
         Call::Extends,
         Call::SignalEntry,
         Call::FindSignal,
@@ -76,6 +78,7 @@ impl Call {
     pub fn parameters(self) -> Parameters {
         match self {
             Call::Judge => takes("judge", &["list"], None, &["form"]),
+            Call::JudgeProfile => takes("judge_profile", &["list"], None, &["form", "profile"]),
             Call::Extends => takes("extends", &["list A", "list B"], None, &["form A", "form B"]),
             Call::SignalEntry => takes("signal_entry", &["list"], None, &["form", "signal"]),
             Call::FindSignal => takes("find_signal", &["list"], None, &["form", "type", "start"]),
@@ -97,6 +100,9 @@ impl Call {
         }
     }
 }
+
+/// Numbers for a profile: both that C has, and some that are none and say the plain coach's.
+pub const PROFILES: [u64; 6] = [0, 1, 2, 3, 130, 255];
 
 /// Numbers for a kind: all that C has, and some that are none and show the code.
 pub const KINDS: [u64; 8] = [0, 1, 2, 3, 4, 5, 6, 255];

@@ -5,11 +5,12 @@ use std::ops::Range;
 use crate::case::{Call, Case, KINDS};
 use crate::generate::REQUESTS;
 use crate::list::{Code, List, Route, Signal};
+use crate::profiles::{self, by_profiles};
 use crate::store::{plant, OLD_STORE};
 use reference::{write_field, PREVIOUS, SLOT, STORE, TELEGRAM, VEHICLES};
 
 /// The list L of the bench examples.
-const L: [u8; 44] = [
+pub const L: [u8; 44] = [
     0x00, 0x01, 0x01, 0x42, // checks
     0x00, 0x01, 0x01, 0xA8, 0x04, 0x01, 0x01, 0x01, 0x00, 0x00, 0x13, 0x88, 0, 0, 0, 0, 0,
     0, // signals
@@ -33,6 +34,7 @@ pub fn each(mut try_one: impl FnMut(Case)) {
     lists(&mut try_one);
     forms(&mut try_one);
     wide_lists(&mut try_one);
+    profiles::each(&mut try_one);
     moves(&mut try_one);
     signals(&mut try_one);
     readings(&mut try_one);
@@ -119,10 +121,12 @@ fn telegrams(try_one: &mut impl FnMut(Case)) {
 fn lists(try_one: &mut impl FnMut(Case)) {
     for at in 0..L.len() {
         try_one(Case::new(Call::Judge, vec![L[..at].to_vec()], vec![1]));
+        by_profiles(try_one, &L[..at], 1);
         for octet in 0..=255 {
             let mut list = L.to_vec();
             list[at] = octet;
             try_one(Case::new(Call::Judge, vec![list.clone()], vec![1]));
+            by_profiles(try_one, &list, 1);
             try_one(Case::new(Call::Extends, vec![L.to_vec(), list], vec![1, 1]));
         }
     }
@@ -132,7 +136,7 @@ fn lists(try_one: &mut impl FnMut(Case)) {
 const SERIAL: Range<usize> = 22..24;
 
 /// L in form 2, with a serial number.
-fn wide_l(serial: u16) -> Vec<u8> {
+pub fn wide_l(serial: u16) -> Vec<u8> {
     let (before, behind) = L.split_at(SERIAL.start);
     [before, &serial.to_be_bytes(), behind].concat()
 }
@@ -156,6 +160,8 @@ fn forms(try_one: &mut impl FnMut(Case)) {
             };
             let store = vec![0; STORE];
             ask(Call::Judge, vec![], &[]);
+            ask(Call::JudgeProfile, vec![], &[1]);
+            ask(Call::JudgeProfile, vec![], &[2]);
             ask(Call::SignalEntry, vec![], &[0]);
             ask(Call::FindSignal, vec![], &[1, 424]);
             ask(Call::Serial, vec![], &[0]);
@@ -182,6 +188,7 @@ fn wide_lists(try_one: &mut impl FnMut(Case)) {
         for form in [1, 2] {
             try_one(Case::new(Call::Judge, vec![list.clone()], vec![form]));
         }
+        by_profiles(try_one, &list, 2);
         let areas = vec![L.to_vec(), list.clone()];
         try_one(Case::new(Call::Extends, areas, vec![1, 2]));
         try_one(Case::new(Call::Serial, vec![list.clone()], vec![2, 0]));
@@ -385,7 +392,7 @@ fn kinds(try_one: &mut impl FnMut(Case)) {
 }
 
 /// The list as it is, and as it is refused: it ends too soon, has too many checks, a signal with since-version 0, an octet too many.
-fn spoilt(list: &[u8]) -> [Vec<u8>; 5] {
+pub fn spoilt(list: &[u8]) -> [Vec<u8>; 5] {
     let checks = usize::from(list[1]);
     let mut broken = list.to_vec();
     broken[2 + 2 * checks + 2 + 5] = 0;
@@ -610,7 +617,7 @@ fn sweeps(try_one: &mut impl FnMut(Case)) {
 }
 
 /// One signal, and a route of vehicle 1 that takes it to a bit.
-fn one_signal(kind: u64, start: u64, width: u64, to: u64) -> List {
+pub fn one_signal(kind: u64, start: u64, width: u64, to: u64) -> List {
     let mut signal = Signal {
         start,
         width,

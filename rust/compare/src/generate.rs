@@ -2,11 +2,11 @@
 
 use std::mem;
 
-use crate::case::{is_scaled, Call, Case, KINDS};
+use crate::case::{is_scaled, Call, Case, KINDS, PROFILES};
 use crate::damage::{any_list, damaged, mostly_good, said_form};
 use crate::list::List;
 use crate::random::Random;
-use crate::{make, pair, store};
+use crate::{make, narrow, pair, store};
 use reference::{HEAD, SLOT, STORE, VEHICLES};
 
 /// The request codes of document 01.
@@ -17,7 +17,7 @@ pub const REQUESTS: [u16; 25] = [
 ];
 
 pub fn case(r: &Random) -> Case {
-    match r.below(135) {
+    match r.below(151) {
         0..=13 => {
             let (list, form) = any_list(r);
             Case::new(Call::Judge, vec![list], vec![form])
@@ -36,6 +36,7 @@ pub fn case(r: &Random) -> Case {
         71..=82 => compose(r),
         83..=85 | 114..=122 => show(r),
         123..=134 => relay(r),
+        135..=150 => judge_profile(r),
         86..=91 => resolve(r),
         92..=94 => e_read(r),
         95..=99 => e_answer(r),
@@ -44,6 +45,21 @@ pub fn case(r: &Random) -> Case {
         106..=109 => moved(r, Call::ToForm1, [2, 1]),
         _ => gap(r),
     }
+}
+
+/// Mostly a list in a profile, or short of one by little, at times any list; and some of them damaged, so that 1 to 4 come before 34.
+fn judge_profile(r: &Random) -> Case {
+    let list = match r.one_in(10) {
+        true => make::list(r),
+        false => narrow::list(r),
+    };
+    let profile = r.of(&[1, 1, 2, 2, 2, r.of(&PROFILES)]);
+    let numbers = vec![said_form(r, &list), profile];
+    let octets = match r.one_in(5) {
+        true => damaged(r, list),
+        false => list.octets(),
+    };
+    Case::new(Call::JudgeProfile, vec![octets], numbers)
 }
 
 /// The number of a signal, mostly one that the list has.

@@ -196,7 +196,7 @@ fn signals(r: &Random, aim: &Aim, checks: &[u64]) -> Vec<Signal> {
 }
 
 /// The first start, at or past this one, of a field that shares no bit with a check.
-fn past_checks(checks: &[u64], mut start: u64, width: u64) -> u64 {
+pub fn past_checks(checks: &[u64], mut start: u64, width: u64) -> u64 {
     for &check in checks {
         if check < start + width && start < check + 2 {
             start = check + 2;
@@ -233,7 +233,7 @@ pub fn signal(r: &Random, checks: &[u64], kind: u64, start: u64, width: u64) -> 
     signal
 }
 
-fn codes(r: &Random, aim: usize, signals: &[Signal]) -> Vec<Code> {
+pub fn codes(r: &Random, aim: usize, signals: &[Signal]) -> Vec<Code> {
     let dense = aim >= DENSE;
     let mut codes = Vec::new();
     for (number, s) in signals.iter().enumerate() {

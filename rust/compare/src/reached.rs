@@ -5,6 +5,7 @@ use std::fmt;
 
 use crate::case::{is_scaled, Answer, Call, Case, KINDS};
 use crate::list::{longest, sizes, Route, Signal, MOST};
+use crate::profiled;
 use crate::relayed;
 use crate::store::{stamp_at, OLD_STORE};
 use reference::{Form, HEAD, HEARD, PREVIOUS, SIGNAL_SIZE, SLOT, STAMP, VEHICLES};
@@ -53,6 +54,7 @@ fn wanted(call: Call) -> Vec<Row> {
             ],
             [each("widest", &[48, 49, 63, 64]), refusals(&[1, 2, 3, 4])].concat(),
         ],
+        Call::JudgeProfile => [profiled::wanted(), refusals(&[1, 2, 3, 4, 34]), in_forms],
         Call::Extends => [
             [
                 vec![("yes", 0), ("no", 0)],
@@ -246,8 +248,8 @@ fn rows(case: &Case, answer: &Answer) -> Vec<Row> {
         Call::Show => show_rows(case.numbers[4], answer),
         Call::Marshal => vec![(lives(case, first), 0)],
         Call::Compose => vec![("type", case.numbers[1])],
-        // What became of its checks and signals is told by `relayed`.
-        Call::Relay => vec![],
+        // What is told of these stands in `profiled`, and in `relayed`.
+        Call::JudgeProfile | Call::Relay => vec![],
         Call::Resolve => vec![("address", case.numbers[0])],
         Call::ERead => vec![(["request", "report"][second as usize], 0)],
         Call::EAnswer => vec![("ok", 0)],
@@ -520,7 +522,7 @@ fn ends_inside_serial(list: &[u8], signals: usize) -> bool {
 }
 
 /// A count of a list, by its offset.
-fn count_at(list: &[u8], at: usize) -> Option<usize> {
+pub fn count_at(list: &[u8], at: usize) -> Option<usize> {
     let &octets = list.get(at..)?.first_chunk()?;
     Some(usize::from(u16::from_be_bytes(octets)))
 }
@@ -590,6 +592,7 @@ impl Reached {
             form_rows,
             length_rows,
             scaled_rows,
+            profiled::rows,
             relayed::rows,
         ];
         let all = all.map(|rows| rows(case, answer));
@@ -622,7 +625,7 @@ impl Reached {
 
 fn named((what, number): Row) -> String {
     match number {
-        0 if !["kind", "type", "form", "reason"]
+        0 if !["kind", "type", "form", "reason", "profile", "signals"]
             .iter()
             .any(|end| what.ends_with(end)) =>
         {
@@ -635,11 +638,11 @@ fn named((what, number): Row) -> String {
 impl fmt::Display for Reached {
     fn fmt(&self, f: &mut fmt::Formatter) -> fmt::Result {
         for call in Call::ALL {
-            write!(f, "{:12}", call.parameters().name)?;
+            write!(f, "{:14}", call.parameters().name)?;
             let of = self.wanted.iter().filter(|((of, _), _)| *of == call);
             for (i, ((_, row), count)) in of.enumerate() {
                 match i % 7 {
-                    0 if i > 0 => write!(f, "\n{:12}", "")?,
+                    0 if i > 0 => write!(f, "\n{:14}", "")?,
                     0 => {}
                     _ => write!(f, ", ")?,
                 }

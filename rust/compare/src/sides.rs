@@ -29,12 +29,17 @@ fn refused_by_wrappers(error: dustferrule::Error) -> Answer {
 macro_rules! side {
     ($side:ident, $library:ident, $refused:ident) => {
         pub fn $side(call: Call, mut lent: Lent) -> Answer {
-            use $library::{Extends, Form, Kind, Shown};
+            use $library::{Counts, Extends, Form, Kind, Profile, Shown};
             let refused = $refused;
             // As C says it: any number but 2 is form 1.
             let form = |number: u64| match number {
                 2 => Form::Two,
                 _ => Form::One,
+            };
+            // Any profile but 2 is the plain coach's.
+            let profile_of = |number: u64| match number {
+                2 => Profile::DrivingTrailer,
+                _ => Profile::PlainCoach,
             };
             // And any kind but these is the code.
             let kind_of = |number: u64| match number {
@@ -45,11 +50,15 @@ macro_rules! side {
                 _ => Kind::Code,
             };
             let done = |()| Answer::default();
+            let counts = |n: Counts| {
+                let counts = [n.checks, n.signals, n.codes, n.routes, n.version];
+                Answer::gives(counts.map(|count| count as u64))
+            };
             let result = match (call, &mut lent.areas[..], lent.numbers) {
-                (Call::Judge, [list], &[said]) => $library::judge(list, form(said)).map(|n| {
-                    let counts = [n.checks, n.signals, n.codes, n.routes, n.version];
-                    Answer::gives(counts.map(|count| count as u64))
-                }),
+                (Call::Judge, [list], &[said]) => $library::judge(list, form(said)).map(counts),
+                (Call::JudgeProfile, [list], &[said, profile]) => {
+                    $library::judge_profile(profile_of(profile), list, form(said)).map(counts)
+                }
                 (Call::Extends, [a, b], &[said, other]) => {
                     let which = |refused: Answer, which| {
                         Answer::with(refused.refusal, refused.carried, [0, which])
@@ -142,13 +151,20 @@ fn outcome(r: raw::df_outcome) -> Answer {
     Answer::refused(r.refusal, r.carried)
 }
 
+fn judged(r: raw::df_judged) -> Answer {
+    let counts = [r.checks, r.signals, r.codes, r.routes, r.version];
+    Answer::with(r.refusal, r.carried, counts)
+}
+
 /// The library as C calls it: every field of a result is kept, also those that an answer does not use.
 pub fn by_header(call: Call, mut lent: Lent) -> Answer {
     match (call, &mut lent.areas[..], lent.numbers) {
         (Call::Judge, [list], &[form]) => {
-            let r = unsafe { raw::df_judge(list.as_ptr(), list.len(), form as u8) };
-            let counts = [r.checks, r.signals, r.codes, r.routes, r.version];
-            Answer::with(r.refusal, r.carried, counts)
+            judged(unsafe { raw::df_judge(list.as_ptr(), list.len(), form as u8) })
+        }
+        (Call::JudgeProfile, [list], &[form, profile]) => {
+            let (list, len) = (list.as_ptr(), list.len());
+            judged(unsafe { raw::df_judge_profile(profile as u8, list, len, form as u8) })
         }
         (Call::Extends, [a, b], &[form, other]) => {
             let (form, other) = (form as u8, other as u8);

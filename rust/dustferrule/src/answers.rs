@@ -1,4 +1,4 @@
-//! What the calls answer, and the forms of a list that they are asked about.
+//! What the calls answer, and the forms and profiles of a list that they are asked about.
 
 use crate::numbers::{Error, Reason};
 
@@ -10,6 +10,18 @@ pub enum Form {
     One = 1,
     /// 18 octets each, of which the last two are a serial number, 0 for none.
     Two = 2,
+}
+
+/// By whose controllers a list is for: rules that are narrower than those of every list.
+#[derive(Debug, Clone, Copy, PartialEq, Eq, Hash)]
+#[repr(u8)]
+pub enum Profile {
+    /// At most 64 signals, all of type 0, each with a check, a time limit of 1 to 5,000 ms and a replacement that is a known code; every route
+    /// ends within 16 octets of data.
+    PlainCoach = 1,
+    /// The same, but for R1 signals, which there may be too, each with all its bits in octets 47-73 and under the check at the place that
+    /// [`crate::check_place`] gives for them.
+    DrivingTrailer = 2,
 }
 
 /// What a good list holds.

@@ -12,7 +12,7 @@ mod numbers;
 pub mod raw;
 
 pub use answers::{
-    Counts, EReading, Entry, Extends, Form, Kind, Members, Reading, Shown, ShownReading,
+    Counts, EReading, Entry, Extends, Form, Kind, Members, Profile, Reading, Shown, ShownReading,
 };
 pub use numbers::{Error, Reason, Refusal};
 
@@ -40,9 +40,8 @@ fn newer_library(what: &str, number: u32) -> ! {
 // SAFETY, of every `unsafe` below: a slice names as much memory as its length says, is never null, also when empty, and one that is
 // lent for writing overlaps no other.
 
-/// Judges a signal list. Refusals 1 to 4.
-pub fn judge(list: &[u8], form: Form) -> Result<Counts, Error> {
-    let judged = unsafe { raw::df_judge(list.as_ptr(), list.len(), form as u8) };
+/// What a good list holds, or its refusal.
+fn counts(judged: raw::df_judged) -> Result<Counts, Error> {
     let counts = Counts {
         checks: judged.checks as usize,
         signals: judged.signals as usize,
@@ -51,6 +50,17 @@ pub fn judge(list: &[u8], form: Form) -> Result<Counts, Error> {
         version: judged.version as usize,
     };
     unless_refused(judged.refusal, judged.carried, counts)
+}
+
+/// Judges a signal list. Refusals 1 to 4.
+pub fn judge(list: &[u8], form: Form) -> Result<Counts, Error> {
+    counts(unsafe { raw::df_judge(list.as_ptr(), list.len(), form as u8) })
+}
+
+/// Judges a signal list by a profile: what it accepts, [`judge`] accepts too, with the same answer. Refusals 1 to 4, then 34 at the first entry
+/// that breaks a rule; a 65th signal does, whatever it is.
+pub fn judge_profile(profile: Profile, list: &[u8], form: Form) -> Result<Counts, Error> {
+    counts(unsafe { raw::df_judge_profile(profile as u8, list.as_ptr(), list.len(), form as u8) })
 }
 
 /// Whether list `b`, of form `other`, extends list `a`, of form `form`.

@@ -79,6 +79,7 @@ numbered! {
         NoCheckPlace = 27, "no check place in the table";
         SerialSet = 32, "serial number set";
         FormOutput = 33, "output not of the needed length";
+        Profile = 34, "profile rule broken";
     }
 }
 
@@ -109,7 +110,7 @@ impl Reason {
 pub struct Error {
     /// The refusal.
     pub refusal: Refusal,
-    /// The offset of refusals 1 to 4, the signal number (from 0) of refusal 15; 0 with every other.
+    /// The offset of refusals 1 to 4 and 34, the signal number (from 0) of refusal 15; 0 with every other.
     pub carried: u64,
 }
 
@@ -119,7 +120,7 @@ impl fmt::Display for Error {
         let Error { refusal, carried } = self;
         write!(f, "refused {}", refusal.number())?;
         match refusal.number() {
-            1..=4 => write!(f, " at {carried}")?,
+            1..=4 | 34 => write!(f, " at {carried}")?,
             15 => write!(f, " signal {carried}")?,
             _ => {}
         }

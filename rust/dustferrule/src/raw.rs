@@ -1,5 +1,6 @@
 //! `include/dustferrule.h`, line for line: what the proved library exports. (Its lists of refusals and reasons are [`crate::Refusal`] and
-//! [`crate::Reason`], its forms are [`crate::Form`], its kinds [`crate::Kind`], and its units are those of [`crate::Shown`].)
+//! [`crate::Reason`], its forms are [`crate::Form`], its profiles [`crate::Profile`], its kinds [`crate::Kind`], and its units are those of
+//! [`crate::Shown`].)
 //!
 //! What the caller owes: each pointer with its length names memory that can be read (and written, where it is `*mut`), no longer than
 //! isize::MAX octets and aligned; an area that is written overlaps no other area of the same call; and no pointer is null, also with
@@ -131,6 +132,8 @@ pub struct df_e_reading {
 
 extern "C" {
     pub fn df_judge(list: *const u8, list_len: usize, form: u8) -> df_judged;
+
+    pub fn df_judge_profile(profile: u8, list: *const u8, list_len: usize, form: u8) -> df_judged;
 
     pub fn df_extends(
         a: *const u8,

@@ -1,7 +1,8 @@
 //! Refusals and reasons by number and in words, and the refusals of calls as errors.
 
 use dustferrule::{
-    compose, find_signal, judge, read, show, Error, Form, Kind, Reason, Refusal, STORE_OCTETS,
+    compose, find_signal, judge, judge_profile, read, show, Error, Form, Kind, Profile, Reason,
+    Refusal, STORE_OCTETS,
 };
 
 /// The list L of document 01.
@@ -16,7 +17,7 @@ fn each_number_is_there_once() {
         .iter()
         .map(|refusal| refusal.number())
         .collect();
-    assert_eq!(refusals, (1..=27).chain(32..=33).collect::<Vec<u8>>());
+    assert_eq!(refusals, (1..=27).chain(32..=34).collect::<Vec<u8>>());
     let reasons: Vec<u8> = Reason::ALL.iter().map(|reason| reason.number()).collect();
     assert_eq!(reasons, (0..=8).collect::<Vec<u8>>());
     for &refusal in Refusal::ALL {
@@ -26,7 +27,7 @@ fn each_number_is_there_once() {
         assert_eq!(Reason::of(reason.number().into()), Some(reason));
         assert_eq!(reason.is_live(), reason.number() < 2);
     }
-    for none in [0, 28, 31, 34] {
+    for none in [0, 28, 31, 35] {
         assert_eq!(Refusal::of(none), None);
     }
     assert_eq!(Reason::of(9), None);
@@ -67,6 +68,12 @@ fn errors_say_what_they_carry() {
         error.to_string(),
         "refused 26: scaled kind, with width not 16"
     );
+
+    // Its signal is of R1, which a plain coach's list has none of.
+    let error = judge_profile(Profile::PlainCoach, &L, Form::One).unwrap_err();
+    assert_eq!((error.refusal, error.carried), (Refusal::Profile, 6));
+    assert_eq!(error.to_string(), "refused 34 at 6: profile rule broken");
+    assert!(judge_profile(Profile::DrivingTrailer, &L, Form::One).is_ok());
 }
 
 #[test]

@@ -7,7 +7,7 @@
 extern crate self as reference;
 
 use dustferrule::Error;
-pub use dustferrule::{Counts, EReading, Entry, Form, Kind, Members, Shown};
+pub use dustferrule::{Counts, EReading, Entry, Form, Kind, Members, Profile, Shown};
 
 #[derive(Debug, Clone, Copy, PartialEq, Eq)]
 pub struct Refusal {
@@ -53,6 +53,7 @@ macro_rules! calls {
 
 calls! {
     judge(list: &[u8], form: Form) -> Counts;
+    judge_profile(profile: Profile, list: &[u8], form: Form) -> Counts;
     signal_entry(list: &[u8], form: Form, signal: u64) -> Entry;
     find_signal(list: &[u8], form: Form, kind: u64, start: u64) -> u64;
     serial(list: &[u8], form: Form, signal: u64) -> u16;
@@ -126,6 +127,8 @@ mod form;
 mod list;
 #[path = "../../reference/tests/marshal.rs"]
 mod marshal;
+#[path = "../../reference/tests/profile.rs"]
+mod profile;
 #[path = "../../reference/tests/reading.rs"]
 mod reading;
 #[path = "../../reference/tests/relay.rs"]

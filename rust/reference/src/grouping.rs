@@ -74,9 +74,21 @@ pub fn check_place(bit: u64) -> Result<u64, Refusal> {
     Ok(u64::from(PLACES[((bit - FIRST) / 4) as usize]))
 }
 
+/// Whether all bits from `first` to before `end` stand under this check place: no place has two rows.
+#[inline]
+pub(crate) fn covers(place: u16, first: u16, end: u16) -> bool {
+    let row = ROWS.iter().find(|row| row.place == place);
+    row.is_some_and(|row| row.first <= first && end <= row.end)
+}
+
 #[cfg(test)]
 mod tests {
     use super::*;
+
+    #[test]
+    fn no_place_has_two_rows() {
+        assert!(ROWS.is_sorted_by(|a, b| a.place < b.place));
+    }
 
     #[test]
     fn octets_47_to_73_are_covered_once() {

@@ -1,7 +1,7 @@
 //! The gateway library of document 01, written a second time and independently: taking R-telegrams into
 //! a store, the gap between two of them, sweeping it, reading, showing and marshalling signals, composing R-telegrams, also anew from
-//! what was taken, judging signal lists and moving them from one form to the other, resolving addresses, and reading and answering
-//! E-telegrams.
+//! what was taken, judging signal lists, also by a profile, and moving them from one form to the other, resolving addresses, and reading
+//! and answering E-telegrams.
 //!
 //! Every function is total: it answers or refuses for every input and never panics. Every public call
 //! tests its own input, and a refusal changes no lent octet.
@@ -18,6 +18,7 @@ mod grouping;
 mod list;
 mod marshal;
 mod octets;
+mod profile;
 mod reading;
 mod refusal;
 mod relay;
@@ -35,6 +36,7 @@ pub use grouping::check_place;
 pub use list::{judge, Counts};
 pub use marshal::marshal;
 pub use octets::{read_field, write_field};
+pub use profile::{judge_profile, Profile};
 pub use reading::{read, Reading};
 pub use refusal::Refusal;
 pub use relay::relay;

@@ -213,6 +213,17 @@ impl<'a> List<'a> {
         })
     }
 
+    /// What the judging program prints.
+    pub fn counts(&self) -> Counts {
+        Counts {
+            checks: self.checks.len(),
+            signals: self.signals.len(),
+            codes: self.codes.len(),
+            routes: self.routes.len(),
+            version: usize::from(self.version),
+        }
+    }
+
     /// The place of the check a signal names, as a bit address; 0, which no check has, if it names none.
     /// "Check 0 is none, k names the k-th check".
     #[inline]
@@ -433,12 +444,5 @@ pub struct Counts {
 
 /// Judges a signal list: refusals 1 to 4.
 pub fn judge(list: &[u8], form: Form) -> Result<Counts, Refusal> {
-    let list = List::judged(list, form)?;
-    Ok(Counts {
-        checks: list.checks.len(),
-        signals: list.signals.len(),
-        codes: list.codes.len(),
-        routes: list.routes.len(),
-        version: usize::from(list.version),
-    })
+    List::judged(list, form).map(|list| list.counts())
 }

@@ -3,10 +3,11 @@
 /// A refusal of document 01's table, or of document 02.
 #[derive(Debug, Clone, Copy, PartialEq, Eq)]
 pub struct Refusal {
-    /// The number in the table, 1 to 27; document 02 has 32 and 33.
+    /// The number in the table, 1 to 27; document 02 has 32 to 34.
     pub number: u8,
     /// "1-4 also return the offset of the section's count (1, 2), of the entry (3) or of the first octet
-    /// too many (4); 15 returns the first signal at fault", counted from 0. 0 with every other number.
+    /// too many (4); 15 returns the first signal at fault", counted from 0; "34 profile rule broken, with the
+    /// entry's offset". 0 with every other number.
     pub carried: u64,
 }
 
@@ -16,7 +17,7 @@ impl Refusal {
         Refusal { number, carried: 0 }
     }
 
-    /// A refusal with an offset (1-4) or a signal number (15).
+    /// A refusal with an offset (1-4, 34) or a signal number (15).
     pub(crate) const fn with(number: u8, carried: usize) -> Self {
         Refusal {
             number,

@@ -7,24 +7,11 @@ use reference::{
     Extends, Form,
 };
 
-use support::{make, plain, refusal, Random, EASE, L, SERIAL_SIZE, SIGNAL_SIZE};
+use support::{make, plain, refusal, widened, Random, EASE, L, SERIAL_SIZE, SIGNAL_SIZE};
 
 /// L in form 2 with serial number 4.3, packed.
 fn wide_l() -> Vec<u8> {
     [&L[..22], &[0x40, 0xC0], &L[22..]].concat()
-}
-
-/// The octets of a list of form 1 with these octets behind each signal entry.
-fn widened(list: &[u8], checks: usize, serials: &[[u8; SERIAL_SIZE]]) -> Vec<u8> {
-    let first = 2 + 2 * checks + 2;
-    let (entries, behind) = list[first..].split_at(SIGNAL_SIZE * serials.len());
-    let mut wide = list[..first].to_vec();
-    for (entry, serial) in entries.chunks(SIGNAL_SIZE).zip(serials) {
-        wide.extend_from_slice(entry);
-        wide.extend_from_slice(serial);
-    }
-    wide.extend_from_slice(behind);
-    wide
 }
 
 #[test]

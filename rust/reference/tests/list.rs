@@ -380,34 +380,9 @@ fn routes() {
 
 #[test]
 fn the_r1_grouping() {
-    let expected = |octet: u64, bit: u64| match (octet, bit) {
-        (47..=53, _) => Some((41, 0)),
-        (54..=57, _) => Some((41, 2)),
-        (58, _) => Some((41, 4)),
-        (59..=61, _) => Some((41, 6)),
-        (62, 0..=3) => Some((42, 0)),
-        (62, _) => Some((42, 2)),
-        (63, _) => Some((42, 4)),
-        (64, _) => Some((42, 6)),
-        (65, _) => Some((43, 0)),
-        (66, _) => Some((43, 2)),
-        (67, _) => Some((43, 4)),
-        (68, _) => Some((43, 6)),
-        (69, _) => Some((44, 0)),
-        (70, _) => Some((44, 2)),
-        (71, _) => Some((44, 4)),
-        (72, _) => Some((44, 6)),
-        (73, _) => Some((45, 0)),
-        _ => None,
-    };
-    for octet in 1..=300 {
-        for bit in 0..8 {
-            let place = expected(octet, bit).map(|(octet, bit)| 8 * (octet - 1) + bit);
-            assert_eq!(
-                check_place(8 * (octet - 1) + bit),
-                place.ok_or(refusal(27, 0))
-            );
-        }
+    for bit in 0..2_400 {
+        let place = plain::check_place(bit);
+        assert_eq!(check_place(bit), place.ok_or(refusal(27, 0)));
     }
     for far in [u64::MAX, 1 << 32, (1 << 32) + 400, (1 << 34) + 368] {
         assert_eq!(check_place(far), Err(refusal(27, 0)));

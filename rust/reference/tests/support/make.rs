@@ -1,6 +1,6 @@
 //! Makers of lists, stores and values.
 
-use super::plain::{Code, List, Route, Signal};
+use super::plain::{self, Code, List, Route, Signal};
 use super::{Random, HEAD, HEARD, SIGNAL_SIZE, SLOT, STAMP, STORE};
 
 /// The greatest value of so many bits, 1 to 64. A replacement has 48 at most.
@@ -303,4 +303,152 @@ pub fn know_replacements(r: &mut Random, list: &mut List) {
             list.signals[i].replacement = r.within(range.low, range.high);
         }
     }
+}
+
+/// A list in the profile of driving trailers; where no R1 signals are asked for, in that of plain coaches too.
+pub fn list_in_profile(r: &mut Random, r1: bool) -> List {
+    let mut list = List {
+        checks: vec![16, 18, 24],
+        ..List::default()
+    };
+    let common = list.checks.len() as u64;
+    let wide = r.of(&[1, 4, 16, 20, 64]);
+    let end = r.of(&[40, 100, 320]);
+    fill(r, &mut list, 0, (26, end), wide, |r| r.within(1, common));
+    let every = r.of(&[1, 2, 8]);
+    for place in (320..=352).step_by(2) {
+        if r1 && r.one_in(every) {
+            list.checks.push(place);
+            let check = list.checks.len() as u64;
+            fill(r, &mut list, 1, row(place), wide, |_| check);
+        }
+    }
+    list.signals.truncate(64);
+    narrow_codes(r, &mut list);
+    narrow_routes(r, &mut list);
+    list
+}
+
+/// The bits under a check place of the table, from the first to before the end.
+fn row(place: u64) -> (u64, u64) {
+    let mut bits = (368..584).filter(|&bit| plain::check_place(bit) == Some(place));
+    let first = bits.next().unwrap();
+    (first, 1 + bits.next_back().unwrap())
+}
+
+/// Signals of a type in these bits, each under a check.
+fn fill(
+    r: &mut Random,
+    list: &mut List,
+    kind: u64,
+    (mut at, end): (u64, u64),
+    wide: u64,
+    check: impl Fn(&mut Random) -> u64,
+) {
+    loop {
+        let (start, width) = (at + r.of(&[0, 0, 1, 7]), r.within(1, wide));
+        if start + width > end {
+            return;
+        }
+        list.signals.push(Signal {
+            start,
+            width,
+            kind,
+            check: check(r),
+            since: r.within(1, 3),
+            limit: r.of(&[1, 2, 1_000, 4_999, 5_000]),
+            replacement: r.word() & top(width.min(48)),
+        });
+        at = start + width;
+    }
+}
+
+/// Codes, among them the replacement, of some of the signals that may have any.
+fn narrow_codes(r: &mut Random, list: &mut List) {
+    for (signal, s) in (0..).zip(&list.signals) {
+        if s.width > 16 || r.one_in(3) {
+            continue;
+        }
+        let low = s.replacement.saturating_sub(r.of(&[0, 0, 3]));
+        let high = (s.replacement + r.of(&[0, 0, 3])).min(top(s.width));
+        let mut ranges = vec![(low, high)];
+        if low >= 2 && r.one_in(2) {
+            ranges.insert(0, (0, low - 2));
+        }
+        if high + 2 <= top(s.width) && r.one_in(2) {
+            ranges.push((high + 2, top(s.width)));
+        }
+        let codes = ranges.into_iter();
+        list.codes
+            .extend(codes.map(|(low, high)| Code { signal, low, high }));
+    }
+}
+
+/// Routes within 16 octets.
+fn narrow_routes(r: &mut Random, list: &mut List) {
+    let mut at = 0;
+    while !list.signals.is_empty() && !r.one_in(30) {
+        let signal = r.below(list.signals.len() as u64);
+        let start = at + r.of(&[0, 0, 3]);
+        at = start + list.signals[signal as usize].width;
+        if at > 128 {
+            return;
+        }
+        list.routes.push(Route {
+            signal,
+            vehicle: r.within(1, 63),
+            zero: 0,
+            start,
+        });
+    }
+}
+
+/// Breaks a rule of the profiles, or comes near to it; at times the list is no good any more.
+pub fn near_breach(r: &mut Random, list: &mut List) {
+    if list.signals.is_empty() {
+        return;
+    }
+    let checks = list.checks.len() as u64;
+    let i = r.below(list.signals.len() as u64) as usize;
+    let s = &mut list.signals[i];
+    match r.below(9) {
+        0 => s.limit = r.of(&[0, 1, 5_000, 5_001, 600_000]),
+        1 => s.check = 0,
+        2 => s.check = r.within(1, checks),
+        3 => s.start = r.of(&[s.start + 1, s.start - 1]),
+        4 => s.width = (s.width + 1).min(64),
+        5 => s.replacement = r.word() & top(s.width.min(48)),
+        6 => {
+            let of_r1 = list.signals[i..].iter_mut().filter(|s| s.kind == 1);
+            of_r1.for_each(|s| s.kind = 2);
+        }
+        7 => {
+            let start = 128 + r.of(&[0, 1, 500]) - s.width;
+            list.routes.push(Route {
+                signal: i as u64,
+                vehicle: 1,
+                zero: 0,
+                start,
+            });
+        }
+        _ => crowd(list, r.of(&[63, 64, 65, 66])),
+    }
+}
+
+/// So many signals, or a few more: those that are not common, and before them common ones of one bit.
+fn crowd(list: &mut List, wanted: usize) {
+    list.signals.retain(|s| s.kind != 0);
+    list.codes.clear();
+    list.routes.clear();
+    let missing = wanted.saturating_sub(list.signals.len()) as u64;
+    let common = (26..26 + missing).map(|start| Signal {
+        start,
+        width: 1,
+        kind: 0,
+        check: 1,
+        since: 1,
+        limit: 1,
+        replacement: 0,
+    });
+    list.signals.splice(0..0, common);
 }

@@ -38,6 +38,19 @@ pub fn r1(octet_41: u8, octet_54: u8) -> [u8; TELEGRAM] {
     telegram
 }
 
+/// The octets of a list of form 1 with these octets behind each signal entry.
+pub fn widened(list: &[u8], checks: usize, serials: &[[u8; SERIAL_SIZE]]) -> Vec<u8> {
+    let first = 2 + 2 * checks + 2;
+    let (entries, behind) = list[first..].split_at(SIGNAL_SIZE * serials.len());
+    let mut wide = list[..first].to_vec();
+    for (entry, serial) in entries.chunks(SIGNAL_SIZE).zip(serials) {
+        wide.extend_from_slice(entry);
+        wide.extend_from_slice(serial);
+    }
+    wide.extend_from_slice(behind);
+    wide
+}
+
 /// C-23: one signal from R1 octet 51 on, with no check, 5,000 ms, and this width and replacement.
 pub fn list_v(width: u8, replacement: u64) -> Vec<u8> {
     let entry = [0x01, 0x90, width, 1, 0, 1, 0, 0, 0x13, 0x88];

@@ -296,6 +296,70 @@ pub fn judge_of(list: &[u8], size: usize) -> Result<Counts, Refusal> {
     })
 }
 
+/// The R1 grouping, row by row.
+pub fn check_place(bit: u64) -> Option<u64> {
+    let (octet, bit) = match (bit / 8 + 1, bit % 8) {
+        (47..=53, _) => (41, 0),
+        (54..=57, _) => (41, 2),
+        (58, _) => (41, 4),
+        (59..=61, _) => (41, 6),
+        (62, 0..=3) => (42, 0),
+        (62, _) => (42, 2),
+        (63, _) => (42, 4),
+        (64, _) => (42, 6),
+        (65, _) => (43, 0),
+        (66, _) => (43, 2),
+        (67, _) => (43, 4),
+        (68, _) => (43, 6),
+        (69, _) => (44, 0),
+        (70, _) => (44, 2),
+        (71, _) => (44, 4),
+        (72, _) => (44, 6),
+        (73, _) => (45, 0),
+        _ => return None,
+    };
+    Some(8 * (octet - 1) + bit)
+}
+
+/// Every rule of every signal, then of every route; with signal entries of so many octets.
+pub fn judge_profile(allows_r1: bool, list: &[u8], size: usize) -> Result<Counts, Refusal> {
+    let counts = judge_of(list, size)?;
+    let good = List::judged_of(list, size)?;
+    let breach = |offset: usize| {
+        Err(Refusal {
+            number: 34,
+            carried: offset as u64,
+        })
+    };
+    let mut offset = 2 + 2 * good.checks.len() + 2;
+    for (i, s) in good.signals.iter().enumerate() {
+        let rules = [
+            s.kind == 0 || (s.kind == 1 && allows_r1),
+            i < 64,
+            s.check != 0,
+            (1..=5_000).contains(&s.limit),
+            good.knows(i as u64, s.replacement),
+            s.kind == 0
+                || (s.start..s.end()).all(|bit| {
+                    let place = check_place(bit);
+                    place.is_some() && place == good.place(s)
+                }),
+        ];
+        if rules.contains(&false) {
+            return breach(offset);
+        }
+        offset += size;
+    }
+    offset += 2 + 6 * good.codes.len() + 2;
+    for r in &good.routes {
+        if r.start + good.signals[r.signal as usize].width > 8 * 16 {
+            return breach(offset);
+        }
+        offset += 6;
+    }
+    Ok(counts)
+}
+
 /// Whether `b` extends `a`, code by code.
 pub fn extends(a: &List, b: &List) -> bool {
     let alike = |of_a: &Signal, of_b: &Signal| {
