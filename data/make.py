@@ -1,8 +1,8 @@
 #!/usr/bin/env python3
 """Writes the signal lists of this folder from signals.csv. data/README.md says what is the sources' and what is a choice.
 
-    data/make.py            writes coach.list, coach-2.list, coach-next.list, coach-wrong.list, plain-coach.list, driving-trailer.list,
-                            counters.list and L.list
+    data/make.py            writes coach.list, coach-2.list, coach-next.list, coach-wrong.list, coach-off.list, plain-coach.list,
+                            driving-trailer.list, counters.list and L.list
     data/make.py --check    only says whether they are as they would be written, and whether the programs' table of kinds is the column `kind`
 """
 import csv
@@ -92,6 +92,14 @@ def successor(signals, since):
     return signals + [{"telegram": "R1", "type": 1, "start": 524, "width": 4, "check": 338, "since": since, "limit": LIMIT, "replacement": 0, "known": [(0, 3)]}]
 
 
+def one_off(signals):
+    """A check number raised by one: 4.3 names the check after its own."""
+    for s in signals:
+        if (s["telegram"], s["start"]) == ("R1", 424):
+            s["check"] = CHECKS[CHECKS.index(s["check"]) + 1]
+    return signals
+
+
 def is_grouped(s):
     """Whether a signal stands wholly under the check place that the grouping gives for its bits."""
     return all(GROUPING.get(bit) == s["check"] for bit in range(s["start"], s["start"] + s["width"]))
@@ -156,6 +164,7 @@ def main():
         "coach-2.list": pack(list(read_signals()), ROUTES, form=2),
         "coach-next.list": pack(successor(list(read_signals()), 3), ROUTES),
         "coach-wrong.list": pack(successor(list(read_signals()), 2), ROUTES),
+        "coach-off.list": pack(one_off(list(read_signals())), ROUTES),
         "plain-coach.list": profiled(plain_coach(read_signals()), PLAIN_COACH_ROUTES),
         "driving-trailer.list": profiled(driving_trailer(read_signals()), DRIVING_TRAILER_ROUTES),
     }

@@ -39,6 +39,12 @@ enum df_form { DF_FORM_1 = 1, DF_FORM_2 = 2 };
 /* The profiles, by whose controllers a list is for; a number that is none of these is the plain coach's, the narrower. */
 enum df_profile { DF_PLAIN_COACH = 1, DF_DRIVING_TRAILER = 2 };
 
+/* What the second of two lists lacks to extend the first. */
+enum df_breaks {
+    DF_BREAKS_NONE = 0, DF_BREAKS_WIDTH = 1, DF_BREAKS_CHECK = 2, DF_BREAKS_SINCE = 3, DF_BREAKS_CODES = 4, DF_BREAKS_REMOVED = 5,
+    DF_BREAKS_NOT_NEWER = 6
+};
+
 /* How a value is shown; a number that is none of these shows the code. */
 enum df_kind { DF_CODE = 0, DF_SPEED = 1, DF_PERCENTAGE = 2, DF_SIGNED_PERCENTAGE = 3, DF_CURRENT = 4 };
 
@@ -117,6 +123,16 @@ typedef struct { uint32_t refusal; uint64_t carried; uint64_t checks, signals, c
 /* which: 0 no list was refused, 1 the first list, 2 the second; extends: 1 yes, 0 no */
 typedef struct { uint32_t refusal; uint32_t which; uint64_t carried; uint32_t extends; } df_extending;
 
+/* which: as of df_extending; found: 1 a difference, 0 no more, and then all other fields are 0; breaks: a number of df_breaks, the first that
+ * applies; key: of a signal its type * 1024 + its start, of a route its destination start; first, second: its number in that list, from 0, and
+ * where the list has none, the number of all that it has */
+typedef struct {
+    uint32_t refusal; uint32_t which; uint64_t carried; uint32_t found; uint64_t breaks, key, first, second;
+} df_change;
+
+/* which, found: as of df_change; low, high: the lowest and the highest code of the range */
+typedef struct { uint32_t refusal; uint32_t which; uint64_t carried; uint32_t found; uint64_t low, high; } df_range;
+
 /* A signal's entry as it stands in the list, and the place of its check as a bit address, 0 for none.
  * width: 1-64; type: 0 common, 1 R1, 2 R2; check: 0 none, k the k-th check; limit: ms, 0 none; replacement: below 2^48 and 2^width */
 typedef struct {
@@ -160,6 +176,21 @@ df_judged df_judge_profile(uint8_t profile, const uint8_t *list, size_t list_len
 
 /* Does the second list, of form `other`, extend the first? Refusals 1-4 of the first list that is refused. */
 df_extending df_extends(const uint8_t *a, size_t a_len, uint8_t form, const uint8_t *b, size_t b_len, uint8_t other);
+
+/* The next signal, at the key `from` or above, that the second list has and the first has not, or the other way round, or both have with another
+ * width, check place, since-version, time limit or replacement or, where the widths are equal and at most 16, with other known codes. A signal is
+ * the same in both lists by its type and start. To go on behind a difference, ask from its key + 1. The second list extends the first exactly if
+ * no difference breaks anything. Refusals 1-4 of the first list that is refused. */
+df_change df_signal_change(const uint8_t *a, size_t a_len, uint8_t form, const uint8_t *b, size_t b_len, uint8_t other, uint64_t from);
+
+/* The next destination start, the bit `from` or above, at which one list alone has a route, or both have one of another vehicle or of another
+ * signal, by type and start. Refusals 1-4 of the first list that is refused. */
+df_change df_route_change(const uint8_t *a, size_t a_len, uint8_t form, const uint8_t *b, size_t b_len, uint8_t other, uint64_t from);
+
+/* The next range, as long as possible, of codes that the signal at a key knows in the second list and not in the first, if it starts at the code
+ * `from` or above; one that starts below is passed over. There is none where one list lacks the signal, or the widths differ or are above 16.
+ * With the lists exchanged it gives what was lost. Refusals 1-4 of the first list that is refused. */
+df_range df_codes_gained(const uint8_t *a, size_t a_len, uint8_t form, const uint8_t *b, size_t b_len, uint8_t other, uint64_t key, uint64_t from);
 
 /* The entry of a signal by its number, from 0. Refusals 1-4, then 11. */
 df_entry df_signal_entry(const uint8_t *list, size_t list_len, uint8_t form, uint64_t signal);

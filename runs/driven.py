@@ -16,14 +16,15 @@ import time
 import printed
 
 ROOT = printed.ROOT
-PROGRAMS = ("judge", "extends", "convert", "take", "sweep", "believe", "differ", "marshal", "compose", "relay")
+PROGRAMS = ("judge", "extends", "compare", "convert", "take", "sweep", "believe", "differ", "marshal", "compose", "relay")
 TOOLS = ("sh", "awk", "readlink", "uname")  # what an installed program needs beside itself
 BUILT = ("bin", "stamp")  # of target/: what a run goes by that finds all proved
 OTHER = os.uname().machine != "x86_64"
 COACH, NEXT, WRONG, STORE = "data/coach.list", "data/coach-next.list", "data/coach-wrong.list", "data/scene/train.store"
-COACH_2, PLAIN = "data/coach-2.list", "data/plain-coach.list"
+COACH_2, PLAIN, OFF = "data/coach-2.list", "data/plain-coach.list", "data/coach-off.list"
 OK = "list ok checks=48 signals=165 codes=41 routes=14 version=2\n"
 OK_PLAIN = "list ok profile=plain-coach checks=11 signals=64 codes=3 routes=14 version=2\n"
+OFF_PAGE = "! changed  R1 octet 54 bits 0-3  check octet 41 bits 2-3 -> octet 41 bits 4-5  breaks extending: check place\nextends: no\n"
 
 count, amiss = 0, []
 
@@ -91,6 +92,15 @@ def statuses(how, start, env=None):
     end(0, ["extends", COACH, COACH_2, "second-form2"], "extends: yes\n")
     end(2, ["extends", COACH, STORE], err="refused ")
     end(2, ["extends", COACH, "data/none"], err="error: ")
+    end(0, ["compare", COACH, COACH], "extends: yes\n")
+    end(0, ["compare", COACH, COACH_2, "second-form2"], "extends: yes\n")
+    end(1, ["compare", COACH, OFF], OFF_PAGE)
+    end(1, ["compare", OFF, COACH, "table"], "what\tchange\ttype\tstart\tbreaks\tfield\tfrom\tto\nsignal\tchanged\tR1\t424\t2\tcheck\t324\t322\nextends: no\n")
+    for second, last in ((NEXT, "\nextends: yes\n"), (WRONG, "\nextends: no\n")):
+        done = run(start("compare") + [COACH, second], env=env)
+        check(f"{how}, compare with {second}", done.returncode == 1 and done.stdout.endswith(last) and not done.stderr, done)
+    end(2, ["compare", COACH, COACH_2], err="refused 3 at 116 (second list): ")
+    end(2, ["compare", "data/none", COACH], err="error: FIRST 'data/none': ")
     for status, second, last in ((0, COACH, r"differ: 0 of \d+ lines"), (1, NEXT, r"differ: 7 of \d+ lines")):
         done = run(start("differ") + [COACH, second, STORE, "9000"], env=env)
         found = re.fullmatch(last, done.stdout.splitlines()[-1] if done.stdout else "")
@@ -111,7 +121,7 @@ def statuses(how, start, env=None):
         for word in ("help", "--help", "-h"):
             done = run(start(name) + [word], env=env)
             check(f"{how}, {name} {word}", done.returncode == 0 and done.stdout.startswith(name + " ") and not done.stderr, done)
-            check(f"{how}, {name} {word} says its status", name not in ("extends", "differ") or "`diff`" in done.stdout)
+            check(f"{how}, {name} {word} says its status", name not in ("extends", "differ", "compare") or "`diff`" in done.stdout)
     with open("/dev/full", "w") as full:
         done = subprocess.run(start("judge") + [COACH], cwd=ROOT, stdout=full, stderr=subprocess.DEVNULL, env=env, timeout=60)
     check(f"{how}, an answer that cannot be written", done.returncode == 2, done.returncode)
@@ -131,6 +141,7 @@ def status():
         for what, script, out in (("is cut short", "echo list ok; exit 3", "list ok\n"), ("prints nothing", "", ""), ("is killed", "kill -9 $$", "")):
             done = run([os.path.join(ROOT, "run"), "judge", COACH], env=stands_in(script))
             check(f"a program that {what}", done.returncode == 2 and done.stdout == out, done)
+        ends("a compare without a verdict", run([os.path.join(ROOT, "run"), "compare"], env=stands_in("echo '  changed  R1'")), 2, "  changed  R1\n")
         ends("a differ that does not count", run([os.path.join(ROOT, "run"), "differ"], env=stands_in("echo first")), 2, "first\n")
         # A long answer comes while the program goes on: it waits for what is done only once the first line is there.
         long = "i=0; while [ $((i += 1)) -le 20000 ]; do echo line $i; done; for i in 1 2 3 4 5; do [ -e $go ] || sleep 1; done; ls $go"
@@ -166,6 +177,9 @@ def standard_input():
     ends("judge - under a profile", given(PLAIN, "judge", "-", "plain-coach"), 0, OK_PLAIN)
     ends("extends - of the first", given(COACH, "extends", "-", NEXT), 0, "extends: yes\n")
     ends("extends - of the second", given(WRONG, "extends", COACH, "-"), 1, "extends: no\n")
+    ends("compare - of the first", given(COACH, "compare", "-", OFF), 1, OFF_PAGE)
+    ends("compare - of the second", given(COACH, "compare", COACH, "-"), 0, "extends: yes\n")
+    ends("compare - twice", given(COACH, "compare", "-", "-"), 2, err="error: ")
     ends("extends - twice", given(COACH, "extends", "-", "-"), 2, err="error: ")
     ends("a number -", given(COACH, "believe", COACH, STORE, "-"), 2, err="error: ")
     both = run([me, "differ", NEXT, NEXT, STORE, "9000", "behind", STORE, "7000", "1"]).stdout

@@ -163,6 +163,7 @@ FILES = {
     "units.list": UNITS, "units-2.list": UNITS_2, "beside.list": BESIDE, "units-heard": UNITS_HEARD,
     "relayed": RELAYED, "last": LAST, "under-L": slots.store(*(slots.slot(6000, telegram) for telegram in UNDER_L)),
     "two.list": TWO, "under-two": slots.store(*(slots.slot(6000, telegram) for telegram in UNDER_TWO), slots.slot(6000, b"\x12" + UNDER_TWO[3][1:])),
+    "wrong.list": data("coach-wrong.list"), "off.list": data("coach-off.list"), "counters.list": data("counters.list"),
 }
 
 
@@ -234,11 +235,11 @@ def no_number(name, words, i, bad=("", "x", "-1", "+1", "1.0", " 1", "1 ", "0x1"
         yield words[:i] + [b] + words[i + 1:], error(f"{name} '{b}': {MOST}")
 
 
-def no_list(words, i, name="LIST", of=""):
-    """The words with each bad list in place i."""
+def no_list(words, i, name="LIST", of="", entry=""):
+    """The words with each bad list in place i; `entry` is what is said of one at fault."""
     for file, line in (
         ("ends.list", f"1 at 36{of}: list ends inside a count or a section"), ("empty", f"1 at 0{of}: list ends inside a count or a section"),
-        ("above.list", f"2 at 0{of}: count above its limit"), ("broken.list", f"3 at 2{of}: entry breaks its rule"),
+        ("above.list", f"2 at 0{of}: count above its limit"), ("broken.list", f"3 at 2{of}: entry breaks its rule{entry}"),
         ("more.list", f"4 at 44{of}: octets after the routes"), ("huge.list", f"4 at {len(lists.LONGEST)}{of}: octets after the routes"),
     ):
         yield words[:i] + [file] + words[i + 1:], refused(line)
@@ -895,6 +896,59 @@ def relay_table():
     yield from no_number("VEHICLE", words, 4)
 
 
+def compared(*lines):
+    """Lines of columns, and the verdict."""
+    return says("\n".join([line.replace(" ", "\t") for line in lines[:-1]] + [lines[-1]]))
+
+
+def compare_table():
+    words = ["compare", "coach.list", "next.list"]
+    text = "compare FIRST SECOND [first-form2] [second-form2] [table]"
+    first, second = "first-form2", "second-form2"
+    yield ["compare", "help"], as_in("compare-help")
+    yield from usage("compare", (2,), text)
+    # the real list beside its successor, one that is none, one with a validity pair a place off, and itself; and turned round
+    for name in ("next", "wrong", "off"):
+        yield ["compare", "coach.list", f"{name}.list"], as_in(f"compare-{name}")
+        yield ["compare", f"{name}.list", "coach.list"], as_in(f"compare-{name}-turned")
+    for name in ("coach.list", "L.list", "longest.list", "zeros-8"):
+        yield ["compare", name, name], says("extends: yes")
+        yield ["compare", name, name, "table"], says("extends: yes")
+    yield ["compare", "coach.list", "wrong.list", "table"], as_in("compare-wrong-table")
+    yield ["compare", "coach.list", "off.list", "table"], compared("what change type start breaks field from to", "signal changed R1 424 2 check 322 324", "extends: no")
+    yield ["compare", "L.list", "counters.list"], as_in("compare-counters")
+    yield ["compare", "L.list", "counters.list", "table"], as_in("compare-counters-table")
+    yield ["compare", "coach.list", "L.list"], as_in("compare-L")
+    # either list in form 2 or both: a line has the serial numbers of those that are, both where they differ
+    yield ["compare", "coach.list", "coach-2.list", second], says("extends: yes")
+    yield ["compare", "coach-2.list", "coach.list", first, "table"], says("extends: yes")
+    for behind in ([first, second], [second, first]):
+        yield ["compare", "coach-2.list", "coach-2.list", *behind], says("extends: yes")
+        yield ["compare", "coach-2.list", "next-2.list", *behind], as_in("compare-form2")
+    yield ["compare", "coach-2.list", "next-2.list", second, "table", first], as_in("compare-form2-table")
+    yield ["compare", "coach-2.list", "wrong.list", first], as_in("compare-form2-first")
+    yield ["compare", "off.list", "coach-2.list", "table", second], compared(
+        "what change type start serial_1 serial_2 breaks field from to", "signal changed R1 424 - 4.3 2 check 324 322", "extends: no")
+    # a list that is refused, the first of two, and nothing is compared
+    entry = ": check 1, octet 3 bits 1-2, rule 1: its address is odd"
+    for behind in ([], ["table"]):
+        yield from no_list(words + behind, 1, "FIRST", " (first list)", entry)
+        yield from no_list(words + behind, 2, "SECOND", " (second list)", entry)
+    yield ["compare", "broken.list", "ends.list"], refused(f"3 at 2 (first list): entry breaks its rule{entry}")
+    yield ["compare", "ends.list", "broken.list"], refused("1 at 36 (first list): list ends inside a count or a section")
+    yield ["compare", "none", "broken.list"], error(f"FIRST 'none': {NO_FILE}")
+    yield ["compare", "broken.list", "none"], error(f"SECOND 'none': {NO_FILE}")
+    # a list in form 1 said to be in form 2, and the other way round
+    yield ["compare", "coach.list", "coach-2.list"], refused("3 at 116 (second list): entry breaks its rule: signal 1, type 65 octet 1 bit 0, rule 1: width not 1-64")
+    yield ["compare", "L.form2", "L.list", first, second], refused("4 at 28 (second list): octets after the routes")
+    # words that are misplaced, given twice, unknown
+    for bad in (["table", "table"], [first, "table", first], ["form2"], ["only"], [second, "tables"], ["coach.list", "table"]):
+        yield words + bad, error("usage: " + text)
+    yield ["compare", "table", "coach.list", "next.list"], error("usage: " + text)
+    yield ["compare", "coach.list", "table"], error(f"SECOND 'table': {NO_FILE}")
+    yield ["compare", "table", "coach.list"], error(f"FIRST 'table': {NO_FILE}")
+
+
 def convert_table():
     words = ["convert", "coach.list", "form2", "out"]
     yield ["convert", "help"], as_in("convert-help")
@@ -956,6 +1010,8 @@ SAME = [
     ["relay", "coach.list", "train", "7000", "1", "out"], ["relay", "next.list", "train", CLOCK, "2", "out"], ["relay", "L.list", "under-L", CLOCK, "6", "out"],
     ["relay", "two.list", "under-two", CLOCK, "2", "out"], ["relay", "two.list", "under-two", CLOCK, "4", "out"], ["relay", "wide.list", "wide-heard", CLOCK, "1", "out"],
     ["differ", "next.list", "next.list", "train", "7000", "behind", "last", "1000", "1"], ["differ", "across.list", "across-2.list", "train", CLOCK, "behind", "parked", "9500", "table"],
+    ["compare", "coach.list", "next.list"], ["compare", "wrong.list", "coach.list", "table"], ["compare", "L.list", "counters.list"], ["compare", "counters.list", "L.list", "table"],
+    ["compare", "coach.list", "coach.list"], ["compare", "longest.list", "wide.list"], ["compare", "L.list", "broken.list"],
 ]
 NUMBER = r"(?:no serial number|0x[0-9A-F]{4}|\d+\.\d+[A-Z]?(?:/\d)?[de]?)"
 
@@ -980,8 +1036,9 @@ def answer(folder, words):
 
 def in_form_2(words):
     """The same words with each list that they name in form 2, one by one and together."""
-    at = (1, 2) if words[0] == "differ" else (1,)
-    options = ("first-form2", "second-form2") if words[0] == "differ" else ("form2",)
+    of_two = words[0] in ("differ", "compare")
+    at = (1, 2) if of_two else (1,)
+    options = ("first-form2", "second-form2") if of_two else ("form2",)
     for chosen in itertools.chain.from_iterable(itertools.combinations(range(len(at)), k) for k in range(1, len(at) + 1)):
         moved = list(words)
         for k in chosen:
@@ -1122,13 +1179,14 @@ def pages(folder, words):
 PAGED = [
     (["differ", "coach.list", "next.list", "train", CLOCK], "differ-train"), (["believe", "coach.list", "train", CLOCK], "believe-train"),
     (["differ", "coach.list", "next.list", "train", CLOCK, "table"], "differ-table"), (["believe", "coach.list", "train", CLOCK, "table"], "believe-table"),
-    (["believe", "L.list", "full", CLOCK], "believe-full"),
+    (["believe", "L.list", "full", CLOCK], "believe-full"), (["compare", "coach.list", "L.list"], "compare-L"), (["compare", "coach.list", "wrong.list"], "compare-wrong"),
 ]
 
 
 ONE_LINE = [
     ["take", "store", "64", "1", "r1"], ["sweep", "store-1", "1"], ["judge", "broken.list"], ["differ", "L.list", "broken.list", "train", CLOCK], ["believe", "none", "train", CLOCK],
     ["convert", "coach-2.list", "form1", "out"], ["relay", "two.list", "under-two", CLOCK, "4", "out"], ["differ", "L.list", "L.list", "train", CLOCK, "behind", "store-1", CLOCK],
+    ["compare", "coach.list", "coach.list"], ["compare", "coach.list", "broken.list"],
 ]
 
 
@@ -1160,8 +1218,10 @@ def is_trouble(text):
 
 
 def status_of(program, text):
-    if program == "differ" and is_trouble(text):
+    if program in ("differ", "compare") and is_trouble(text):
         return 2
+    if program == "compare":
+        return int(re.search(r"\nextends: (yes|no)\n\Z", text) is not None)
     if program == "differ":
         return int(re.search(r"^differ: [1-9]|^(?:[^\t\n]*\t){6}1\t", text, re.M) is not None)
     return {"refused": 1, "error:": 2}.get(text.split(" ")[0], 0)
@@ -1201,7 +1261,7 @@ def main():
     folder = tempfile.mkdtemp()
     try:
         fill(folder)
-        tables = [row for table in (take_table, sweep_table, believe_table, differ_table, marshal_table, compose_table, relay_table, convert_table) for row in table()]
+        tables = [row for table in (take_table, sweep_table, believe_table, differ_table, marshal_table, compose_table, relay_table, convert_table, compare_table) for row in table()]
         failing = [
             (["take", "store", "1", "5000", "r1"], error("STORE 'store.new': cannot be written")),
             (["take", "new", "made"], error("STORE 'made.new': cannot be written")),

@@ -84,6 +84,60 @@ static void profiles(void)
         expect("df_judge_profile, common", !df_judge_profile(profile, common, sizeof common, DF_FORM_1).refusal);
 }
 
+/* every field is looked at */
+static int differs(df_change c, uint32_t breaks, uint64_t key, uint64_t first, uint64_t second)
+{
+    return !c.refusal && !c.which && !c.carried && c.found == 1 && c.breaks == breaks && c.key == key && c.first == first && c.second == second;
+}
+
+static int no_more(df_change c)
+{
+    return !c.refusal && !c.which && !c.carried && !c.found && !c.breaks && !c.key && !c.first && !c.second;
+}
+
+static int ranges(df_range r, uint64_t low, uint64_t high)
+{
+    return !r.refusal && !r.which && !r.carried && r.found == 1 && r.low == low && r.high == high;
+}
+
+static df_range gained(const uint8_t *a, const uint8_t *b, uint64_t key, uint64_t from)
+{
+    return df_codes_gained(a, sizeof L, DF_FORM_1, b, sizeof L, DF_FORM_1, key, from);
+}
+
+/* L beside itself with codes 0-4 and 6-15 known, by 6,000 ms and from vehicle 2; beside a list of nothing; and in form 2 */
+static void compared(void)
+{
+    static const uint8_t none[8];
+    enum { KEY = 1 * 1024 + 8 * 53 };
+    uint8_t other[sizeof L], wide[sizeof L + 2];
+    memcpy(other, L, sizeof L);
+    other[14] = 0x17, other[15] = 0x70, other[29] = 4, other[33] = 6, other[40] = 2;
+    df_change c = df_signal_change(L, sizeof L, DF_FORM_1, other, sizeof other, DF_FORM_1, 0);
+    expect("df_signal_change", differs(c, DF_BREAKS_CODES, KEY, 0, 0));
+    c = df_signal_change(L, sizeof L, DF_FORM_1, other, sizeof other, DF_FORM_1, KEY + 1);
+    expect("df_signal_change, from behind it", no_more(c));
+    c = df_route_change(L, sizeof L, DF_FORM_1, other, sizeof other, DF_FORM_1, 0);
+    expect("df_route_change", differs(c, DF_BREAKS_NONE, 0, 0, 0));
+    expect("df_codes_gained", ranges(gained(L, other, KEY, 0), 7, 14));
+    expect("df_codes_gained, inside the range", !gained(L, other, KEY, 8).found && !gained(L, other, KEY - 1, 0).found);
+    expect("df_codes_gained, lost", ranges(gained(other, L, KEY, 0), 5, 5));
+    c = df_signal_change(L, sizeof L, DF_FORM_1, none, sizeof none, DF_FORM_1, 0);
+    expect("df_signal_change, removed", differs(c, DF_BREAKS_REMOVED, KEY, 0, 0));
+    c = df_signal_change(none, sizeof none, DF_FORM_1, L, sizeof L, DF_FORM_1, KEY);
+    expect("df_signal_change, added", differs(c, DF_BREAKS_NOT_NEWER, KEY, 0, 0));
+    df_outcome o = df_to_form_2(L, sizeof L, wide, sizeof wide);
+    wide[22] = 0x40, wide[23] = 0xC0;
+    c = df_signal_change(L, sizeof L, DF_FORM_1, wide, sizeof wide, DF_FORM_2, 0);
+    expect("df_signal_change, both forms", !o.refusal && no_more(c));
+    c = df_route_change(wide, sizeof wide, DF_FORM_2, L, sizeof L, DF_FORM_1, 0);
+    expect("df_route_change, both forms", no_more(c));
+    c = df_route_change(L, sizeof L, DF_FORM_1, L, sizeof L - 1, DF_FORM_1, 0);
+    expect("df_route_change", c.refusal == DF_REFUSAL_LIST_ENDS && c.which == 2 && c.carried == 36 && !c.found);
+    df_range r = df_codes_gained(L, sizeof L - 1, DF_FORM_1, none, 0, DF_FORM_1, KEY, 0);
+    expect("df_codes_gained", r.refusal == DF_REFUSAL_LIST_ENDS && r.which == 1 && r.carried == 36 && !r.found && !r.low && !r.high);
+}
+
 /* L in form 2: two octets more behind its signal, in which 4.3 stands as 0x40C0 */
 static void forms(void)
 {
@@ -382,6 +436,7 @@ int main(void)
 {
     lists();
     profiles();
+    compared();
     forms();
     in_form_2();
     telegrams();

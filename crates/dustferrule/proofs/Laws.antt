@@ -5,12 +5,13 @@ use mathlib.Core.Logic.{_↔_}
 use mathlib.Core.Bool.{Bool}
 use mathlib.Core.List.{List}
 use native.Mathlib.Omega.{arith}
-use Rattle.paper.specs.Answer.{Answer, gives, refused, forget, mapAnswer, Given, Numbered}
+use Rattle.paper.specs.Answer.{Answer, gives, refused, forget, mapAnswer, Given, Numbered, Sought, found, nothing}
 use Rattle.paper.specs.Telegrams.{checkPlace}
 use Rattle.paper.specs.SignalList.{Counts, judge, OfTwo, ofBoth, firstRefused, secondRefused, GivenTwo, NumberedTwo}
 use Rattle.paper.specs.Profiles.{Profile, profiling}
 use Rattle.paper.specs.Extends.{extendsLists}
 use Rattle.paper.specs.Pairs.{Entry, entryOf, finding}
+use Rattle.paper.specs.Comparing.{Changed, Range, signalChanges, routeChanges, codesGained}
 use Rattle.paper.specs.Forms.{serialOf, toForm2, toForm1}
 use Rattle.paper.specs.Store.{taking, gapping, sweeping}
 use Rattle.paper.specs.Reading.{Reading, reading}
@@ -23,7 +24,7 @@ use Rattle.paper.specs.ETelegrams.{EReading, eReading, answering}
 use Rattle.paper.proofs.RefusalLaws as laws
 use Rattle.dustferrule.specs.declared.DfOutcome.{DfOutcome}
 use Rattle.dustferrule.specs.declared.DfMarshalled.{DfMarshalled}
-use Rattle.dustferrule.specs.Results.{outcomeC, judgedC, extendingC, entryC, foundC, serialC, gapC, livesC, placeC, readingC, shownC, membersC, eReadC, WrittenC, DeliveredC}
+use Rattle.dustferrule.specs.Results.{outcomeC, judgedC, extendingC, changeC, rangeC, entryC, foundC, serialC, gapC, livesC, placeC, readingC, shownC, membersC, eReadC, WrittenC, DeliveredC}
 
 -- ---- each result, of any answer
 
@@ -34,10 +35,21 @@ pub judged-given : (a : Answer Counts) → Numbered a → (judgedC a .refusal �
 judged-given = laws.zero-given (λ a. judgedC a .refusal) (λ a. refl) (λ n at. refl)
 
 pub extending-given : (a : OfTwo Bool) → NumberedTwo a → (extendingC a .refusal ≡ 0) ↔ GivenTwo a
-unfolding NumberedTwo
-extending-given (ofBoth b) h = (λ e. (b, refl), λ g. refl)
-extending-given (firstRefused n at) h = (λ e. absurd (omega arith), λ g. let e = g .1 in let z : _≡_ {A = ℕ} 0 1 = cc in absurd (omega arith))
-extending-given (secondRefused n at) h = (λ e. absurd (omega arith), λ g. let e = g .1 in let z : _≡_ {A = ℕ} 0 1 = cc in absurd (omega arith))
+extending-given = laws.zero-given-two (λ a. extendingC a .refusal) (λ a. refl) (λ n at. refl) (λ n at. refl)
+
+change-zero : (a : Sought Changed) → changeC (ofBoth a) .refusal ≡ 0
+change-zero (found c) = refl
+change-zero nothing = refl
+
+pub change-given : (a : OfTwo (Sought Changed)) → NumberedTwo a → (changeC a .refusal ≡ 0) ↔ GivenTwo a
+change-given = laws.zero-given-two (λ a. changeC a .refusal) change-zero (λ n at. refl) (λ n at. refl)
+
+range-zero : (a : Sought Range) → rangeC (ofBoth a) .refusal ≡ 0
+range-zero (found c) = refl
+range-zero nothing = refl
+
+pub range-given : (a : OfTwo (Sought Range)) → NumberedTwo a → (rangeC a .refusal ≡ 0) ↔ GivenTwo a
+range-given = laws.zero-given-two (λ a. rangeC a .refusal) range-zero (λ n at. refl) (λ n at. refl)
 
 pub entry-given : (a : Answer Entry) → Numbered a → (entryC a .refusal ≡ 0) ↔ Given a
 entry-given = laws.zero-given (λ a. entryC a .refusal) (λ a. refl) (λ n at. refl)
@@ -100,6 +112,16 @@ judge-profile-given p form xs = judged-given _ (laws.numbered-profiling p form x
 
 pub extends-given : (form : ℕ) (xs : List ℕ) (form′ : ℕ) (ys : List ℕ) → (extendingC (extendsLists form xs form′ ys) .refusal ≡ 0) ↔ GivenTwo (extendsLists form xs form′ ys)
 extends-given form xs form′ ys = extending-given _ (laws.numbered-extends form xs form′ ys)
+
+module _ (form : ℕ) (xs : List ℕ) (form′ : ℕ) (ys : List ℕ) where
+  pub signal-change-given : (from : ℕ) → (changeC (signalChanges form xs form′ ys from) .refusal ≡ 0) ↔ GivenTwo (signalChanges form xs form′ ys from)
+  signal-change-given from = change-given _ (laws.numbered-signal-changes form xs form′ ys from)
+
+  pub route-change-given : (from : ℕ) → (changeC (routeChanges form xs form′ ys from) .refusal ≡ 0) ↔ GivenTwo (routeChanges form xs form′ ys from)
+  route-change-given from = change-given _ (laws.numbered-route-changes form xs form′ ys from)
+
+  pub codes-gained-given : (key from : ℕ) → (rangeC (codesGained form xs form′ ys key from) .refusal ≡ 0) ↔ GivenTwo (codesGained form xs form′ ys key from)
+  codes-gained-given key from = range-given _ (laws.numbered-codes-gained form xs form′ ys key from)
 
 pub signal-entry-given : (form : ℕ) (xs : List ℕ) (k : ℕ) → (entryC (entryOf form xs k) .refusal ≡ 0) ↔ Given (entryOf form xs k)
 signal-entry-given form xs k = entry-given _ (laws.numbered-entry form xs k)

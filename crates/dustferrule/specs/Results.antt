@@ -5,10 +5,11 @@ use mathlib.Core.Bool.{Bool, true, false, cond}
 use mathlib.Core.List.{List}
 use lib.Dec.{eqb}
 use lib.Ieee.{Float, binary32, ofBits}
-use Rattle.paper.specs.Answer.{Answer, gives, refused, after, forget, mapAnswer}
+use Rattle.paper.specs.Answer.{Answer, gives, refused, after, forget, mapAnswer, Sought, found, nothing}
 use Rattle.paper.specs.SignalList.{Counts, OfTwo, ofBoth, firstRefused, secondRefused}
 use Rattle.paper.specs.Profiles.{Profile, plainCoach, drivingTrailer}
 use Rattle.paper.specs.Pairs.{Entry}
+use Rattle.paper.specs.Comparing.{Changed, Range}
 use Rattle.paper.specs.Reading.{Reading}
 use Rattle.paper.specs.Marshalling.{Marshalled}
 use Rattle.paper.specs.Shown.{Kind, code, speed, percentage, signedPercentage, current, Shown, asCode, asSpeed, asPercentage, asCurrent, ShownReading}
@@ -17,6 +18,8 @@ use Rattle.paper.specs.ETelegrams.{EReading}
 use Rattle.dustferrule.specs.declared.DfOutcome.{DfOutcome}
 use Rattle.dustferrule.specs.declared.DfJudged.{DfJudged}
 use Rattle.dustferrule.specs.declared.DfExtending.{DfExtending}
+use Rattle.dustferrule.specs.declared.DfChange.{DfChange}
+use Rattle.dustferrule.specs.declared.DfRange.{DfRange}
 use Rattle.dustferrule.specs.declared.DfEntry.{DfEntry}
 use Rattle.dustferrule.specs.declared.DfFound.{DfFound}
 use Rattle.dustferrule.specs.declared.DfSerial.{DfSerial}
@@ -49,6 +52,26 @@ abbrev pub extendingC : OfTwo Bool → DfExtending
 extendingC (ofBoth b) = record { refusal = 0; which = 0; carried = 0; extends = yesNo b }
 extendingC (firstRefused n at) = record { refusal = n; which = 1; carried = at; extends = 0 }
 extendingC (secondRefused n at) = record { refusal = n; which = 2; carried = at; extends = 0 }
+
+-- C-17: a difference, or that there is none more; of a refused list which it is
+abbrev pub changeRefused : ℕ → ℕ → ℕ → DfChange
+changeRefused n which at = record { refusal = n; which = which; carried = at; found = 0; breaks = 0; key = 0; first = 0; second = 0 }
+
+abbrev pub changeC : OfTwo (Sought Changed) → DfChange
+changeC (ofBoth (found c)) =
+    record { refusal = 0; which = 0; carried = 0; found = 1; breaks = c .breaks; key = c .key; first = c .first; second = c .second }
+changeC (ofBoth nothing) = record { refusal = 0; which = 0; carried = 0; found = 0; breaks = 0; key = 0; first = 0; second = 0 }
+changeC (firstRefused n at) = changeRefused n 1 at
+changeC (secondRefused n at) = changeRefused n 2 at
+
+abbrev pub rangeRefused : ℕ → ℕ → ℕ → DfRange
+rangeRefused n which at = record { refusal = n; which = which; carried = at; found = 0; low = 0; high = 0 }
+
+abbrev pub rangeC : OfTwo (Sought Range) → DfRange
+rangeC (ofBoth (found r)) = record { refusal = 0; which = 0; carried = 0; found = 1; low = r .low; high = r .high }
+rangeC (ofBoth nothing) = record { refusal = 0; which = 0; carried = 0; found = 0; low = 0; high = 0 }
+rangeC (firstRefused n at) = rangeRefused n 1 at
+rangeC (secondRefused n at) = rangeRefused n 2 at
 
 -- the paper's type is the code's kind
 abbrev pub entryC : Answer Entry → DfEntry

@@ -9,6 +9,7 @@ ghost use Rattle.paper.specs.SignalList.{judge as judging};
 ghost use Rattle.paper.specs.Profiles.{profiling};
 ghost use Rattle.paper.specs.Extends.{extendsLists};
 ghost use Rattle.paper.specs.Pairs.{entryOf, finding};
+ghost use Rattle.paper.specs.Comparing.{signalChanges, routeChanges, codesGained};
 ghost use Rattle.paper.specs.Forms.{serialOf, toForm2, toForm1};
 ghost use Rattle.paper.specs.Store.{taking, gapping, sweeping};
 ghost use Rattle.paper.specs.Reading.{reading};
@@ -23,6 +24,7 @@ ghost use Rattle.refusals.specs.Outcome.{outcomeOf};
 ghost use Rattle.lists.specs.Judged.{judgedAnswer};
 ghost use Rattle.profiles.specs.Profiles.{profileOf};
 ghost use Rattle.extending.specs.Extending.{extendsAnswer};
+ghost use Rattle.comparing.specs.Comparing.{changesAnswer, gainedAnswer};
 ghost use Rattle.finding.specs.Finding.{entryAnswer, foundAnswer};
 ghost use Rattle.forms.specs.Forms.{serialAnswer};
 ghost use Rattle.store.specs.Store.{gapAnswer};
@@ -32,11 +34,13 @@ ghost use Rattle.reading.specs.Reading.{readAnswer};
 ghost use Rattle.shown.specs.Show.{kindOf, shownOf, showingAnswer};
 ghost use Rattle.train.specs.Marks.{vehicleOf, resolvedAnswer};
 ghost use Rattle.etelegrams.specs.Answers.{eReadAnswer};
-ghost use Rattle.dustferrule.specs.Results.{yesNo, profileNumbered, kindNumbered, codeOf, unitOf, floatOf, outcomeC, judgedC, extendingC, entryC, foundC, serialC, gapC, livesC, placeC, readingC, shownC, membersC, eReadC, WrittenC, DeliveredC};
+ghost use Rattle.dustferrule.specs.Results.{yesNo, profileNumbered, changeRefused, changeC, rangeRefused, rangeC, kindNumbered, codeOf, unitOf, floatOf, outcomeC, judgedC, extendingC, entryC, foundC, serialC, gapC, livesC, placeC, readingC, shownC, membersC, eReadC, WrittenC, DeliveredC};
+use gateway::Changes;
 use gateway::ERead;
 use gateway::EntryOutcome;
 use gateway::ExtendsOutcome;
 use gateway::Found;
+use gateway::Gained;
 use gateway::GapOutcome;
 use gateway::Judged;
 use gateway::Kind;
@@ -76,6 +80,30 @@ pub struct DfExtending {
     pub which: u32,
     pub carried: u64,
     pub extends: u32,
+}
+
+// which: as above; found: 1 a difference, 0 there is none more; breaks: the rule of extending that it breaks, 0 for none.
+#[repr(C)]
+pub struct DfChange {
+    pub refusal: u32,
+    pub which: u32,
+    pub carried: u64,
+    pub found: u32,
+    pub breaks: u64,
+    pub key: u64,
+    pub first: u64,
+    pub second: u64,
+}
+
+// Codes, from low to high.
+#[repr(C)]
+pub struct DfRange {
+    pub refusal: u32,
+    pub which: u32,
+    pub carried: u64,
+    pub found: u32,
+    pub low: u64,
+    pub high: u64,
 }
 
 // A signal's entry, kind being the paper's type, and the place of its check, 0 for none.
@@ -239,6 +267,88 @@ fn extending_c(o: ExtendsOutcome) -> DfExtending
             carried: carried(f),
             extends: 0,
         },
+    }
+}
+
+fn change_refused(f: Refusal, which: u32) -> DfChange
+    ensures { λ r. ⌜ r ≡ changeRefused (numberOf f) which (carriedOf f) ⌝ }
+{
+    DfChange {
+        refusal: number(f),
+        which,
+        carried: carried(f),
+        found: 0,
+        breaks: 0,
+        key: 0,
+        first: 0,
+        second: 0,
+    }
+}
+
+fn change_c(o: Changes) -> DfChange
+    ensures { λ r. ⌜ r ≡ changeC (changesAnswer o) ⌝ }
+{
+    match o {
+        Changes::Changed(c) => DfChange {
+            refusal: 0,
+            which: 0,
+            carried: 0,
+            found: 1,
+            breaks: c.breaks as u64,
+            key: c.key as u64,
+            first: c.first as u64,
+            second: c.second as u64,
+        },
+        Changes::NoMore => DfChange {
+            refusal: 0,
+            which: 0,
+            carried: 0,
+            found: 0,
+            breaks: 0,
+            key: 0,
+            first: 0,
+            second: 0,
+        },
+        Changes::FirstRefused(f) => change_refused(f, 1),
+        Changes::SecondRefused(f) => change_refused(f, 2),
+    }
+}
+
+fn range_refused(f: Refusal, which: u32) -> DfRange
+    ensures { λ r. ⌜ r ≡ rangeRefused (numberOf f) which (carriedOf f) ⌝ }
+{
+    DfRange {
+        refusal: number(f),
+        which,
+        carried: carried(f),
+        found: 0,
+        low: 0,
+        high: 0,
+    }
+}
+
+fn range_c(o: Gained) -> DfRange
+    ensures { λ r. ⌜ r ≡ rangeC (gainedAnswer o) ⌝ }
+{
+    match o {
+        Gained::Codes(c) => DfRange {
+            refusal: 0,
+            which: 0,
+            carried: 0,
+            found: 1,
+            low: c.low as u64,
+            high: c.high as u64,
+        },
+        Gained::NoMore => DfRange {
+            refusal: 0,
+            which: 0,
+            carried: 0,
+            found: 0,
+            low: 0,
+            high: 0,
+        },
+        Gained::FirstRefused(f) => range_refused(f, 1),
+        Gained::SecondRefused(f) => range_refused(f, 2),
     }
 }
 
@@ -517,6 +627,34 @@ pub extern "C" fn df_extends(a: &[u8], form: u8, b: &[u8], other: u8) -> DfExten
     ensures { λ r. ⌜ r ≡ extendingC (extendsLists form (now (a .entry)) other (now (b .entry))) ⌝ }
 {
     extending_c(gateway::extends(a, form, b, other))
+}
+
+#[no_mangle]
+pub extern "C" fn df_signal_change(a: &[u8], form: u8, b: &[u8], other: u8, from: u64) -> DfChange
+    ensures { λ r. ⌜ r ≡ changeC (signalChanges form (now (a .entry)) other (now (b .entry)) from) ⌝ }
+{
+    change_c(gateway::signal_change(a, form, b, other, from as usize))
+}
+
+#[no_mangle]
+pub extern "C" fn df_route_change(a: &[u8], form: u8, b: &[u8], other: u8, from: u64) -> DfChange
+    ensures { λ r. ⌜ r ≡ changeC (routeChanges form (now (a .entry)) other (now (b .entry)) from) ⌝ }
+{
+    change_c(gateway::route_change(a, form, b, other, from as usize))
+}
+
+#[no_mangle]
+pub extern "C" fn df_codes_gained(
+    a: &[u8],
+    form: u8,
+    b: &[u8],
+    other: u8,
+    key: u64,
+    from: u64,
+) -> DfRange
+    ensures { λ r. ⌜ r ≡ rangeC (codesGained form (now (a .entry)) other (now (b .entry)) key from) ⌝ }
+{
+    range_c(gateway::codes_gained(a, form, b, other, key as usize, from as usize))
 }
 
 #[no_mangle]

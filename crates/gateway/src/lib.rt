@@ -1,5 +1,12 @@
 // The door: every call that the library offers to a Rattle caller, with what it takes and answers. None has a `requires`: each tests its own
 // input, and refuses it by the paper's numbers.
+pub use comparing::Changed;
+pub use comparing::Changes;
+pub use comparing::Gained;
+pub use comparing::Range;
+pub use comparing::codes_gained;
+pub use comparing::route_change;
+pub use comparing::signal_change;
 pub use composing::compose;
 pub use consist::Vehicle;
 pub use consist::resolve_train;

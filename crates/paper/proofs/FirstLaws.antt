@@ -43,7 +43,7 @@ module _ (ok : ℕ → Bool) where
   pub first-none : (n : ℕ) → ((k : ℕ) → k < n → ok k ≡ true) → firstBad ok n ≡ n
   first-none n below = is-first n n (omega arith) below (λ h. absurd (lt-irrefl n h))
 
-  most-from : (n i : ℕ) → firstFrom ok n i ≤ i + n
+  pub most-from : (n i : ℕ) → firstFrom ok n i ≤ i + n
   unfolding firstFrom
   most-from zero i = omega arith
   most-from (suc n) i = at (ok i) (most-from n (suc i))
@@ -61,7 +61,7 @@ module _ (ok : ℕ → Bool) where
       at true h = omega arith
       at false h = omega arith
 
-  passed-from : (n i k : ℕ) → i ≤ k → k < firstFrom ok n i → ok k ≡ true
+  pub passed-from : (n i k : ℕ) → i ≤ k → k < firstFrom ok n i → ok k ≡ true
   unfolding firstFrom
   passed-from zero i k lo hi = absurd (lt-irrefl k (omega arith))
   passed-from (suc n) i k lo hi = at (ok i) refl hi (eq-or-lt-of-le lo) (λ l h. passed-from n (suc i) k l h)
@@ -71,7 +71,7 @@ module _ (ok : ℕ → Bool) where
       at true e h (inl q) rest = rw q at e
       at true e h (inr l) rest = rest l h
 
-  fails-from : (n i : ℕ) → firstFrom ok n i < i + n → ok (firstFrom ok n i) ≡ false
+  pub fails-from : (n i : ℕ) → firstFrom ok n i < i + n → ok (firstFrom ok n i) ≡ false
   unfolding firstFrom
   fails-from zero i h = absurd (lt-irrefl i (omega arith))
   fails-from (suc n) i h = at (ok i) refl h (λ g. fails-from n (suc i) g)

@@ -28,5 +28,7 @@ pub mod RefusalLaws
 pub mod Demands
 pub mod RelayingLaws
 pub mod ProfileLaws
+pub mod RangeLaws
+pub mod ComparingLaws
 pub mod TrueClock
 pub mod WrongLaws

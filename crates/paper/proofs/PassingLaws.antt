@@ -7,9 +7,10 @@ use mathlib.Core.List.{List, [], _∷_, List·Memᴰ, List·Memᴰ·head, List·
 use native.Mathlib.Nat.{eq-or-lt-of-le, lt-irrefl}
 use native.Mathlib.Omega.{arith}
 use lib.ListN.{length, getD}
+use borrow.Author.Tests.{not-true, not-false}
 use Rattle.paper.specs.First.{stop, firstFrom, passingFrom, passing, next}
 use Rattle.paper.specs.Search.{Rises}
-use Rattle.paper.proofs.FirstLaws.{is-from, from-least}
+use Rattle.paper.proofs.FirstLaws.{is-from, from-least, passed-from, fails-from}
 
 module _ (test : ℕ → Bool) where
   abbrev fails : ℕ → Bool
@@ -72,6 +73,15 @@ module _ (test : ℕ → Bool) where
     next-past none =
         let end = k + (n - k) in
         omega (arith, is-from fails (n - k) k end (omega arith) (omega arith) (λ j a b. ap not (none j a (omega arith))) (λ h. absurd (lt-irrefl end h)))
+
+    -- and what its answer tells
+    pub next-before : (j : ℕ) → k ≤ j → j < next test n k → test j ≡ false
+    unfolding next
+    next-before j lo hi = not-true (test j) (passed-from fails (n - k) k j lo hi)
+
+    pub next-passes : next test n k < n → test (next test n k) ≡ true
+    unfolding next
+    next-passes lt = not-false (test (firstFrom fails (n - k) k)) (fails-from fails (n - k) k (omega (arith, from-least fails (n - k) k)))
 
   -- ---- an index is in the sequence exactly if the test passes there
 

@@ -28,17 +28,17 @@ use Rattle.paper.proofs.ReadingLaws.{live-exactly}
 -- ---- the rules of an entry
 
 -- every test is kept
-abbrev kept-all : List Bool → Type 0
+abbrev pub kept-all : List Bool → Type 0
 kept-all [] = Unit {0}
 kept-all (t ∷ ts) = (t ≡ true) × kept-all ts
 
 -- no rule is named exactly where every one is kept
-tests-kept : (n : ℕ) (ts : List Bool) → eqb (brokenOr (suc n) ts 0) 0 ≡ true → kept-all ts
+pub tests-kept : (n : ℕ) (ts : List Bool) → eqb (brokenOr (suc n) ts 0) 0 ≡ true → kept-all ts
 tests-kept n [] e = tt
 tests-kept n (true ∷ ts) e = (refl, tests-kept (suc n) ts e)
 tests-kept n (false ∷ ts) e = absurd (omega (arith, eqb-true (suc n) 0 e))
 
-kept-tests : (n : ℕ) (ts : List Bool) → kept-all ts → eqb (brokenOr n ts 0) 0 ≡ true
+pub kept-tests : (n : ℕ) (ts : List Bool) → kept-all ts → eqb (brokenOr n ts 0) 0 ≡ true
 kept-tests n [] h = refl
 kept-tests n (t ∷ ts) h = rw (h .0) (kept-tests (suc n) ts (h .1))
 

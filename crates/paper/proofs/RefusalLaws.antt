@@ -8,7 +8,7 @@ use native.Mathlib.Omega.{arith}
 use Rattle.paper.specs.Answer.{Answer, gives, refused, refuseIf, andThen, shift, mapAnswer, forget, Given, Numbered, Sought, found, nothing}
 use Rattle.paper.specs.Telegrams.{Row, covers, rows, placeIn, checkPlace}
 use Rattle.paper.specs.SignalList
-use Rattle.paper.specs.SignalList.{Counts, judge, judgeTo, listOf, OfTwo, ofTwo, firstRefused, secondRefused, NumberedTwo}
+use Rattle.paper.specs.SignalList.{Counts, judge, judgeTo, listOf, OfTwo, ofBoth, ofTwo, firstRefused, secondRefused, GivenTwo, NumberedTwo, underLists}
 use Rattle.paper.specs.Forms.{serialOf, toForm2, toForm1}
 use Rattle.paper.specs.Pairs.{entryOf, finding}
 use Rattle.paper.specs.Store.{taking, gapping, sweeping}
@@ -17,11 +17,12 @@ use Rattle.paper.specs.Marshalling.{marshalling}
 use Rattle.paper.specs.Composing.{composing}
 use Rattle.paper.specs.Relaying.{relaying}
 use Rattle.paper.specs.Broken.{Fault}
+use Rattle.paper.specs.Comparing.{nextSignal, nextRoute, nextGained, signalChanges, routeChanges, codesGained}
 use Rattle.paper.specs.Profiles.{Profile, breachIn, unlessBreach, profiling}
 use Rattle.paper.specs.Shown.{Kind, showing}
 use Rattle.paper.specs.Train.{Vehicle, resolving}
 use Rattle.paper.specs.ETelegrams.{eReading, answering}
-use Rattle.paper.specs.Extends.{extendsLists}
+use Rattle.paper.specs.Extends.{extends, extendsLists}
 use Rattle.paper.proofs.AnswerLaws.{never-both}
 
 -- ---- how answers are put together
@@ -194,8 +195,36 @@ unfolding Numbered NumberedTwo
 numbered-two (gives a) refusal next h r k = k a
 numbered-two (refused n at) refusal next h r k = r n at h
 
-pub numbered-extends : (form : ℕ) (xs : List ℕ) (form′ : ℕ) (ys : List ℕ) → NumberedTwo (extendsLists form xs form′ ys)
-unfolding extendsLists NumberedTwo
-numbered-extends form xs form′ ys =
-    numbered-two (judge form xs) firstRefused _ (numbered-judge form xs) (λ n at h. h)
-    (λ m. numbered-two (judge form′ ys) secondRefused _ (numbered-judge form′ ys) (λ n at h. h) (λ n. tt))
+-- every call that goes by two lists
+module _ (form : ℕ) (xs : List ℕ) (form′ : ℕ) (ys : List ℕ) where
+  pub numbered-lists : {A : Type 0} (call : SignalList.SignalList → SignalList.SignalList → A) → NumberedTwo (underLists form xs form′ ys call)
+  unfolding NumberedTwo
+  numbered-lists call =
+      numbered-two (judge form xs) firstRefused _ (numbered-judge form xs) (λ n at h. h)
+      (λ m. numbered-two (judge form′ ys) secondRefused _ (numbered-judge form′ ys) (λ n at h. h) (λ n. tt))
+
+  pub numbered-extends : NumberedTwo (extendsLists form xs form′ ys)
+  unfolding extendsLists
+  numbered-extends = numbered-lists extends
+
+  pub numbered-signal-changes : (from : ℕ) → NumberedTwo (signalChanges form xs form′ ys from)
+  unfolding signalChanges
+  numbered-signal-changes from = numbered-lists (λ a b. nextSignal a b from)
+
+  pub numbered-route-changes : (from : ℕ) → NumberedTwo (routeChanges form xs form′ ys from)
+  unfolding routeChanges
+  numbered-route-changes from = numbered-lists (λ a b. nextRoute a b from)
+
+  pub numbered-codes-gained : (key from : ℕ) → NumberedTwo (codesGained form xs form′ ys key from)
+  unfolding codesGained
+  numbered-codes-gained key from = numbered-lists (λ a b. nextGained a b key from)
+
+-- what says the number of a refusal, and 0 of what is given of both, says 0 exactly where neither list is refused
+pub zero-given-two : {A : Type 0} (say : OfTwo A → ℕ) → ((a : A) → say (ofBoth a) ≡ 0) → ((n at : ℕ) → say (firstRefused n at) ≡ n)
+    → ((n at : ℕ) → say (secondRefused n at) ≡ n) → (x : OfTwo A) → NumberedTwo x → (say x ≡ 0) ↔ GivenTwo x
+unfolding NumberedTwo
+zero-given-two say none first second (ofBoth a) h = (λ e. (a, refl), λ g. none a)
+zero-given-two say none first second (firstRefused n at) h =
+    (λ e. absurd (omega (arith, first n at)), λ g. let e = g .1 in let z : _≡_ {A = ℕ} 0 1 = cc in absurd (omega arith))
+zero-given-two say none first second (secondRefused n at) h =
+    (λ e. absurd (omega (arith, second n at)), λ g. let e = g .1 in let z : _≡_ {A = ℕ} 0 1 = cc in absurd (omega arith))

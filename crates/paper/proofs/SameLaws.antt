@@ -19,6 +19,7 @@ use Rattle.paper.specs.Marshalling.{marshallingBy, marshalling}
 use Rattle.paper.specs.Composing.{composingBy, composing}
 use Rattle.paper.specs.Relaying.{relayingBy, relaying}
 use Rattle.paper.specs.Profiles.{Profile, signalBroken, routeBroken, signalBreach, routeBreach, firstBreach, breachIn, unlessBreach, profiling}
+use Rattle.paper.specs.Comparing.{compare, comparing, nextSignal, nextRoute, nextGained, signalChanges, routeChanges, codesGained}
 use Rattle.paper.proofs.BrokenLaws.{fault-exactly}
 use Rattle.paper.proofs.ListLaws.{sized-as}
 use Rattle.paper.proofs.FormLaws.{form-2, accepted-dropped, dropped-accepted, counted, same-table, offset-entry, offset-past, same-answers, same-answers-first, same-answers-second}
@@ -72,6 +73,39 @@ module _ (xs : List ℕ) (n : Counts) (e : judge 2 xs ≡ gives n) where
   pub pairs-same-second : (form : ℕ) (ys : List ℕ) (from : ℕ) → pairing form ys 2 xs from ≡ pairing form ys 1 (dropped xs) from
   unfolding pairing
   pairs-same-second form ys from = same-answers-second form ys xs n (λ a b. nextPair a b from) e
+
+  -- C-17
+  pub compares-same-first : (form : ℕ) (ys : List ℕ) → comparing 2 xs form ys ≡ comparing 1 (dropped xs) form ys
+  unfolding comparing
+  compares-same-first form ys = same-answers-first xs n form ys compare e
+
+  pub compares-same-second : (form : ℕ) (ys : List ℕ) → comparing form ys 2 xs ≡ comparing form ys 1 (dropped xs)
+  unfolding comparing
+  compares-same-second form ys = same-answers-second form ys xs n compare e
+
+  pub signal-changes-same-first : (form : ℕ) (ys : List ℕ) (from : ℕ) → signalChanges 2 xs form ys from ≡ signalChanges 1 (dropped xs) form ys from
+  unfolding signalChanges
+  signal-changes-same-first form ys from = same-answers-first xs n form ys (λ a b. nextSignal a b from) e
+
+  pub signal-changes-same-second : (form : ℕ) (ys : List ℕ) (from : ℕ) → signalChanges form ys 2 xs from ≡ signalChanges form ys 1 (dropped xs) from
+  unfolding signalChanges
+  signal-changes-same-second form ys from = same-answers-second form ys xs n (λ a b. nextSignal a b from) e
+
+  pub route-changes-same-first : (form : ℕ) (ys : List ℕ) (from : ℕ) → routeChanges 2 xs form ys from ≡ routeChanges 1 (dropped xs) form ys from
+  unfolding routeChanges
+  route-changes-same-first form ys from = same-answers-first xs n form ys (λ a b. nextRoute a b from) e
+
+  pub route-changes-same-second : (form : ℕ) (ys : List ℕ) (from : ℕ) → routeChanges form ys 2 xs from ≡ routeChanges form ys 1 (dropped xs) from
+  unfolding routeChanges
+  route-changes-same-second form ys from = same-answers-second form ys xs n (λ a b. nextRoute a b from) e
+
+  pub codes-gained-same-first : (form : ℕ) (ys : List ℕ) (q from : ℕ) → codesGained 2 xs form ys q from ≡ codesGained 1 (dropped xs) form ys q from
+  unfolding codesGained
+  codes-gained-same-first form ys q from = same-answers-first xs n form ys (λ a b. nextGained a b q from) e
+
+  pub codes-gained-same-second : (form : ℕ) (ys : List ℕ) (q from : ℕ) → codesGained form ys 2 xs q from ≡ codesGained form ys 1 (dropped xs) q from
+  unfolding codesGained
+  codes-gained-same-second form ys q from = same-answers-second form ys xs n (λ a b. nextGained a b q from) e
 
 -- ---- the entry at fault
 

@@ -18,6 +18,7 @@ use Rattle.paper.specs.Marshalling.{marshalling}
 use Rattle.paper.specs.Composing.{composing}
 use Rattle.paper.specs.Relaying.{relaying}
 use Rattle.paper.specs.Profiles.{Profile, breachOf, profiling}
+use Rattle.paper.specs.Comparing.{Changed, Range, signalChanges, routeChanges, codesGained}
 use Rattle.paper.specs.Shown.{Kind, Shown, ShownReading, asCode, asSpeed, asPercentage, asCurrent, showing}
 use Rattle.paper.specs.Train.{Vehicle, Members, resolving}
 use Rattle.paper.specs.ETelegrams.{EReading, eReading, answering}
@@ -91,6 +92,9 @@ pub data Question : Type 0 where
   movesTo2 movesTo1 : List ℕ → List ℕ → Question
   -- two lists and a key
   pairsIn : ℕ → List ℕ → ℕ → List ℕ → ℕ → Question
+  -- two lists and a key, of signals and of routes; two lists, a key and a code
+  signalChangesIn routeChangesIn : ℕ → List ℕ → ℕ → List ℕ → ℕ → Question
+  codesGainedIn : ℕ → List ℕ → ℕ → List ℕ → ℕ → ℕ → Question
   -- a bit
   places : ℕ → Question
   -- a store, a vehicle, the clock and a telegram; the elements of the store that are looked at afterwards
@@ -145,6 +149,15 @@ finds xs type start = findsIn 1 xs type start
 
 abbrev pub pairs : List ℕ → List ℕ → ℕ → Question
 pairs xs ys from = pairsIn 1 xs 1 ys from
+
+abbrev pub changes : List ℕ → List ℕ → ℕ → Question
+changes xs ys from = signalChangesIn 1 xs 1 ys from
+
+abbrev pub reroutes : List ℕ → List ℕ → ℕ → Question
+reroutes xs ys from = routeChangesIn 1 xs 1 ys from
+
+abbrev pub gains : List ℕ → List ℕ → ℕ → ℕ → Question
+gains xs ys key from = codesGainedIn 1 xs 1 ys key from
 
 abbrev pub reads : List ℕ → List ℕ → ℕ → ℕ → ℕ → Question
 reads xs store now v k = readsIn 1 xs store now v k
@@ -202,6 +215,12 @@ ofEntry e = signalOctets (e .signal) ++ (e .place ∷ [])
 abbrev pub ofPair : Pair → List ℕ
 ofPair p = p .key ∷ p .first ∷ p .second ∷ []
 
+abbrev pub ofChanged : Changed → List ℕ
+ofChanged c = c .key ∷ c .first ∷ c .second ∷ c .breaks ∷ []
+
+abbrev pub ofRange : Range → List ℕ
+ofRange r = r .low ∷ r .high ∷ []
+
 abbrev pub ofHeld : Held → List ℕ
 ofHeld h = yes-no (h .heard) ∷ yes-no (h .expired) ∷ h .type ∷ h .version ∷ h .age ∷ []
 
@@ -249,6 +268,9 @@ ask (serialsIn form xs k) = said (λ s. s ∷ []) (serialOf form xs k)
 ask (movesTo2 xs out) = wroteAll out (toForm2 xs (length out))
 ask (movesTo1 xs out) = wroteAll out (toForm1 xs (length out))
 ask (pairsIn form xs form′ ys from) = saidOfTwo (ofSought ofPair) (pairing form xs form′ ys from)
+ask (signalChangesIn form xs form′ ys from) = saidOfTwo (ofSought ofChanged) (signalChanges form xs form′ ys from)
+ask (routeChangesIn form xs form′ ys from) = saidOfTwo (ofSought ofChanged) (routeChanges form xs form′ ys from)
+ask (codesGainedIn form xs form′ ys key from) = saidOfTwo (ofSought ofRange) (codesGained form xs form′ ys key from)
 ask (places b) = said (λ p. p ∷ []) (checkPlace b)
 ask (takes store v now telegram at) = wrote store (taking store v now telegram) at
 ask (gaps store v) = said (λ n. n ∷ []) (gapping store v)

@@ -22,6 +22,7 @@ pub mod Demands
 pub mod Order
 pub mod Relaying
 pub mod Profiles
+pub mod Comparing
 pub mod Bench
 pub mod Marked
 pub mod Parked
@@ -29,4 +30,5 @@ pub mod Cases
 pub mod Edges
 pub mod Breaks
 pub mod RelayCases
+pub mod CompareCases
 pub mod Wrong

@@ -14,12 +14,13 @@ use Rattle.paper.specs.Answer.{refuseIf, after}
 use Rattle.paper.specs.First.{firstFrom, firstBad, all, some, next, count, greatest, listed}
 use Rattle.paper.specs.Telegrams.{applicationType, telegramType, versionOf, rows, placeIn}
 use Rattle.paper.specs.SignalList
-use Rattle.paper.specs.SignalList.{Signal, Route, judgeTo, version, hasCodes, inRange, knownIn, knows, placeOf}
+use Rattle.paper.specs.SignalList.{Signal, Code, Route, judgeTo, version, hasCodes, inRange, knownIn, knows, placeOf}
 use Rattle.paper.specs.Broken.{faultIn, faultFromRoutes, faultFromCodes, faultFromSignals, faultOf}
 use Rattle.paper.specs.Forms.{serialAt, serialOf, narrowed, droppedFrom, dropped, spread, widenedFrom, widened, toForm2, toForm1}
 use Rattle.paper.specs.Extends.{codesKept, keeps, stands, newer, extendsLists}
 use Rattle.paper.specs.Extends as Extending
 use Rattle.paper.specs.Pairs.{entryOf, routeEntry, signalFound, finding, has, index, nextPair, pairing}
+use Rattle.paper.specs.Comparing.{starts, past, changeAt, codesCompared, gained, signalDiffers, signalChange, breaks, routeDiffers, routeChange, nextSignal, nextRoute, nextGained, signalChanges, routeChanges, codesGained}
 use Rattle.paper.specs.Store.{slotHead, slotOctets, storeOctets, slotStart, slotOf, taken, taking, age, gap, gapping, stale, sweptOne, sweptTo, sweeping}
 use Rattle.paper.specs.Reading.{heard, heldIn, holding, markOf, codeOf, hindrances, reasonOf, readingOf, readingAt, reading}
 use Rattle.paper.specs.Marshalling.{routed, marshalled, live, marshalling}
@@ -32,7 +33,7 @@ use Rattle.paper.specs.Train.{Vehicle, consistRule, meets, member, setTo
 use Rattle.paper.specs.ETelegrams.{requests, isRequest, isReport, eReading, answerTo, answering}
 use Rattle.paper.specs.Bench.{listL, listL2, listV}
 use Rattle.paper.specs.Marked.{telegram, silent, heardAt, rawAt}
-use Rattle.paper.specs.Cases.{joined, made, made2, bits, signal, code, route, Question, judges, judgesIn, faults, faultsIn, profilesIn, profiles, breaches, extends, extendsIn, serialsIn, movesTo2, movesTo1, readsIn, signalEntries, routeEntries, finds, pairs, places, takes, gaps, sweeps, holds, reads, marshals, composes, relays, shows, resolves, eReads, eAnswers, gave, refuses, ask}
+use Rattle.paper.specs.Cases.{joined, made, made2, bits, signal, code, route, Question, judges, judgesIn, faults, faultsIn, profilesIn, profiles, breaches, extends, extendsIn, serialsIn, movesTo2, movesTo1, readsIn, signalEntries, routeEntries, finds, pairs, signalChangesIn, changes, reroutes, gains, places, takes, gaps, sweeps, holds, reads, marshals, composes, relays, shows, resolves, eReads, eAnswers, gave, refuses, ask}
 
 -- ---- A wrong gateway
 
@@ -249,6 +250,31 @@ accepted-small = gave (1 ∷ 1 ∷ 1 ∷ 0 ∷ 1 ∷ [])
 
 abbrev accepted-r1 : List ℕ
 accepted-r1 = gave (1 ∷ 1 ∷ 0 ∷ 0 ∷ 1 ∷ [])
+
+-- C-17: a common signal of 4 bits at 24, with these checks, check, since-version, limit and codes
+abbrev one-of : List ℕ → ℕ → ℕ → ℕ → List Code → List ℕ
+one-of checks check since limit codes = made checks (signal 24 4 0 check since limit 0 ∷ []) codes []
+
+-- one that knows the codes 0 to `high`
+abbrev knowing : ℕ → List ℕ
+knowing high = one-of [] 0 1 0 (code 0 0 high ∷ [])
+
+-- the same and one of 4 bits at 28, with this since-version; with a route of the signal at 24 to bit 0
+abbrev one-more : ℕ → List ℕ
+one-more since = made [] (signal 24 4 0 0 1 0 0 ∷ signal 28 4 0 0 since 0 0 ∷ []) [] []
+
+abbrev plain-one : List ℕ
+plain-one = one-of [] 0 1 0 []
+
+abbrev routed-one : List Signal → ℕ → ℕ → List ℕ
+routed-one before k vehicle = made [] (before ++ (signal 24 4 0 0 1 0 0 ∷ [])) [] (route k vehicle 0 ∷ [])
+
+-- nothing differs; something does, in the first signal of both
+abbrev nothing-more : List ℕ
+nothing-more = gave (0 ∷ [])
+
+abbrev told-of : ℕ → List ℕ
+told-of rule = gave (1 ∷ 24 ∷ 0 ∷ 0 ∷ rule ∷ [])
 
 unfoldable pub table : List Row
 table =
@@ -512,6 +538,33 @@ table =
     (composes listL 3 (4 ∷ []) (5 ∷ []) (replicate 40 0xEE) (0 ∷ 39 ∷ [])) (gave (0x13 ∷ 0 ∷ []))
     (refuses 14 0 ++ (0xEE ∷ 0xEE ∷ []))
     ∷ saying "rest-not-zeroed" (composes listL 1 (4 ∷ []) (1 ∷ []) (replicate 128 0xEE) (127 ∷ [])) (gave (0 ∷ [])) (gave (0xEE ∷ []))
+    -- C-17: two lists compared
+    ∷ saying "compare-check-by-index" (changes (one-of (18 ∷ []) 1 1 0 []) (one-of (16 ∷ 18 ∷ []) 2 1 0 []) 0) nothing-more (told-of 2)
+    ∷ saying "check-one-place-off-passed" (changes (one-of (16 ∷ 18 ∷ []) 1 1 0 []) (one-of (16 ∷ 18 ∷ []) 2 1 0 []) 0) (told-of 2) nothing-more
+    ∷ saying "unnamed-check-told" (changes plain-one (one-of (16 ∷ []) 0 1 0 []) 0) nothing-more (told-of 2)
+    ∷ saying "full-range-told" (changes plain-one (knowing 15) 0) nothing-more (told-of 0)
+    ∷ saying "serial-told" (signalChangesIn 2 (made2 [] ((signal 24 4 0 0 1 0 0, 7) ∷ []) [] []) 2 (made2 [] ((signal 24 4 0 0 1 0 0, 8) ∷ []) [] []) 0) nothing-more (told-of 0)
+    ∷ saying "limit-not-told" (changes plain-one (one-of [] 0 1 5000 []) 0) (told-of 0) nothing-more
+    ∷ saying "limit-breaks" (changes plain-one (one-of [] 0 1 5000 []) 0) (told-of 0) (told-of 3)
+    ∷ saying "width-passed" (changes plain-one (made [] (signal 24 5 0 0 1 0 0 ∷ []) [] []) 0) (told-of 1) (told-of 0)
+    ∷ saying "since-passed" (changes plain-one (one-of [] 0 2 0 []) 0) (told-of 3) (told-of 0)
+    ∷ saying "lost-code-passed" (changes (knowing 7) (knowing 3) 0) (told-of 4) (told-of 0)
+    ∷ saying "gained-code-breaks" (changes (knowing 3) (knowing 7) 0) (told-of 0) (told-of 4)
+    ∷ saying "codes-not-told" (changes (knowing 3) (knowing 7) 0) (told-of 0) nothing-more
+    ∷ saying "removed-passed" (changes (one-more 2) plain-one 0) (gave (1 ∷ 28 ∷ 1 ∷ 1 ∷ 5 ∷ [])) (gave (1 ∷ 28 ∷ 1 ∷ 1 ∷ 0 ∷ []))
+    ∷ saying "removed-as-added" (changes (one-more 2) plain-one 0) (gave (1 ∷ 28 ∷ 1 ∷ 1 ∷ 5 ∷ [])) (gave (1 ∷ 28 ∷ 2 ∷ 0 ∷ 0 ∷ []))
+    ∷ saying "newer-breaks" (changes plain-one (one-more 2) 0) (gave (1 ∷ 28 ∷ 1 ∷ 1 ∷ 0 ∷ [])) (gave (1 ∷ 28 ∷ 1 ∷ 1 ∷ 6 ∷ []))
+    ∷ saying "not-newer-passed" (changes plain-one (one-more 1) 0) (gave (1 ∷ 28 ∷ 1 ∷ 1 ∷ 6 ∷ [])) (gave (1 ∷ 28 ∷ 1 ∷ 1 ∷ 0 ∷ []))
+    ∷ saying "told-again" (changes plain-one (one-of [] 0 1 5000 []) 25) nothing-more (told-of 0)
+    ∷ saying "second-compared-first" (changes [] (0 ∷ []) 0) (refuses 1 0 ++ (1 ∷ [])) (refuses 1 0 ++ (2 ∷ []))
+    ∷ saying "ranges-apart" (gains (knowing 3) (knowing 7) 24 0) (gave (1 ∷ 4 ∷ 7 ∷ [])) (gave (1 ∷ 4 ∷ 5 ∷ []))
+    ∷ saying "lost-as-gained" (gains (knowing 7) (knowing 3) 24 0) nothing-more (gave (1 ∷ 4 ∷ 7 ∷ []))
+    ∷ saying "codes-of-another-width" (gains (knowing 7) (made [] (signal 24 5 0 0 1 0 0 ∷ []) [] []) 24 0) nothing-more (gave (1 ∷ 8 ∷ 31 ∷ []))
+    ∷ saying "rest-of-a-range" (gains (knowing 3) (knowing 7) 24 5) nothing-more (gave (1 ∷ 5 ∷ 7 ∷ []))
+    ∷ saying "codes-of-an-added-signal" (gains plain-one (one-more 2) 28 0) nothing-more (gave (1 ∷ 0 ∷ 15 ∷ []))
+    ∷ saying "route-by-signal-number" (reroutes (routed-one [] 0 1) (routed-one (signal 20 4 0 0 2 0 0 ∷ []) 1 1) 0) nothing-more (gave (1 ∷ 0 ∷ 0 ∷ 0 ∷ 0 ∷ []))
+    ∷ saying "route-to-another-signal-passed" (reroutes (routed-one [] 0 1) (routed-one (signal 20 4 0 0 2 0 0 ∷ []) 0 1) 0) (gave (1 ∷ 0 ∷ 0 ∷ 0 ∷ 0 ∷ [])) nothing-more
+    ∷ saying "route-of-another-vehicle-passed" (reroutes (routed-one [] 0 1) (routed-one [] 0 2) 0) (gave (1 ∷ 0 ∷ 0 ∷ 0 ∷ 0 ∷ [])) nothing-more
     -- C-19: profiles
     ∷ saying "profile-limit-0" (profiles plainCoach (small 1 0 1 [])) (refuses 34 6) accepted-small
     ∷ saying "profile-limit-5001" (profiles plainCoach (small 1 5001 1 [])) (refuses 34 6) accepted-small
@@ -636,7 +689,7 @@ unfolding table bits answered sameNumbers joined made made2 ask listL listL2 lis
     SignalList.codeAt SignalList.routeAt SignalList.checkRule SignalList.signalRuleTo SignalList.codeRule SignalList.routeRule SignalList.opening
     SignalList.judgeEntries SignalList.judgeSection SignalList.greatestSince SignalList.ending SignalList.fromRoutes SignalList.fromCodes
     SignalList.fromSignalsTo judgeTo faultIn faultFromRoutes faultFromCodes faultFromSignals faultOf hasCodes inRange knownIn knows placeOf version codesKept keeps stands newer Extending.extends extendsLists entryOf
-    routeEntry signalFound finding has index nextPair pairing slotOf taken taking age gap gapping stale sweptOne sweptTo sweeping heard heldIn holding markOf codeOf hindrances reasonOf readingOf
+    routeEntry signalFound finding has index nextPair pairing starts past changeAt codesCompared gained signalDiffers signalChange breaks routeDiffers routeChange nextSignal nextRoute nextGained signalChanges routeChanges codesGained slotOf taken taking age gap gapping stale sweptOne sweptTo sweeping heard heldIn holding markOf codeOf hindrances reasonOf readingOf
     readingAt reading routed marshalled live marshalling headed composed markFits valueFits composing relayType readLive under allLive vouched relayMark relayValue relaying underTable signalBroken routeBroken firstBreach breachIn breachOf profiling listed showing ofBits round toBits consistRule meets member
     setTo membersOf resolving requests isRequest isReport eReading answerTo answering
 wrong = refl

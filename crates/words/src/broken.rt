@@ -195,14 +195,18 @@ fn say_breach(line: Line, profile: Profile, list: &[u8], form: u8, f: Fault) -> 
     say_profile_rule(l, profile, f.section, f.rule)
 }
 
-// The refusal of a list, with the entry at fault where there is one.
-pub fn print_refused_list(list: &[u8], form: u8, f: Refusal) {
-    let l = say_refused(f, b"");
+// The refusal of a list, with the entry at fault where there is one; `of` says which list of two it is.
+pub fn print_refused_list_of(list: &[u8], form: u8, f: Refusal, of: &[u8]) {
+    let l = say_refused(f, of);
     let found = gateway::find_fault(list, form);
     match found {
         FaultOutcome::Entry(x) => print(say_fault(l, list, form, x)),
         FaultOutcome::NoEntry => print(l),
     }
+}
+
+pub fn print_refused_list(list: &[u8], form: u8, f: Refusal) {
+    print_refused_list_of(list, form, f, b"");
 }
 
 // The same of a list that was judged under a profile. What the general rules refuse has no entry that breaks the profile.

@@ -25,6 +25,7 @@ pub use believed::say_gap_tab;
 pub use believed::say_head;
 pub use believed::say_held_tabs;
 pub use broken::print_refused_list;
+pub use broken::print_refused_list_of;
 pub use broken::print_refused_profile;
 pub use columns::end_of_value;
 pub use columns::greater;

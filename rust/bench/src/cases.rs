@@ -3,7 +3,7 @@
 use crate::lists::{self, NOW, STAMP};
 use crate::proved::{self, Said};
 use crate::rust;
-use reference::{Form, Kind, Profile, Shown, ShownReading};
+use reference::{Change, CodeRange, Form, Kind, Profile, Shown, ShownReading};
 use std::fmt::Debug;
 use std::hint::black_box;
 
@@ -123,6 +123,120 @@ fn judge_profile() -> Case {
         move |_| proved::judge_profile(black_box(profile), black_box(list), one()),
         move |_| rust::judge_profile(black_box(profile), black_box(list), one()),
     )
+}
+
+/// One call on two equal lists, which looks at every signal of both; and two lists compared whole, half of whose signals and routes differ.
+fn comparing() -> [Case; 2] {
+    let list = leak(lists::list(64, 5_000));
+    let same = leak(lists::list(64, 5_000));
+    let other = leak(lists::half_changed());
+    let len = list.len();
+    [
+        said(
+            &format!("signal change, none in two lists of {len} octets"),
+            vec![],
+            move |_| proved::signal_change(black_box(list), one(), black_box(same), one(), 0),
+            move |_| rust::signal_change(black_box(list), one(), black_box(same), one(), 0),
+        ),
+        case(
+            &format!("compare whole, two lists of {len} octets, half of which differs"),
+            vec![],
+            (move |_: &mut [u8]| proved_whole(list, other), |sum| sum),
+            (move |_: &mut [u8]| rust_whole(list, other), |sum| sum),
+        ),
+    ]
+}
+
+fn proved_whole(a: &[u8], b: &[u8]) -> Whole {
+    let good = "the lists of the bench are good";
+    let gained = |a, b, key, from| proved::codes_gained(a, one(), b, one(), key, from).said();
+    whole(
+        |from| {
+            proved::signal_change(black_box(a), one(), black_box(b), one(), from)
+                .said()
+                .expect(good)
+        },
+        |from| {
+            proved::route_change(black_box(a), one(), black_box(b), one(), from)
+                .said()
+                .expect(good)
+        },
+        |key, from| gained(black_box(a), black_box(b), key, from).expect(good),
+        |key, from| gained(black_box(b), black_box(a), key, from).expect(good),
+    )
+}
+
+fn rust_whole(a: &[u8], b: &[u8]) -> Whole {
+    let good = "the lists of the bench are good";
+    let gained = |a, b, key, from| rust::codes_gained(a, one(), b, one(), key, from);
+    whole(
+        |from| rust::signal_change(black_box(a), one(), black_box(b), one(), from).expect(good),
+        |from| rust::route_change(black_box(a), one(), black_box(b), one(), from).expect(good),
+        |key, from| gained(black_box(a), black_box(b), key, from).expect(good),
+        |key, from| gained(black_box(b), black_box(a), key, from).expect(good),
+    )
+}
+
+/// How many signals and routes differ, how many ranges of codes were gained or lost, and all that was given, as one number.
+#[derive(Debug, Default, PartialEq)]
+struct Whole {
+    signals: u64,
+    routes: u64,
+    ranges: u64,
+    sum: u64,
+}
+
+/// Every difference, each asked for behind the one before: signals, each with the codes that it gained and lost, then routes.
+#[inline(always)]
+fn whole(
+    signal: impl Fn(u64) -> Option<Change>,
+    route: impl Fn(u64) -> Option<Change>,
+    gained: impl Fn(u64, u64) -> Option<CodeRange>,
+    lost: impl Fn(u64, u64) -> Option<CodeRange>,
+) -> Whole {
+    let mut of = Whole::default();
+    let mut from = 0;
+    while let Some(change) = signal(from) {
+        from = change.key + 1;
+        of.signals += 1;
+        of.add([change.key, change.first, change.second]);
+        let ranges = [
+            all_ranges(change.key, &gained),
+            all_ranges(change.key, &lost),
+        ];
+        for (count, sum) in ranges {
+            of.ranges += count;
+            of.add([count, sum, 0]);
+        }
+    }
+    from = 0;
+    while let Some(change) = route(from) {
+        from = change.key + 1;
+        of.routes += 1;
+        of.add([change.key, change.first, change.second]);
+    }
+    of
+}
+
+impl Whole {
+    #[inline(always)]
+    fn add(&mut self, numbers: [u64; 3]) {
+        for number in numbers {
+            self.sum = self.sum.rotate_left(7) ^ number;
+        }
+    }
+}
+
+/// How many ranges a signal has, and their ends as one number.
+#[inline(always)]
+fn all_ranges(key: u64, next: impl Fn(u64, u64) -> Option<CodeRange>) -> (u64, u64) {
+    let (mut count, mut sum, mut from) = (0, 0u64, 0);
+    while let Some(range) = next(key, from) {
+        from = u64::from(range.low) + 1;
+        sum = sum.rotate_left(7) ^ u64::from(range.low) ^ u64::from(range.high) << 32;
+        count += 1;
+    }
+    (count, sum)
 }
 
 /// The longest list judged in form 2, its last serial number, and the list moved from each form to the other.
@@ -546,6 +660,7 @@ fn refused_alike_in(form: Form, list: Vec<u8>) {
             proved::extends(&list, form, short, form).said(),
             reference::extends(&list, form, short, form)
         );
+        compared_alike(&list, short, form);
         assert_eq!(
             proved::read(short, form, &[], 0, 0, 0).said(),
             reference::read(short, form, &[], 0, 0, 0)
@@ -587,6 +702,24 @@ fn refused_alike_in(form: Form, list: Vec<u8>) {
     }
 }
 
+/// A list and one that is refused, compared in either order.
+fn compared_alike(list: &[u8], short: &[u8], form: Form) {
+    for (a, b) in [(list, short), (short, list)] {
+        assert_eq!(
+            proved::signal_change(a, form, b, form, 0).said(),
+            reference::signal_change(a, form, b, form, 0)
+        );
+        assert_eq!(
+            proved::route_change(a, form, b, form, 0).said(),
+            reference::route_change(a, form, b, form, 0)
+        );
+        assert_eq!(
+            proved::codes_gained(a, form, b, form, 18, 0).said(),
+            reference::codes_gained(a, form, b, form, 18, 0)
+        );
+    }
+}
+
 /// Every call of the table, in its order.
 pub fn all() -> Vec<Case> {
     let [judge, extends, marshal] = growing(64);
@@ -610,6 +743,7 @@ pub fn all() -> Vec<Case> {
         gap(),
         extends,
     ]);
+    cases.extend(comparing());
     cases.extend(sweeps());
     cases.extend([
         e_read("E read, a request", 0x9001),

@@ -51,6 +51,26 @@ pub fn list(units: usize, limit: u32) -> Vec<u8> {
     list
 }
 
+/// The longest list, of which every second signal is another than in [`list`]: by its limit, and in that it knows code 1 and neither 0 nor 2.
+/// Every second route is of another vehicle.
+pub fn half_changed() -> Vec<u8> {
+    let mut list = list(MOST_UNITS, 5_000);
+    let signals = 2 + 2 * MOST_UNITS + 2;
+    let codes = signals + 16 * 4 * MOST_UNITS + 2;
+    let routes = codes + 6 * 8 * MOST_UNITS + 2;
+    for number in (0..4 * MOST_UNITS).step_by(2) {
+        list[signals + 16 * number + 9] += 1;
+        // Two entries of a signal: low and high of the first, low of the second.
+        let entries = &mut list[codes + 12 * number..];
+        (entries[3], entries[5], entries[9]) = (1, 1, 3);
+    }
+    for number in (0..8 * MOST_UNITS).step_by(2) {
+        let vehicle = &mut list[routes + 6 * number + 2];
+        *vehicle = 1 + *vehicle % 63;
+    }
+    list
+}
+
 /// As [`list`], in form 2 and with no serial number.
 pub fn list_in_form_2(units: usize, limit: u32) -> Vec<u8> {
     let list = list(units, limit);

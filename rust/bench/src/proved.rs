@@ -2,7 +2,8 @@
 //! x86-64 that is what C does with such an answer; on other machines it is not, so it is said here.
 
 use reference::{
-    Counts, EReading, Extends, Form, Kind, Members, Profile, Reading, Refusal, Shown, ShownReading,
+    Change, CodeRange, Counts, EReading, Extends, Form, Kind, Members, Profile, Reading, Refusal,
+    Refused, Rule, Shown, ShownReading,
 };
 use std::mem::MaybeUninit;
 
@@ -29,6 +30,28 @@ pub struct Extending {
     which: u32,
     carried: u64,
     extends: u32,
+}
+
+#[repr(C)]
+pub struct Changed {
+    refusal: u32,
+    which: u32,
+    carried: u64,
+    found: u32,
+    breaks: u64,
+    key: u64,
+    first: u64,
+    second: u64,
+}
+
+#[repr(C)]
+pub struct Ranged {
+    refusal: u32,
+    which: u32,
+    carried: u64,
+    found: u32,
+    low: u64,
+    high: u64,
 }
 
 #[repr(C)]
@@ -105,6 +128,40 @@ extern "C" {
         b: *const u8,
         b_len: usize,
         other: u8,
+    );
+    #[rustfmt::skip]
+    fn df_signal_change(
+        to: To<Changed>,
+        a: *const u8,
+        a_len: usize,
+        form: u8,
+        b: *const u8,
+        b_len: usize,
+        other: u8,
+        from: u64,
+    );
+    #[rustfmt::skip]
+    fn df_route_change(
+        to: To<Changed>,
+        a: *const u8,
+        a_len: usize,
+        form: u8,
+        b: *const u8,
+        b_len: usize,
+        other: u8,
+        from: u64,
+    );
+    #[rustfmt::skip]
+    fn df_codes_gained(
+        to: To<Ranged>,
+        a: *const u8,
+        a_len: usize,
+        form: u8,
+        b: *const u8,
+        b_len: usize,
+        other: u8,
+        key: u64,
+        from: u64,
     );
     fn df_serial(to: To<Serial>, list: *const u8, list_len: usize, form: u8, signal: u64);
     fn df_to_form_2(list: *const u8, list_len: usize, out: *mut u8, out_len: usize) -> Outcome;
@@ -215,6 +272,27 @@ pub fn judge_profile(profile: Profile, list: &[u8], form: Form) -> Judged {
 pub fn extends(a: &[u8], form: Form, b: &[u8], other: Form) -> Extending {
     let (form, other) = (form as u8, other as u8);
     answer(|to| unsafe { df_extends(to, a.as_ptr(), a.len(), form, b.as_ptr(), b.len(), other) })
+}
+
+#[inline(always)]
+pub fn signal_change(a: &[u8], form: Form, b: &[u8], other: Form, from: u64) -> Changed {
+    let (form, other) = (form as u8, other as u8);
+    let (a, a_len, b, b_len) = (a.as_ptr(), a.len(), b.as_ptr(), b.len());
+    answer(|to| unsafe { df_signal_change(to, a, a_len, form, b, b_len, other, from) })
+}
+
+#[inline(always)]
+pub fn route_change(a: &[u8], form: Form, b: &[u8], other: Form, from: u64) -> Changed {
+    let (form, other) = (form as u8, other as u8);
+    let (a, a_len, b, b_len) = (a.as_ptr(), a.len(), b.as_ptr(), b.len());
+    answer(|to| unsafe { df_route_change(to, a, a_len, form, b, b_len, other, from) })
+}
+
+#[inline(always)]
+pub fn codes_gained(a: &[u8], form: Form, b: &[u8], other: Form, key: u64, from: u64) -> Ranged {
+    let (form, other) = (form as u8, other as u8);
+    let (a, a_len, b, b_len) = (a.as_ptr(), a.len(), b.as_ptr(), b.len());
+    answer(|to| unsafe { df_codes_gained(to, a, a_len, form, b, b_len, other, key, from) })
 }
 
 #[inline(always)]
@@ -431,6 +509,48 @@ impl Said for Extending {
             Err(refusal) if self.which == 1 => Extends::First(refusal),
             Err(refusal) => Extends::Second(refusal),
         }
+    }
+}
+
+fn unless_one_refused<T>(number: u32, which: u32, carried: u64, answer: T) -> Result<T, Refused> {
+    unless_refused(number, carried, answer).map_err(|refusal| match which {
+        1 => Refused::First(refusal),
+        _ => Refused::Second(refusal),
+    })
+}
+
+impl Said for Changed {
+    type As = Result<Option<Change>, Refused>;
+    fn said(self) -> Self::As {
+        const RULES: [Rule; 6] = [
+            Rule::Width,
+            Rule::Check,
+            Rule::Since,
+            Rule::Codes,
+            Rule::Removed,
+            Rule::NotNewer,
+        ];
+        let change = (self.found != 0).then_some(Change {
+            key: self.key,
+            first: self.first,
+            second: self.second,
+            breaks: match self.breaks {
+                0 => None,
+                number => Some(RULES[number as usize - 1]),
+            },
+        });
+        unless_one_refused(self.refusal, self.which, self.carried, change)
+    }
+}
+
+impl Said for Ranged {
+    type As = Result<Option<CodeRange>, Refused>;
+    fn said(self) -> Self::As {
+        let range = (self.found != 0).then_some(CodeRange {
+            low: self.low as u16,
+            high: self.high as u16,
+        });
+        unless_one_refused(self.refusal, self.which, self.carried, range)
     }
 }
 

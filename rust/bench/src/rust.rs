@@ -1,7 +1,8 @@
 //! The independent implementation, each function a call as the proved one is, whose archive is never inlined into the bench.
 
 use reference::{
-    Counts, EReading, Extends, Form, Kind, Members, Profile, Reading, Refusal, ShownReading,
+    Change, CodeRange, Counts, EReading, Extends, Form, Kind, Members, Profile, Reading, Refusal,
+    Refused, ShownReading,
 };
 
 #[inline(never)]
@@ -17,6 +18,40 @@ pub fn judge_profile(profile: Profile, list: &[u8], form: Form) -> Result<Counts
 #[inline(never)]
 pub fn extends(a: &[u8], form: Form, b: &[u8], other: Form) -> Extends {
     reference::extends(a, form, b, other)
+}
+
+#[inline(never)]
+pub fn signal_change(
+    a: &[u8],
+    form: Form,
+    b: &[u8],
+    other: Form,
+    from: u64,
+) -> Result<Option<Change>, Refused> {
+    reference::signal_change(a, form, b, other, from)
+}
+
+#[inline(never)]
+pub fn route_change(
+    a: &[u8],
+    form: Form,
+    b: &[u8],
+    other: Form,
+    from: u64,
+) -> Result<Option<Change>, Refused> {
+    reference::route_change(a, form, b, other, from)
+}
+
+#[inline(never)]
+pub fn codes_gained(
+    a: &[u8],
+    form: Form,
+    b: &[u8],
+    other: Form,
+    key: u64,
+    from: u64,
+) -> Result<Option<CodeRange>, Refused> {
+    reference::codes_gained(a, form, b, other, key, from)
 }
 
 #[inline(never)]

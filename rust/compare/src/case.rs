@@ -9,6 +9,9 @@ pub enum Call {
     Judge,
     JudgeProfile,
     Extends,
+    SignalChange,
+    RouteChange,
+    CodesGained,
     SignalEntry,
     FindSignal,
     Serial,
@@ -51,10 +54,13 @@ const fn takes(
 }
 
 impl Call {
-    pub const ALL: [Call; 20] = [
+    pub const ALL: [Call; 23] = [
         Call::Judge,
         Call::JudgeProfile,
         Call::Extends,
+        Call::SignalChange,
+        Call::RouteChange,
+        Call::CodesGained,
         Call::SignalEntry,
         Call::FindSignal,
         Call::Serial,
@@ -80,6 +86,9 @@ impl Call {
             Call::Judge => takes("judge", &["list"], None, &["form"]),
             Call::JudgeProfile => takes("judge_profile", &["list"], None, &["form", "profile"]),
             Call::Extends => takes("extends", &["list A", "list B"], None, &["form A", "form B"]),
+            Call::SignalChange => takes("signal_change", &["list A", "list B"], None, &["form A", "form B", "from"]),
+            Call::RouteChange => takes("route_change", &["list A", "list B"], None, &["form A", "form B", "from"]),
+            Call::CodesGained => takes("codes_gained", &["list A", "list B"], None, &["form A", "form B", "key", "from"]),
             Call::SignalEntry => takes("signal_entry", &["list"], None, &["form", "signal"]),
             Call::FindSignal => takes("find_signal", &["list"], None, &["form", "type", "start"]),
             Call::Serial => takes("serial", &["list"], None, &["form", "signal"]),

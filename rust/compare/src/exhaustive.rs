@@ -3,6 +3,7 @@
 use std::ops::Range;
 
 use crate::case::{Call, Case, KINDS};
+use crate::changes::{self, compared};
 use crate::generate::REQUESTS;
 use crate::list::{Code, List, Route, Signal};
 use crate::profiles::{self, by_profiles};
@@ -19,8 +20,11 @@ pub const L: [u8; 44] = [
     0x00, 0x01, 0x00, 0x00, 0x01, 0x00, 0x00, 0x00, // routes
 ];
 
+/// The key of L's signal, by which it is compared.
+pub const L_KEY: u64 = 1_024 + 424;
+
 /// Numbers far above all that a call takes, among them those that are small once cut to fewer bits.
-fn large() -> impl Iterator<Item = u64> {
+pub fn large() -> impl Iterator<Item = u64> {
     (10..64)
         .flat_map(|power| [0, 1, 16, 64, 370].map(|n| (1 << power) + n))
         .chain([u64::MAX])
@@ -35,6 +39,7 @@ pub fn each(mut try_one: impl FnMut(Case)) {
     forms(&mut try_one);
     wide_lists(&mut try_one);
     profiles::each(&mut try_one);
+    changes::each(&mut try_one);
     moves(&mut try_one);
     signals(&mut try_one);
     readings(&mut try_one);
@@ -127,7 +132,12 @@ fn lists(try_one: &mut impl FnMut(Case)) {
             list[at] = octet;
             try_one(Case::new(Call::Judge, vec![list.clone()], vec![1]));
             by_profiles(try_one, &list, 1);
-            try_one(Case::new(Call::Extends, vec![L.to_vec(), list], vec![1, 1]));
+            try_one(Case::new(
+                Call::Extends,
+                vec![L.to_vec(), list.clone()],
+                vec![1, 1],
+            ));
+            compared(try_one, [&L, &list], [1, 1]);
         }
     }
 }
@@ -167,6 +177,9 @@ fn forms(try_one: &mut impl FnMut(Case)) {
             ask(Call::Serial, vec![], &[0]);
             ask(Call::Extends, vec![L.to_vec()], &[1]);
             ask(Call::Extends, vec![wide_l(1)], &[2]);
+            ask(Call::SignalChange, vec![L.to_vec()], &[1, 0]);
+            ask(Call::RouteChange, vec![wide_l(1)], &[2, 0]);
+            ask(Call::CodesGained, vec![wide_l(1)], &[2, L_KEY, 0]);
             ask(Call::Read, vec![store.clone()], &[0, 1, 0]);
             ask(Call::Show, vec![store.clone()], &[0, 1, 0, 0]);
             ask(Call::Show, vec![store.clone()], &[0, 1, 0, 1]);
@@ -174,8 +187,9 @@ fn forms(try_one: &mut impl FnMut(Case)) {
             ask(Call::Compose, vec![vec![1], vec![0xEE; TELEGRAM]], &[1]);
             let heard = l_heard(1, [(1, 0x11), (2, 1), (41, 0x10), (54, 0x40)]);
             ask(Call::Relay, vec![heard, vec![0xEE; TELEGRAM]], &[0, 1]);
-            let areas = vec![L.to_vec(), list];
+            let areas = vec![L.to_vec(), list.clone()];
             try_one(Case::new(Call::Extends, areas, vec![1, form]));
+            compared(try_one, [&L, &list], [1, form]);
         }
     }
 }
@@ -191,6 +205,7 @@ fn wide_lists(try_one: &mut impl FnMut(Case)) {
         by_profiles(try_one, &list, 2);
         let areas = vec![L.to_vec(), list.clone()];
         try_one(Case::new(Call::Extends, areas, vec![1, 2]));
+        compared(try_one, [&list, &L], [2, 1]);
         try_one(Case::new(Call::Serial, vec![list.clone()], vec![2, 0]));
         let areas = vec![list, vec![0xEE; L.len()]];
         try_one(Case::new(Call::ToForm1, areas, vec![]));
@@ -246,7 +261,7 @@ fn moves(try_one: &mut impl FnMut(Case)) {
 }
 
 /// 64 checks and 256 signals of all types, of which every fifth has no check; no two entries are alike.
-fn most_signals() -> List {
+pub fn most_signals() -> List {
     let mut list = List {
         form: 1,
         checks: (0..32).flat_map(|i| [16 + 2 * i, 320 + 2 * i]).collect(),

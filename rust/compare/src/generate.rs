@@ -6,7 +6,7 @@ use crate::case::{is_scaled, Call, Case, KINDS, PROFILES};
 use crate::damage::{any_list, damaged, mostly_good, said_form};
 use crate::list::List;
 use crate::random::Random;
-use crate::{make, narrow, pair, store};
+use crate::{edited, make, narrow, pair, store};
 use reference::{HEAD, SLOT, STORE, VEHICLES};
 
 /// The request codes of document 01.
@@ -17,8 +17,8 @@ pub const REQUESTS: [u16; 25] = [
 ];
 
 pub fn case(r: &Random) -> Case {
-    match r.below(151) {
-        0..=13 => {
+    match r.below(188) {
+        0..=13 | 176..=179 => {
             let (list, form) = any_list(r);
             Case::new(Call::Judge, vec![list], vec![form])
         }
@@ -31,18 +31,21 @@ pub fn case(r: &Random) -> Case {
         35..=37 => check_place(r),
         38..=43 => take(r),
         44..=46 => sweep(r),
-        47..=61 => read(r),
+        47..=61 | 180..=184 => read(r),
         62..=70 => marshal(r),
         71..=82 => compose(r),
         83..=85 | 114..=122 => show(r),
         123..=134 => relay(r),
         135..=150 => judge_profile(r),
-        86..=91 => resolve(r),
+        151..=159 => signal_change(r),
+        160..=166 => route_change(r),
+        167..=175 => codes_gained(r),
+        86..=91 | 187 => resolve(r),
         92..=94 => e_read(r),
         95..=99 => e_answer(r),
         100..=102 => serial(r),
         103..=105 => moved(r, Call::ToForm2, [1, 2]),
-        106..=109 => moved(r, Call::ToForm1, [2, 1]),
+        106..=109 | 185..=186 => moved(r, Call::ToForm1, [2, 1]),
         _ => gap(r),
     }
 }
@@ -60,6 +63,63 @@ fn judge_profile(r: &Random) -> Case {
         false => list.octets(),
     };
     Case::new(Call::JudgeProfile, vec![octets], numbers)
+}
+
+/// A key to ask from: mostly 0, or one of these or beside it.
+fn asked_from(r: &Random, keys: &[u64]) -> u64 {
+    let key = match keys {
+        [] => r.below(3_100),
+        _ => r.of(keys),
+    };
+    match r.below(10) {
+        0..=3 => 0,
+        4 | 5 => key,
+        6 => key + 1,
+        7 => key.saturating_sub(1),
+        8 => r.below(3_100),
+        _ => r.of(&[r.beyond(key), u64::MAX]),
+    }
+}
+
+fn signal_change(r: &Random) -> Case {
+    let lists = edited::lists(r, edited::Of::Signals);
+    let signals = lists.iter().flat_map(|list| &list.signals);
+    let from = asked_from(r, &signals.map(edited::key).collect::<Vec<u64>>());
+    let (areas, mut numbers) = pair::lent(r, lists);
+    numbers.push(from);
+    Case::new(Call::SignalChange, areas, numbers)
+}
+
+fn route_change(r: &Random) -> Case {
+    let lists = edited::lists(r, edited::Of::Routes);
+    let routes = lists.iter().flat_map(|list| &list.routes);
+    let from = asked_from(r, &routes.map(|route| route.start).collect::<Vec<u64>>());
+    let (areas, mut numbers) = pair::lent(r, lists);
+    numbers.push(from);
+    Case::new(Call::RouteChange, areas, numbers)
+}
+
+/// Mostly of a signal that does not know the same codes in both lists, from an end of a range or beside it.
+fn codes_gained(r: &Random) -> Case {
+    let lists = edited::lists(r, edited::Of::Codes);
+    let apart = edited::with_other_codes(&lists);
+    let signals = lists.iter().flat_map(|list| &list.signals);
+    let keys: Vec<u64> = signals.map(edited::key).collect();
+    let key = match r.below(8) {
+        0 => asked_from(r, &keys),
+        1..=5 if !apart.is_empty() => r.of(&apart),
+        _ if keys.is_empty() => 1_024,
+        _ => r.of(&keys),
+    };
+    let edges: Vec<u64> = lists
+        .iter()
+        .flat_map(|list| &list.codes)
+        .flat_map(|c| [c.low, c.high + 1])
+        .collect();
+    let from = asked_from(r, &edges);
+    let (areas, mut numbers) = pair::lent(r, lists);
+    numbers.extend([key, from]);
+    Case::new(Call::CodesGained, areas, numbers)
 }
 
 /// The number of a signal, mostly one that the list has.

@@ -8,7 +8,10 @@
 //! Exits with 1 at the first difference, and also if there is an answer or a refusal that no case of the seed reached.
 
 mod case;
+mod changed;
+mod changes;
 mod damage;
+mod edited;
 mod exact;
 mod exhaustive;
 mod fault;
@@ -30,6 +33,7 @@ mod shrink;
 mod sides;
 mod store;
 mod true_clock;
+mod walked;
 
 use std::env;
 use std::process::ExitCode;
@@ -71,6 +75,11 @@ fn arguments() -> Option<Arguments> {
     })
 }
 
+/// What a run of its own met; says why, where it did not go well.
+fn well<T>(what: &str, met: Result<T, String>) -> Option<T> {
+    met.map_err(|why| println!("{what}: {why}")).ok()
+}
+
 /// All cases; gives whether all is well.
 fn compare(cases: u64, seed: u64, memory: Memory) -> bool {
     let mut run = Run::new(memory);
@@ -91,29 +100,23 @@ fn compare(cases: u64, seed: u64, memory: Memory) -> bool {
             return false;
         }
     }
-    let exact = match exact::all_shown() {
-        Ok(exact) => exact,
-        Err(why) => {
-            println!("NOT EXACT: {why}");
-            return false;
-        }
+    let exact = well("NOT EXACT", exact::all_shown());
+    let clocked = well("NOT BY THE TRUE CLOCK", true_clock::all(cases / 20, seed));
+    let passed_on = well("NOT PASSED ON", passed_on::all(cases / 40, seed));
+    let walked = well("NOT AS COMPARED", walked::all(cases / 20, seed));
+    let (Some(exact), Some(clocked), Some(passed_on), Some(walked)) =
+        (exact, clocked, passed_on, walked)
+    else {
+        return false;
     };
-    let clocked = match true_clock::all(cases / 20, seed) {
-        Ok(clocked) => clocked,
-        Err(why) => {
-            println!("NOT BY THE TRUE CLOCK: {why}");
-            return false;
-        }
-    };
-    let passed_on = match passed_on::all(cases / 40, seed) {
-        Ok(passed_on) => passed_on,
-        Err(why) => {
-            println!("NOT PASSED ON: {why}");
-            return false;
-        }
-    };
-    print!("{reached}{clocked}{passed_on}");
-    let faults = [reached.faults(), clocked.faults(), passed_on.faults()].concat();
+    print!("{reached}{clocked}{passed_on}{walked}");
+    let faults = [
+        reached.faults(),
+        clocked.faults(),
+        passed_on.faults(),
+        walked.faults(),
+    ]
+    .concat();
     if !faults.is_empty() {
         println!("{}", faults.join("\n"));
         return false;
@@ -121,10 +124,12 @@ fn compare(cases: u64, seed: u64, memory: Memory) -> bool {
     println!(
         "{cases} cases of seed {seed} and {exhaustive} exhaustive ones: no difference; \
          {} kinds of answer, all reached; {} readings by the true clock; {} behind an old gateway; \
-         {exact} shown values exact; {} s",
+         {} differences in {} pairs of lists; {exact} shown values exact; {} s",
         reached.rows(),
         clocked.readings(),
         passed_on.readings(),
+        walked.differences,
+        walked.pairs,
         run.started.elapsed().as_secs()
     );
     true

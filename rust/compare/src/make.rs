@@ -110,6 +110,11 @@ pub fn list_with_routes(r: &Random) -> List {
     list_with(r, |list| !list.routes.is_empty())
 }
 
+/// A good list that has known-code entries; mostly.
+pub fn list_with_codes(r: &Random) -> List {
+    list_with(r, |list| !list.codes.is_empty())
+}
+
 /// A good list that has a signal of 16 bits, or of one more or less; mostly.
 pub fn list_to_scale(r: &Random) -> List {
     list_with(r, |list| list.signals.iter().any(Signal::is_near_16_bits))

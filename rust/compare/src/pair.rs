@@ -21,7 +21,12 @@ pub fn pair(r: &Random) -> (Vec<Vec<u8>>, Vec<u64>) {
     if r.one_in(2) {
         make::lay_out(r, &mut b, make::form(r));
     }
-    let mut pair = [a, b].map(|list| {
+    lent(r, [a, b])
+}
+
+/// Two lists as they are lent, some of them damaged, and some the other way round.
+pub fn lent(r: &Random, lists: [List; 2]) -> (Vec<Vec<u8>>, Vec<u64>) {
+    let mut pair = lists.map(|list| {
         let form = damage::said_form(r, &list);
         (damaged_rarely(r, list), form)
     });
@@ -71,7 +76,7 @@ fn edit(r: &Random, list: &mut List, version: u64) {
     }
 }
 
-fn add_signal(r: &Random, list: &mut List, version: u64) {
+pub fn add_signal(r: &Random, list: &mut List, version: u64) {
     let kind = r.below(3);
     let (first, end) = Signal::region(kind);
     let width = r.of(&[r.within(1, 20), r.within(1, 20), r.within(47, 64)]);
@@ -116,7 +121,7 @@ fn edit_signal(r: &Random, list: &mut List) {
     }
 }
 
-fn edit_codes(r: &Random, list: &mut List) {
+pub fn edit_codes(r: &Random, list: &mut List) {
     let at = r.index(list.codes.len());
     let Code { signal, low, high } = list.codes[at];
     let top = list.signals[signal as usize].top();

@@ -4,6 +4,7 @@ use std::collections::{BTreeMap, BTreeSet};
 use std::fmt;
 
 use crate::case::{is_scaled, Answer, Call, Case, KINDS};
+use crate::changed;
 use crate::list::{longest, sizes, Route, Signal, MOST};
 use crate::profiled;
 use crate::relayed;
@@ -66,6 +67,9 @@ fn wanted(call: Call) -> Vec<Row> {
             each("first refused", &[1, 2, 3, 4]),
             each("second refused", &[1, 2, 3, 4]),
         ],
+        Call::SignalChange | Call::RouteChange | Call::CodesGained => {
+            [changed::wanted(call), vec![], vec![]]
+        }
         Call::SignalEntry => [
             each("type", &[0, 1, 2]),
             [vec![("no check", 0), ("a check", 0)], in_forms].concat(),
@@ -208,9 +212,10 @@ fn rows(case: &Case, answer: &Answer) -> Vec<Row> {
     let refusal = u64::from(answer.refusal);
     let [first, second, ..] = answer.gives;
     if refusal != 0 {
-        return match (case.call, second) {
-            (Call::Extends, 1) => vec![("first refused", refusal)],
-            (Call::Extends, _) => vec![("second refused", refusal)],
+        let two_lists = case.call.parameters().areas.contains(&"list B");
+        return match (two_lists, second) {
+            (true, 1) => vec![("first refused", refusal)],
+            (true, _) => vec![("second refused", refusal)],
             _ => vec![("refusal", refusal)],
         };
     }
@@ -248,8 +253,9 @@ fn rows(case: &Case, answer: &Answer) -> Vec<Row> {
         Call::Show => show_rows(case.numbers[4], answer),
         Call::Marshal => vec![(lives(case, first), 0)],
         Call::Compose => vec![("type", case.numbers[1])],
-        // What is told of these stands in `profiled`, and in `relayed`.
+        // What is told of these stands in `profiled`, in `relayed` and in `changed`.
         Call::JudgeProfile | Call::Relay => vec![],
+        Call::SignalChange | Call::RouteChange | Call::CodesGained => vec![],
         Call::Resolve => vec![("address", case.numbers[0])],
         Call::ERead => vec![(["request", "report"][second as usize], 0)],
         Call::EAnswer => vec![("ok", 0)],
@@ -594,6 +600,7 @@ impl Reached {
             scaled_rows,
             profiled::rows,
             relayed::rows,
+            changed::rows,
         ];
         let all = all.map(|rows| rows(case, answer));
         for row in all.concat() {
@@ -625,9 +632,11 @@ impl Reached {
 
 fn named((what, number): Row) -> String {
     match number {
-        0 if !["kind", "type", "form", "reason", "profile", "signals"]
-            .iter()
-            .any(|end| what.ends_with(end)) =>
+        0 if ![
+            "kind", "type", "form", "reason", "profile", "signals", "breaks",
+        ]
+        .iter()
+        .any(|end| what.ends_with(end)) =>
         {
             what.to_string()
         }

@@ -29,7 +29,9 @@ fn refused_by_wrappers(error: dustferrule::Error) -> Answer {
 macro_rules! side {
     ($side:ident, $library:ident, $refused:ident) => {
         pub fn $side(call: Call, mut lent: Lent) -> Answer {
-            use $library::{Counts, Extends, Form, Kind, Profile, Shown};
+            use $library::{
+                Change, CodeRange, Counts, Extends, Form, Kind, Profile, Refused, Shown,
+            };
             let refused = $refused;
             // As C says it: any number but 2 is form 1.
             let form = |number: u64| match number {
@@ -54,21 +56,48 @@ macro_rules! side {
                 let counts = [n.checks, n.signals, n.codes, n.routes, n.version];
                 Answer::gives(counts.map(|count| count as u64))
             };
+            // Which of two lists was refused is the second of what is given.
+            let which =
+                |refused: Answer, which| Answer::with(refused.refusal, refused.carried, [0, which]);
+            let one_refused = |of: Refused| match of {
+                Refused::First(refusal) => which(refused(refusal), 1),
+                Refused::Second(refusal) => which(refused(refusal), 2),
+            };
+            let change = |change: Option<Change>| match change {
+                Some(c) => {
+                    let breaks = c.breaks.map_or(0, |rule| rule as u64);
+                    Answer::gives([1, 0, c.key, c.first, c.second, breaks])
+                }
+                None => Answer::default(),
+            };
+            let range = |range: Option<CodeRange>| match range {
+                Some(r) => Answer::gives([1, 0, r.low.into(), r.high.into()]),
+                None => Answer::default(),
+            };
             let result = match (call, &mut lent.areas[..], lent.numbers) {
                 (Call::Judge, [list], &[said]) => $library::judge(list, form(said)).map(counts),
                 (Call::JudgeProfile, [list], &[said, profile]) => {
                     $library::judge_profile(profile_of(profile), list, form(said)).map(counts)
                 }
                 (Call::Extends, [a, b], &[said, other]) => {
-                    let which = |refused: Answer, which| {
-                        Answer::with(refused.refusal, refused.carried, [0, which])
-                    };
                     Ok(match $library::extends(a, form(said), b, form(other)) {
                         Extends::Yes => Answer::gives([1]),
                         Extends::No => Answer::gives([0]),
                         Extends::First(refusal) => which(refused(refusal), 1),
                         Extends::Second(refusal) => which(refused(refusal), 2),
                     })
+                }
+                (Call::SignalChange, [a, b], &[said, other, from]) => {
+                    let found = $library::signal_change(a, form(said), b, form(other), from);
+                    Ok(found.map_or_else(one_refused, change))
+                }
+                (Call::RouteChange, [a, b], &[said, other, from]) => {
+                    let found = $library::route_change(a, form(said), b, form(other), from);
+                    Ok(found.map_or_else(one_refused, change))
+                }
+                (Call::CodesGained, [a, b], &[said, other, key, from]) => {
+                    let found = $library::codes_gained(a, form(said), b, form(other), key, from);
+                    Ok(found.map_or_else(one_refused, range))
                 }
                 (Call::SignalEntry, [list], &[said, signal]) => {
                     $library::signal_entry(list, form(said), signal).map(|e| {
@@ -156,6 +185,12 @@ fn judged(r: raw::df_judged) -> Answer {
     Answer::with(r.refusal, r.carried, counts)
 }
 
+fn change(r: raw::df_change) -> Answer {
+    let (found, which) = (r.found.into(), r.which.into());
+    let gives = [found, which, r.key, r.first, r.second, r.breaks];
+    Answer::with(r.refusal, r.carried, gives)
+}
+
 /// The library as C calls it: every field of a result is kept, also those that an answer does not use.
 pub fn by_header(call: Call, mut lent: Lent) -> Answer {
     match (call, &mut lent.areas[..], lent.numbers) {
@@ -171,6 +206,23 @@ pub fn by_header(call: Call, mut lent: Lent) -> Answer {
             let (a, a_len, b, b_len) = (a.as_ptr(), a.len(), b.as_ptr(), b.len());
             let r = unsafe { raw::df_extends(a, a_len, form, b, b_len, other) };
             Answer::with(r.refusal, r.carried, [r.extends.into(), r.which.into()])
+        }
+        (Call::SignalChange, [a, b], &[form, other, from]) => {
+            let (form, other) = (form as u8, other as u8);
+            let (a, a_len, b, b_len) = (a.as_ptr(), a.len(), b.as_ptr(), b.len());
+            change(unsafe { raw::df_signal_change(a, a_len, form, b, b_len, other, from) })
+        }
+        (Call::RouteChange, [a, b], &[form, other, from]) => {
+            let (form, other) = (form as u8, other as u8);
+            let (a, a_len, b, b_len) = (a.as_ptr(), a.len(), b.as_ptr(), b.len());
+            change(unsafe { raw::df_route_change(a, a_len, form, b, b_len, other, from) })
+        }
+        (Call::CodesGained, [a, b], &[form, other, key, from]) => {
+            let (form, other) = (form as u8, other as u8);
+            let (a, a_len, b, b_len) = (a.as_ptr(), a.len(), b.as_ptr(), b.len());
+            let r = unsafe { raw::df_codes_gained(a, a_len, form, b, b_len, other, key, from) };
+            let gives = [r.found.into(), r.which.into(), r.low, r.high];
+            Answer::with(r.refusal, r.carried, gives)
         }
         (Call::SignalEntry, [list], &[form, signal]) => {
             let (list, len) = (list.as_ptr(), list.len());

@@ -52,6 +52,61 @@ pub enum Extends {
     Second(Error),
 }
 
+/// What the second of two lists lacks to extend the first.
+#[derive(Debug, Clone, Copy, PartialEq, Eq, Hash)]
+#[repr(u8)]
+pub enum Rule {
+    /// Its width is another.
+    Width = 1,
+    /// The place of its check is another, or one of the two has none.
+    Check = 2,
+    /// Its since-version is another.
+    Since = 3,
+    /// A code that it knew is not known any more.
+    Codes = 4,
+    /// It is in the first list alone.
+    Removed = 5,
+    /// It is in the second list alone, and its since-version is not above the first list's version.
+    NotNewer = 6,
+}
+
+impl Rule {
+    /// The rule that has this number.
+    pub(crate) const fn of(number: u32) -> Option<Rule> {
+        match number {
+            1 => Some(Rule::Width),
+            2 => Some(Rule::Check),
+            3 => Some(Rule::Since),
+            4 => Some(Rule::Codes),
+            5 => Some(Rule::Removed),
+            6 => Some(Rule::NotNewer),
+            _ => None,
+        }
+    }
+}
+
+/// A difference between two lists: a signal or a route that was added, removed or changed.
+#[derive(Debug, Clone, Copy, PartialEq, Eq)]
+pub struct Change {
+    /// Of a signal its type * 1024 + its start, of a route its destination start. To go on behind it, ask from the key + 1.
+    pub key: u64,
+    /// Its number in the first list, from 0; where that has none, the number of all that it has.
+    pub first: u64,
+    /// Its number in the second list, likewise.
+    pub second: u64,
+    /// The first rule of extending that it breaks; a route breaks none.
+    pub breaks: Option<Rule>,
+}
+
+/// Codes that lie side by side.
+#[derive(Debug, Clone, Copy, PartialEq, Eq)]
+pub struct CodeRange {
+    /// The lowest.
+    pub low: u16,
+    /// The highest.
+    pub high: u16,
+}
+
 /// A signal's entry, as it stands in its list.
 #[derive(Debug, Clone, Copy, PartialEq, Eq)]
 pub struct Entry {

@@ -12,9 +12,10 @@ mod numbers;
 pub mod raw;
 
 pub use answers::{
-    Counts, EReading, Entry, Extends, Form, Kind, Members, Profile, Reading, Shown, ShownReading,
+    Change, CodeRange, Counts, EReading, Entry, Extends, Form, Kind, Members, Profile, Reading,
+    Rule, Shown, ShownReading,
 };
-pub use numbers::{Error, Reason, Refusal};
+pub use numbers::{Error, Reason, Refusal, Refused};
 
 /// The length of a store: a slot for each of 63 vehicles, vehicle 1 first. A store of zeros has heard nobody.
 // Spelled here too, since a program that links the library needs no other crate; `compare` does not build where `reference` has another.
@@ -81,6 +82,104 @@ pub fn extends(a: &[u8], form: Form, b: &[u8], other: Form) -> Extends {
         Err(error) if r.which == 1 => Extends::First(error),
         Err(error) => Extends::Second(error),
     }
+}
+
+/// The answer, or which of two lists was refused.
+fn unless_one_refused<T>(number: u32, which: u32, carried: u64, answer: T) -> Result<T, Refused> {
+    unless_refused(number, carried, answer).map_err(|error| match which {
+        1 => Refused::First(error),
+        _ => Refused::Second(error),
+    })
+}
+
+/// A difference, if there is one more.
+fn change(r: raw::df_change) -> Result<Option<Change>, Refused> {
+    let change = (r.found != 0).then(|| Change {
+        key: r.key,
+        first: r.first,
+        second: r.second,
+        breaks: match r.breaks as u32 {
+            0 => None,
+            number => Some(Rule::of(number).unwrap_or_else(|| newer_library("rule", number))),
+        },
+    });
+    unless_one_refused(r.refusal, r.which, r.carried, change)
+}
+
+/// The next signal, at the key `from` or above, that list `b`, of form `other`, has and list `a`, of form `form`, has not, or the other way
+/// round, or both have with another width, check place, since-version, time limit or replacement or, where the widths are equal and at most 16,
+/// with other known codes. List `b` extends list `a` exactly if no difference breaks a rule. Refusals 1 to 4 of the first list that is refused.
+pub fn signal_change(
+    a: &[u8],
+    form: Form,
+    b: &[u8],
+    other: Form,
+    from: u64,
+) -> Result<Option<Change>, Refused> {
+    change(unsafe {
+        raw::df_signal_change(
+            a.as_ptr(),
+            a.len(),
+            form as u8,
+            b.as_ptr(),
+            b.len(),
+            other as u8,
+            from,
+        )
+    })
+}
+
+/// The next destination start, the bit `from` or above, at which one list alone has a route, or both have one of another vehicle or of another
+/// signal, by type and start. Refusals 1 to 4 of the first list that is refused.
+pub fn route_change(
+    a: &[u8],
+    form: Form,
+    b: &[u8],
+    other: Form,
+    from: u64,
+) -> Result<Option<Change>, Refused> {
+    change(unsafe {
+        raw::df_route_change(
+            a.as_ptr(),
+            a.len(),
+            form as u8,
+            b.as_ptr(),
+            b.len(),
+            other as u8,
+            from,
+        )
+    })
+}
+
+/// The next range, as long as possible, of codes that the signal at a key knows in list `b` and not in list `a`, if it starts at the code `from`
+/// or above; one that starts below is passed over. There is none where one list lacks the signal, or the widths differ or are above 16. With the
+/// lists exchanged it gives what was lost. Refusals 1 to 4 of the first list that is refused.
+pub fn codes_gained(
+    a: &[u8],
+    form: Form,
+    b: &[u8],
+    other: Form,
+    key: u64,
+    from: u64,
+) -> Result<Option<CodeRange>, Refused> {
+    let r = unsafe {
+        raw::df_codes_gained(
+            a.as_ptr(),
+            a.len(),
+            form as u8,
+            b.as_ptr(),
+            b.len(),
+            other as u8,
+            key,
+            from,
+        )
+    };
+    // A known code has two octets of the list.
+    let range = (r.found != 0).then_some(CodeRange {
+        low: r.low as u16,
+        high: r.high as u16,
+    });
+    unless_one_refused(r.refusal, r.which, r.carried, range)
 }
 
 /// The entry of a signal by its number, from 0. Refusals 1 to 4, then 11.

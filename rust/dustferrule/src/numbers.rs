@@ -117,6 +117,13 @@ pub struct Error {
 /// As the programs print it: `refused 1 at 36: list ends inside a count or a section`.
 impl fmt::Display for Error {
     fn fmt(&self, f: &mut fmt::Formatter) -> fmt::Result {
+        self.write(f, "")
+    }
+}
+
+impl Error {
+    /// With what stands behind the number and what it carries.
+    fn write(&self, f: &mut fmt::Formatter, of: &str) -> fmt::Result {
         let Error { refusal, carried } = self;
         write!(f, "refused {}", refusal.number())?;
         match refusal.number() {
@@ -124,8 +131,29 @@ impl fmt::Display for Error {
             15 => write!(f, " signal {carried}")?,
             _ => {}
         }
-        write!(f, ": {refusal}")
+        write!(f, "{of}: {refusal}")
     }
 }
 
 impl error::Error for Error {}
+
+/// A call on two lists that was refused: which list, and by what.
+#[derive(Debug, Clone, Copy, PartialEq, Eq, Hash)]
+pub enum Refused {
+    /// The first list was refused.
+    First(Error),
+    /// The first list is good, and the second was refused.
+    Second(Error),
+}
+
+/// As the programs print it: `refused 1 at 36 (second list): list ends inside a count or a section`.
+impl fmt::Display for Refused {
+    fn fmt(&self, f: &mut fmt::Formatter) -> fmt::Result {
+        match self {
+            Refused::First(error) => error.write(f, " (first list)"),
+            Refused::Second(error) => error.write(f, " (second list)"),
+        }
+    }
+}
+
+impl error::Error for Refused {}

@@ -1,6 +1,6 @@
 //! `include/dustferrule.h`, line for line: what the proved library exports. (Its lists of refusals and reasons are [`crate::Refusal`] and
-//! [`crate::Reason`], its forms are [`crate::Form`], its profiles [`crate::Profile`], its kinds [`crate::Kind`], and its units are those of
-//! [`crate::Shown`].)
+//! [`crate::Reason`], its forms are [`crate::Form`], its profiles [`crate::Profile`], what a difference breaks is a [`crate::Rule`], its kinds
+//! are [`crate::Kind`], and its units are those of [`crate::Shown`].)
 //!
 //! What the caller owes: each pointer with its length names memory that can be read (and written, where it is `*mut`), no longer than
 //! isize::MAX octets and aligned; an area that is written overlaps no other area of the same call; and no pointer is null, also with
@@ -35,6 +35,33 @@ pub struct df_extending {
     pub which: u32,
     pub carried: u64,
     pub extends: u32,
+}
+
+/// `which`: as of [`df_extending`]; `found`: 1 a difference, 0 no more; `breaks`: 0 nothing; `first`, `second`: the number of all where there is
+/// none.
+#[repr(C)]
+#[derive(Debug, Clone, Copy)]
+pub struct df_change {
+    pub refusal: u32,
+    pub which: u32,
+    pub carried: u64,
+    pub found: u32,
+    pub breaks: u64,
+    pub key: u64,
+    pub first: u64,
+    pub second: u64,
+}
+
+/// `which`, `found`: as of [`df_change`].
+#[repr(C)]
+#[derive(Debug, Clone, Copy)]
+pub struct df_range {
+    pub refusal: u32,
+    pub which: u32,
+    pub carried: u64,
+    pub found: u32,
+    pub low: u64,
+    pub high: u64,
 }
 
 /// `kind`: the header's `type`; `place`: of its check, 0 for none.
@@ -143,6 +170,37 @@ extern "C" {
         b_len: usize,
         other: u8,
     ) -> df_extending;
+
+    pub fn df_signal_change(
+        a: *const u8,
+        a_len: usize,
+        form: u8,
+        b: *const u8,
+        b_len: usize,
+        other: u8,
+        from: u64,
+    ) -> df_change;
+
+    pub fn df_route_change(
+        a: *const u8,
+        a_len: usize,
+        form: u8,
+        b: *const u8,
+        b_len: usize,
+        other: u8,
+        from: u64,
+    ) -> df_change;
+
+    pub fn df_codes_gained(
+        a: *const u8,
+        a_len: usize,
+        form: u8,
+        b: *const u8,
+        b_len: usize,
+        other: u8,
+        key: u64,
+        from: u64,
+    ) -> df_range;
 
     pub fn df_signal_entry(list: *const u8, list_len: usize, form: u8, signal: u64) -> df_entry;
 

@@ -1,8 +1,8 @@
 //! Refusals and reasons by number and in words, and the refusals of calls as errors.
 
 use dustferrule::{
-    compose, find_signal, judge, judge_profile, read, show, Error, Form, Kind, Profile, Reason,
-    Refusal, STORE_OCTETS,
+    codes_gained, compose, find_signal, judge, judge_profile, read, route_change, show,
+    signal_change, Error, Form, Kind, Profile, Reason, Refusal, Refused, Rule, STORE_OCTETS,
 };
 
 /// The list L of document 01.
@@ -87,6 +87,59 @@ fn an_error_goes_up_as_any_other() {
         value(&L[..1]).unwrap_err().to_string(),
         "refused 1 at 0: list ends inside a count or a section"
     );
+}
+
+/// Of two lists it is said which, as the programs do.
+#[test]
+fn which_of_two_lists() {
+    let short = &L[..43];
+    let Err(refused) = signal_change(&L, Form::One, short, Form::One, 0) else {
+        panic!("the second list is not refused");
+    };
+    let error = judge(short, Form::One).unwrap_err();
+    assert_eq!(refused, Refused::Second(error));
+    assert_eq!(
+        refused.to_string(),
+        "refused 1 at 36 (second list): list ends inside a count or a section"
+    );
+    let refused = route_change(short, Form::One, &[], Form::One, 0).unwrap_err();
+    assert_eq!(
+        refused.to_string(),
+        "refused 1 at 36 (first list): list ends inside a count or a section"
+    );
+    let refused = codes_gained(short, Form::One, &[], Form::One, 0, 0).unwrap_err();
+    assert_eq!(refused, Refused::First(error));
+}
+
+/// Each rule by its number in the header: L with a change that breaks it.
+#[test]
+fn what_a_difference_breaks() {
+    let none = [0; 8];
+    let breaks = |a: &[u8], b: &[u8]| {
+        let change = signal_change(a, Form::One, b, Form::One, 0).unwrap();
+        change.and_then(|change| change.breaks)
+    };
+    let with = |at: usize, octet: u8| {
+        let mut list = L;
+        list[at] = octet;
+        breaks(&L, &list)
+    };
+    assert_eq!(with(8, 5), Some(Rule::Width));
+    assert_eq!(with(10, 0), Some(Rule::Check));
+    assert_eq!(with(11, 2), Some(Rule::Since));
+    assert_eq!(with(29, 5), Some(Rule::Codes));
+    assert_eq!(with(29, 7), None);
+    assert_eq!(breaks(&L, &none), Some(Rule::Removed));
+    assert_eq!(breaks(&none, &L), Some(Rule::NotNewer));
+    let rules = [
+        Rule::Width,
+        Rule::Check,
+        Rule::Since,
+        Rule::Codes,
+        Rule::Removed,
+        Rule::NotNewer,
+    ];
+    assert_eq!(rules.map(|rule| rule as u8), [1, 2, 3, 4, 5, 6]);
 }
 
 #[test]

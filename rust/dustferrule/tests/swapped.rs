@@ -7,7 +7,9 @@
 extern crate self as reference;
 
 use dustferrule::Error;
-pub use dustferrule::{Counts, EReading, Entry, Form, Kind, Members, Profile, Shown};
+pub use dustferrule::{
+    Change, CodeRange, Counts, EReading, Entry, Form, Kind, Members, Profile, Rule, Shown,
+};
 
 #[derive(Debug, Clone, Copy, PartialEq, Eq)]
 pub struct Refusal {
@@ -35,6 +37,12 @@ pub enum Extends {
     Second(Refusal),
 }
 
+#[derive(Debug, Clone, Copy, PartialEq, Eq)]
+pub enum Refused {
+    First(Refusal),
+    Second(Refusal),
+}
+
 fn plain(error: Error) -> Refusal {
     Refusal {
         number: error.refusal.number(),
@@ -42,16 +50,29 @@ fn plain(error: Error) -> Refusal {
     }
 }
 
+fn plain_of_two(refused: dustferrule::Refused) -> Refused {
+    match refused {
+        dustferrule::Refused::First(error) => Refused::First(plain(error)),
+        dustferrule::Refused::Second(error) => Refused::Second(plain(error)),
+    }
+}
+
 /// Each call with its refusal as a number.
 macro_rules! calls {
-    ($($call:ident($($name:ident: $of:ty),*) -> $gives:ty;)+) => {
-        $(pub fn $call($($name: $of),*) -> Result<$gives, Refusal> {
-            dustferrule::$call($($name),*).map_err(plain)
+    ($refusal:ty, $plain:ident: $($call:ident($($name:ident: $of:ty),*) -> $gives:ty;)+) => {
+        $(pub fn $call($($name: $of),*) -> Result<$gives, $refusal> {
+            dustferrule::$call($($name),*).map_err($plain)
         })+
     };
 }
 
-calls! {
+calls! { Refused, plain_of_two:
+    signal_change(a: &[u8], form: Form, b: &[u8], other: Form, from: u64) -> Option<Change>;
+    route_change(a: &[u8], form: Form, b: &[u8], other: Form, from: u64) -> Option<Change>;
+    codes_gained(a: &[u8], form: Form, b: &[u8], other: Form, key: u64, from: u64) -> Option<CodeRange>;
+}
+
+calls! { Refusal, plain:
     judge(list: &[u8], form: Form) -> Counts;
     judge_profile(profile: Profile, list: &[u8], form: Form) -> Counts;
     signal_entry(list: &[u8], form: Form, signal: u64) -> Entry;
@@ -113,6 +134,8 @@ pub fn show(
 
 #[path = "../../reference/tests/bench.rs"]
 mod bench;
+#[path = "../../reference/tests/comparing.rs"]
+mod comparing;
 #[path = "../../reference/tests/compose.rs"]
 mod compose;
 #[path = "../../reference/tests/entry.rs"]

@@ -384,6 +384,87 @@ pub fn extends(a: &List, b: &List) -> bool {
     stands && new
 }
 
+/// What stands at one key of two lists that are compared: the key, the numbers in both, and the rule of extending that it breaks, 0 for none.
+pub type Difference = (u64, u64, u64, u64);
+
+/// The number of the signal at a key, or how many signals there are.
+fn signal_at(list: &List, key: u64) -> usize {
+    let mut keys = list.signals.iter().map(|s| 1024 * s.kind + s.start);
+    keys.position(|k| k == key).unwrap_or(list.signals.len())
+}
+
+/// The codes that a signal of both lists knows under `b` and not under `a`, one by one.
+fn codes_between(a: &List, i: usize, b: &List, j: usize) -> Vec<u64> {
+    let [width, other] = [a.signals[i].width, b.signals[j].width];
+    if width != other || width > 16 {
+        return vec![];
+    }
+    (0..1 << width)
+        .filter(|&code| b.knows(j as u64, code) && !a.knows(i as u64, code))
+        .collect()
+}
+
+/// Each key that a signal can have, one after the other.
+pub fn signal_changes(a: &List, b: &List) -> Vec<Difference> {
+    (0..3 * 1024)
+        .filter_map(|key| {
+            let (i, j) = (signal_at(a, key), signal_at(b, key));
+            let breaks = match (a.signals.get(i), b.signals.get(j)) {
+                (None, None) => return None,
+                (Some(_), None) => 5,
+                (None, Some(added)) if added.since > a.version() => 0,
+                (None, Some(_)) => 6,
+                (Some(old), Some(new)) => {
+                    let lost = !codes_between(b, j, a, i).is_empty();
+                    let gained = !codes_between(a, i, b, j).is_empty();
+                    let changes = [
+                        (1, old.width != new.width),
+                        (2, a.place(old) != b.place(new)),
+                        (3, old.since != new.since),
+                        (4, lost),
+                        (0, gained),
+                        (0, old.limit != new.limit),
+                        (0, old.replacement != new.replacement),
+                    ];
+                    changes.into_iter().find(|&(_, changed)| changed)?.0
+                }
+            };
+            Some((key, i as u64, j as u64, breaks))
+        })
+        .collect()
+}
+
+/// Each bit of the vehicle bus data, likewise.
+pub fn route_changes(a: &List, b: &List) -> Vec<Difference> {
+    let route_at = |list: &List, bit| {
+        let mut starts = list.routes.iter().map(|route| route.start);
+        starts.position(|s| s == bit).unwrap_or(list.routes.len())
+    };
+    let carried = |list: &List, i: usize| {
+        let route = list.routes.get(i)?;
+        let s = &list.signals[route.signal as usize];
+        Some((route.vehicle, s.kind, s.start))
+    };
+    (0..2048)
+        .map(|bit| (bit, route_at(a, bit), route_at(b, bit)))
+        .filter(|&(_, i, j)| carried(a, i) != carried(b, j))
+        .map(|(bit, i, j)| (bit, i as u64, j as u64, 0))
+        .collect()
+}
+
+/// Runs of the codes that the signal at a key has gained.
+pub fn codes_gained(a: &List, b: &List, key: u64) -> Vec<(u64, u64)> {
+    let (i, j) = (signal_at(a, key), signal_at(b, key));
+    if i == a.signals.len() || j == b.signals.len() {
+        return vec![];
+    }
+    let codes = codes_between(a, i, b, j);
+    codes
+        .chunk_by(|code, next| code + 1 == *next)
+        .map(|run| (run[0], run[run.len() - 1]))
+        .collect()
+}
+
 pub fn read(list: &List, store: &[u8], now: u32, vehicle: u64, signal: u64) -> Reading {
     let s = &list.signals[signal as usize];
     let slot = &store[SLOT * (vehicle as usize - 1)..SLOT * vehicle as usize];
