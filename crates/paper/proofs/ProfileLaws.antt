@@ -24,6 +24,7 @@ use Rattle.paper.proofs.AnswerLaws.{and-then, gives-one, never-both}
 use Rattle.paper.proofs.FirstLaws.{first-none, first-passed, first-fails}
 use Rattle.paper.proofs.ListLaws.{kept, laid, sized-as}
 use Rattle.paper.proofs.ReadingLaws.{live-exactly}
+use Rattle.paper.proofs.RefusalLaws.{judge-low}
 
 -- ---- the rules of an entry
 
@@ -200,6 +201,17 @@ module _ (p : Profile) (form : ℕ) (xs : List ℕ) where
       by (gives n) e = ap (unlessBreach n) e
       by (refused m at) e = refl
 
+-- the general judging refuses with no number above 4, so 34 is the profile's alone: refused with 34 is exactly that an entry breaks the profile
+pub refused-exactly : (p : Profile) (form : ℕ) (xs : List ℕ) (at : ℕ)
+    → (profiling p form xs ≡ refused 34 at) ↔ ((f : Fault) × ((breachOf p form xs ≡ found f) × (f .at ≡ at)))
+refused-exactly p form xs at = (told (breachOf p form xs) refl, λ w. with-breach p form xs (w .0) (w .1 .0) ∙ ap (refused 34) (w .1 .1))
+  where
+    told : (x : Sought Fault) → breachOf p form xs ≡ x → profiling p form xs ≡ refused 34 at → (f : Fault) × ((x ≡ found f) × (f .at ≡ at))
+    told (found f) q e =
+        let z : refused 34 (f .at) ≡ refused 34 at = sym (with-breach p form xs f q) ∙ e in
+        (f, (refl, let w : f .at ≡ at = cc in w))
+    told nothing q e = absurd (omega (arith, judge-low form xs 34 at (sym (without-breach p form xs q) ∙ e)))
+
 -- of n entries: which is found, or what follows
 module _ (breaks : ℕ → ℕ) (fault : ℕ → Fault) (n : ℕ) (next : Sought Fault) (f : Fault) where
   pub record Here : Type 0 where
@@ -337,3 +349,15 @@ module _ (p : Profile) (form : ℕ) (xs : List ℕ) (n : Counts) (e : profiling 
         length-drop (entry (n .size) (n .signals)) (signalsPart xs n),
         length-drop (entry codeSize (n .codes)) (codesPart xs n),
       ))
+
+-- in numbers, of either profile: 5,000 octets in form 1, 5,128 in form 2
+module _ (p : Profile) (both-of : (p ≡ plainCoach) ⊎ (p ≡ drivingTrailer)) (xs : List ℕ) (n : Counts) where
+  pub longest-coach-1 : profiling p 1 xs ≡ gives n → length xs ≤ 5000
+  unfolding signalSize
+  longest-coach-1 e =
+      ⊎-elim (λ (q : p ≡ plainCoach). rw q at (longest-in-profile p 1 xs n e)) (λ (q : p ≡ drivingTrailer). rw q at (longest-in-profile p 1 xs n e)) both-of
+
+  pub longest-coach-2 : profiling p 2 xs ≡ gives n → length xs ≤ 5128
+  unfolding signalSize
+  longest-coach-2 e =
+      ⊎-elim (λ (q : p ≡ plainCoach). rw q at (longest-in-profile p 2 xs n e)) (λ (q : p ≡ drivingTrailer). rw q at (longest-in-profile p 2 xs n e)) both-of

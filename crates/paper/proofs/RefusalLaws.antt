@@ -80,6 +80,48 @@ numbered-judge form xs =
     (numbered-then _ _ (numbered-section _ _ _ _) (λ codes. numbered-shift _ _
     (numbered-then _ _ (numbered-section _ _ _ _) (λ routes. numbered-if _ 4 _ _ (omega arith) (numbered-gives _))))))))
 
+-- and none of its numbers is above 4
+unfoldable Low : {A : Type 0} → Answer A → Type 0
+Low (gives a) = Unit {0}
+Low (refused n at) = n ≤ 4
+
+low-gives : {A : Type 0} (a : A) → Low (gives a)
+unfolding Low
+low-gives a = tt
+
+low-if : {A : Type 0} (b : Bool) (n at : ℕ) (rest : Answer A) → n ≤ 4 → Low rest → Low (refuseIf b n at rest)
+unfolding Low refuseIf
+low-if true n at rest h k = h
+low-if false n at rest h k = k
+
+low-then : {A B : Type 0} (x : Answer A) (k : A → Answer B) → Low x → ((a : A) → Low (k a)) → Low (andThen x k)
+unfolding Low
+low-then (gives a) k h g = g a
+low-then (refused n at) k h g = h
+
+low-shift : {A : Type 0} (b : ℕ) (x : Answer A) → Low x → Low (shift b x)
+unfolding Low
+low-shift b (gives a) h = tt
+low-shift b (refused n at) h = h
+
+low-section : (limit size : ℕ) (rule : ℕ → Bool) (xs : List ℕ) → Low (SignalList.judgeSection limit size rule xs)
+unfolding SignalList.judgeSection SignalList.opening SignalList.judgeEntries
+low-section limit size rule xs =
+    low-then _ _ (low-if _ 1 _ _ (omega arith) (low-if _ 2 _ _ (omega arith) (low-if _ 1 _ _ (omega arith) (low-gives _))))
+    (λ n. low-if _ 3 _ _ (omega arith) (low-gives _))
+
+low-judge : (form : ℕ) (xs : List ℕ) → Low (judge form xs)
+unfolding judgeTo SignalList.fromSignalsTo SignalList.fromCodes SignalList.fromRoutes SignalList.ending
+low-judge form xs =
+    low-then _ _ (low-section _ _ _ _) (λ checks. low-shift _ _
+    (low-then _ _ (low-section _ _ _ _) (λ signals. low-shift _ _
+    (low-then _ _ (low-section _ _ _ _) (λ codes. low-shift _ _
+    (low-then _ _ (low-section _ _ _ _) (λ routes. low-if _ 4 _ _ (omega arith) (low-gives _))))))))
+
+pub judge-low : (form : ℕ) (xs : List ℕ) (n at : ℕ) → judge form xs ≡ refused n at → n ≤ 4
+unfolding Low
+judge-low form xs n at e = rw e at (low-judge form xs)
+
 numbered-under : {A : Type 0} (form : ℕ) (xs : List ℕ) (call : Counts → Answer A) → ((n : Counts) → Numbered (call n)) → Numbered (andThen (judge form xs) call)
 numbered-under form xs call h = numbered-then (judge form xs) call (numbered-judge form xs) h
 

@@ -576,8 +576,8 @@ table =
     ∷ saying "r2-for-r1" (profiles drivingTrailer (made (320 ∷ []) (signal 368 4 2 1 1 5000 0 ∷ []) [] [])) (refuses 34 6) accepted-r1
     ∷ saying "common-by-the-grouping" (profiles drivingTrailer (small 1 5000 1 [])) accepted-small (refuses 34 6)
     ∷ saying "check-by-its-number" (profiles drivingTrailer (small-r1 322 368 4)) (refuses 34 6) accepted-r1
-    ∷ saying "first-bit-decides" (profiles drivingTrailer (small-r1 324 463 2)) (refuses 34 6) accepted-r1
-    ∷ saying "last-bit-decides" (profiles drivingTrailer (small-r1 326 463 2)) (refuses 34 6) accepted-r1
+    ∷ saying "first-bit-decides" (profiles drivingTrailer (small-r1 322 455 2)) (refuses 34 6) accepted-r1
+    ∷ saying "last-bit-decides" (profiles drivingTrailer (small-r1 324 455 2)) (refuses 34 6) accepted-r1
     ∷ saying "outside-the-grouping" (profiles drivingTrailer (small-r1 352 584 1)) (refuses 34 6) accepted-r1
     ∷ saying "route-to-129" (profiles plainCoach (small 1 5000 1 (route 0 1 125 ∷ []))) (refuses 34 32) (gave (1 ∷ 1 ∷ 1 ∷ 1 ∷ 1 ∷ []))
     ∷ saying "route-starts-within" (profiles plainCoach (small 1 5000 1 (route 0 1 127 ∷ []))) (refuses 34 32) (gave (1 ∷ 1 ∷ 1 ∷ 1 ∷ 1 ∷ []))
