@@ -12,7 +12,7 @@ pub enum Form {
     Two = 2,
 }
 
-/// By whose controllers a list is for: rules that are narrower than those of every list.
+/// The vehicles whose controllers a list is for: rules that are narrower than those of every list.
 #[derive(Debug, Clone, Copy, PartialEq, Eq, Hash)]
 #[repr(u8)]
 pub enum Profile {
