@@ -36,7 +36,7 @@ extern "C" {
 /* The forms of a list: signal entries of 16 octets, and of 18, with a serial number behind each. */
 enum df_form { DF_FORM_1 = 1, DF_FORM_2 = 2 };
 
-/* The profiles, by whose controllers a list is for; a number that is none of these is the plain coach's, the narrower. */
+/* The profiles, by the vehicles whose controllers a list is for; a number that is none of these is the plain coach's, the narrower. */
 enum df_profile { DF_PLAIN_COACH = 1, DF_DRIVING_TRAILER = 2 };
 
 /* What the second of two lists lacks to extend the first. */
@@ -123,7 +123,7 @@ typedef struct { uint32_t refusal; uint64_t carried; uint64_t checks, signals, c
 /* which: 0 no list was refused, 1 the first list, 2 the second; extends: 1 yes, 0 no */
 typedef struct { uint32_t refusal; uint32_t which; uint64_t carried; uint32_t extends; } df_extending;
 
-/* which: as of df_extending; found: 1 a difference, 0 no more, and then all other fields are 0; breaks: a number of df_breaks, the first that
+/* which: as of df_extending; found: 1 a difference, 0 no more, or refused; breaks: a number of df_breaks, the first that
  * applies; key: of a signal its type * 1024 + its start, of a route its destination start; first, second: its number in that list, from 0, and
  * where the list has none, the number of all that it has */
 typedef struct {
@@ -184,7 +184,7 @@ df_extending df_extends(const uint8_t *a, size_t a_len, uint8_t form, const uint
 df_change df_signal_change(const uint8_t *a, size_t a_len, uint8_t form, const uint8_t *b, size_t b_len, uint8_t other, uint64_t from);
 
 /* The next destination start, the bit `from` or above, at which one list alone has a route, or both have one of another vehicle or of another
- * signal, by type and start. Refusals 1-4 of the first list that is refused. */
+ * signal, by type and start; a route's entry is to be read out of the list by its number. Refusals 1-4 of the first list that is refused. */
 df_change df_route_change(const uint8_t *a, size_t a_len, uint8_t form, const uint8_t *b, size_t b_len, uint8_t other, uint64_t from);
 
 /* The next range, as long as possible, of codes that the signal at a key knows in the second list and not in the first, if it starts at the code
