@@ -20,7 +20,7 @@ from declared import declared
 ROOT = os.path.dirname(os.path.dirname(os.path.abspath(__file__)))
 PAGE = "docs/PROMISES.md"
 PAGES = ["*.md", "docs/**/*.md", "data/**/*.md"]
-SLIPS = "crates/paper/specs/Wrong.antt"
+SLIPS = "crates/tables/specs/Wrong.antt"
 COUNTED = "Sentence by sentence"
 WORDS = {"requires", "pub fn"}  # of the language
 
@@ -60,7 +60,7 @@ def split(row):
 
 def file_of(code, files):
     """The file or folder that a place stands for, a module among these files first; None where there is no such, or more than one."""
-    path = re.sub(r"^paper/", "crates/paper/", code)
+    path = re.sub(r"^(paper|tables)/", r"crates/\1/", code)
     name = "/" + code.removesuffix(".antt") + ".antt"
     found = glob.glob(path) if "/" in path else [f for f in files if f.endswith(name)] or glob.glob("crates/*/*" + name)
     return found[0] if len(found) == 1 else None

@@ -1,4 +1,4 @@
-// The marked cases (a) to (l) of document 01, run on the compiled calls. The table that is proved stands in crates/paper/specs/Marked.antt.
+// The marked cases (a) to (l) of document 01, run on the compiled calls. The table that is proved stands in crates/tables/specs/Marked.antt.
 use gateway::FORM_1;
 use gateway::HeldOutcome;
 use gateway::Kind;

@@ -31,4 +31,3 @@ pub mod ProfileLaws
 pub mod RangeLaws
 pub mod ComparingLaws
 pub mod TrueClock
-pub mod WrongLaws

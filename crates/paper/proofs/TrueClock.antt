@@ -19,8 +19,7 @@ use Rattle.paper.specs.SignalList.{SignalList, Counts, longestLimit, jud
 use Rattle.paper.specs.Store.{vehicles, telegramOctets, storeOctets, slotStart, Slot, slotOf, moved, taken, taking, turn, age, Takes, stale, timely}
 use Rattle.paper.specs.Reading.{Reading, heard, hindrances, reasonOf, readingOf, reading}
 use Rattle.paper.specs.Demands.{Step, offer, sweep, step, run, NoneLater, NoneExpired, halfTurn, onClock, Orderly, TrueClock, LastTaken}
-use Rattle.paper.specs.Bench.{listL, countsL, judged}
-use Rattle.paper.specs.Marked.{telegram, silent}
+use Rattle.paper.specs.Bench.{listL, countsL, judged, telegram, silent}
 use Rattle.paper.specs.Parked.{sent, come-round, watched, seldom}
 use Rattle.paper.proofs.FieldLaws.{field-front}
 use Rattle.paper.proofs.ListLaws.{kept}

@@ -24,11 +24,4 @@ pub mod Relaying
 pub mod Profiles
 pub mod Comparing
 pub mod Bench
-pub mod Marked
 pub mod Parked
-pub mod Cases
-pub mod Edges
-pub mod Breaks
-pub mod RelayCases
-pub mod CompareCases
-pub mod Wrong

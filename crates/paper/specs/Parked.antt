@@ -12,8 +12,7 @@ use Rattle.paper.specs.SignalList.{judgeTo, hasCodes, inRange, knownIn, 
 use Rattle.paper.specs.Store.{slotOf, taken, taking, turn, age}
 use Rattle.paper.specs.Reading.{heard, markOf, codeOf, hindrances, reasonOf, readingOf, readingAt, reading}
 use Rattle.paper.specs.Demands.{Step, offer, sweep, run, halfTurn, onClock}
-use Rattle.paper.specs.Bench.{listL}
-use Rattle.paper.specs.Marked.{telegram, silent}
+use Rattle.paper.specs.Bench.{listL, telegram, silent}
 
 abbrev pub sent : ℕ → Step
 sent t = offer 1 t (telegram 0x10 0x40)

@@ -9,31 +9,31 @@ use mathlib.Core.List.{List, [], _∷_, _++_, map}
 use lib.ListN.{take, drop, replicate, set}
 use lib.Dec.{eqb}
 use lib.Ieee.{toBits, ofBits, round}
 use Rattle.paper.specs.Octets.{field, bit, number, octetsOf, over, put, puts, setBit, withBit}
 use Rattle.paper.specs.Answer.{refuseIf, after}
 use Rattle.paper.specs.First.{firstFrom, firstBad, all, some, next, count, greatest, listed}
 use Rattle.paper.specs.Telegrams.{applicationType, telegramType, versionOf, rows, placeIn}
 use Rattle.paper.specs.SignalList
 use Rattle.paper.specs.SignalList.{Signal, Code, Route, judgeTo, version, hasCodes, inRange, knownIn, knows, placeOf}
 use Rattle.paper.specs.Broken.{faultIn, faultFromRoutes, faultFromCodes, faultFromSignals, faultOf}
 use Rattle.paper.specs.Forms.{serialAt, serialOf, narrowed, droppedFrom, dropped, spread, widenedFrom, widened, toForm2, toForm1}
 use Rattle.paper.specs.Extends.{codesKept, keeps, stands, newer, extendsLists}
 use Rattle.paper.specs.Extends as Extending
 use Rattle.paper.specs.Pairs.{entryOf, routeEntry, signalFound, finding, has, index, nextPair, pairing}
 use Rattle.paper.specs.Comparing.{starts, past, changeAt, codesCompared, gained, signalDiffers, signalChange, breaks, routeDiffers, routeChange, nextSignal, nextRoute, nextGained, signalChanges, routeChanges, codesGained}
 use Rattle.paper.specs.Store.{slotHead, slotOctets, storeOctets, slotStart, slotOf, taken, taking, age, gap, gapping, stale, sweptOne, sweptTo, sweeping}
 use Rattle.paper.specs.Reading.{heard, heldIn, holding, markOf, codeOf, hindrances, reasonOf, readingOf, readingAt, reading}
 use Rattle.paper.specs.Marshalling.{routed, marshalled, live, marshalling}
 use Rattle.paper.specs.Composing.{headed, composed, markFits, valueFits, composing}
 use Rattle.paper.specs.Relaying.{relayType, readLive, under, allLive, vouched, relayMark, relayValue, relaying}
 use Rattle.paper.specs.Profiles.{plainCoach, drivingTrailer, underTable, signalBroken, routeBroken, firstBreach, breachIn, breachOf, profiling}
 use Rattle.paper.specs.Shown.{Kind, speed, percentage, signedPercentage, showing}
 use Rattle.paper.specs.Shown as Shown
 use Rattle.paper.specs.Train.{Vehicle, consistRule, meets, member, setTo, membersOf, resolving}
 use Rattle.paper.specs.ETelegrams.{requests, isRequest, isReport, eReading, answerTo, answering}
-use Rattle.paper.specs.Bench.{listL, listL2, listV}
-use Rattle.paper.specs.Marked.{telegram, silent, heardAt, rawAt}
-use Rattle.paper.specs.Cases.{joined, made, made2, bits, signal, code, route, Question, judges, judgesIn, faults, faultsIn, profilesIn, profiles, breaches, extends, extendsIn, serialsIn, movesTo2, movesTo1, readsIn, signalEntries, routeEntries, finds, pairs, signalChangesIn, changes, reroutes, gains, places, takes, gaps, sweeps, holds, reads, marshals, composes, relays, shows, resolves, eReads, eAnswers, gave, refuses, ask}
+use Rattle.paper.specs.Bench.{listL, listL2, listV, telegram, silent}
+use Rattle.tables.specs.Marked.{heardAt, rawAt}
+use Rattle.tables.specs.Cases.{joined, made, made2, bits, signal, code, route, Question, judges, judgesIn, faults, faultsIn, profilesIn, profiles, breaches, extends, extendsIn, serialsIn, movesTo2, movesTo1, readsIn, signalEntries, routeEntries, finds, pairs, signalChangesIn, changes, reroutes, gains, places, takes, gaps, sweeps, holds, reads, marshals, composes, relays, shows, resolves, eReads, eAnswers, gave, refuses, ask}
 
 -- ---- A wrong gateway
 

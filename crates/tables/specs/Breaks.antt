@@ -2,13 +2,13 @@
 use Prim.Native.Nat.{ℕ, _+_}
 use mathlib.Core.Path.{_≡_, refl}
 use mathlib.Core.List.{List, [], _∷_, map}
 use Rattle.paper.specs.Octets.{number, octetsOf}
 use Rattle.paper.specs.Answer.{refuseIf}
 use Rattle.paper.specs.First.{firstFrom, firstBad, all}
 use Rattle.paper.specs.SignalList
 use Rattle.paper.specs.SignalList.{Signal, Code, Route}
 use Rattle.paper.specs.Broken.{faultIn, faultFromRoutes, faultFromCodes, faultFromSignals, faultOf}
-use Rattle.paper.specs.Cases.{joined, made, signal, code, route, faults, gave, ask}
+use Rattle.tables.specs.Cases.{joined, made, signal, code, route, faults, gave, ask}
 
 -- a list, and what is said of its entry at fault
 pub record Break : Type 0 where

@@ -4,25 +4,25 @@ use mathlib.Core.Path.{_≡_, refl}
 use mathlib.Core.List.{List, [], _∷_, _++_, map}
 use lib.ListN.{take, replicate, set}
 use lib.Ieee.{toBits, ofBits, round}
 use Rattle.paper.specs.Octets.{field, bit, number, octetsOf, over, put, puts, setBit, withBit}
 use Rattle.paper.specs.Answer.{refuseIf, after}
 use Rattle.paper.specs.First.{firstFrom, firstBad, all, some, count, greatest, listed}
 use Rattle.paper.specs.Telegrams.{applicationType, telegramType, versionOf, rows, placeIn}
 use Rattle.paper.specs.SignalList
 use Rattle.paper.specs.SignalList.{Signal, judgeTo, version, hasCodes, inRange, knownIn, knows, placeOf}
 use Rattle.paper.specs.Forms.{serialAt, serialOf, narrowed, droppedFrom, dropped, spread, widenedFrom, widened, toForm2, toForm1}
 use Rattle.paper.specs.Store.{slotOf, taken, taking, age, gap, gapping, stale, sweptOne, sweptTo, swept, sweeping}
 use Rattle.paper.specs.Reading.{heard, markOf, codeOf, hindrances, reasonOf, readingOf, readingAt, reading}
 use Rattle.paper.specs.Marshalling.{routed, marshalled, live, marshalling}
 use Rattle.paper.specs.Composing.{headed, composed, markFits, valueFits, composing}
 use Rattle.paper.specs.Relaying.{relayType, readLive, under, allLive, vouched, relayMark, relayValue, relaying}
 use Rattle.paper.specs.Profiles.{plainCoach, drivingTrailer, underTable, signalBroken, routeBroken, firstBreach, breachIn, profiling}
 use Rattle.paper.specs.Shown.{speed, showing}
 use Rattle.paper.specs.Train.{noVehicle, consistRule, meets, member, setTo, membersOf, resolving}
 use Rattle.paper.specs.ETelegrams.{requests, isRequest, isReport, eReading, answerTo, answering}
-use Rattle.paper.specs.Bench.{listL, listL2, listV}
-use Rattle.paper.specs.Marked.{telegram, silent, heardAt, rawAt}
-use Rattle.paper.specs.Cases.{joined, made, made2, bits, signal, code, route, Question, judges, judgesIn, profiles, serialsIn, movesTo2, movesTo1, places, takes, gaps, sweeps, reads, marshals, composes, relays, shows, resolves, eReads, gave, refuses, ask}
+use Rattle.paper.specs.Bench.{listL, listL2, listV, telegram, silent}
+use Rattle.tables.specs.Marked.{heardAt, rawAt}
+use Rattle.tables.specs.Cases.{joined, made, made2, bits, signal, code, route, Question, judges, judgesIn, profiles, serialsIn, movesTo2, movesTo1, places, takes, gaps, sweeps, reads, marshals, composes, relays, shows, resolves, eReads, gave, refuses, ask}
 
 pub record Edge : Type 0 where
   pub at : Question

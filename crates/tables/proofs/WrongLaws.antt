@@ -5,8 +5,8 @@ use mathlib.Core.Bool.{true, false≢true}
 use mathlib.Core.List.{List, [], _∷_}
 use lib.ListN.{getD, List·getD-map}
 use borrow.Author.Tests.{eq-eqb}
-use Rattle.paper.specs.Cases.{ask}
-use Rattle.paper.specs.Wrong.{Row, table, answered, sameNumbers, Told, told, written, wrong}
+use Rattle.tables.specs.Cases.{ask}
+use Rattle.tables.specs.Wrong.{Row, table, answered, sameNumbers, Told, told, written, wrong}
 
 numbers-same : (xs : List ℕ) → sameNumbers xs xs ≡ true
 unfolding sameNumbers

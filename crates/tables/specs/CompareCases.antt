@@ -4,16 +4,16 @@ use mathlib.Core.Path.{_≡_, refl}
 use mathlib.Core.Bool.{true, false}
 use mathlib.Core.List.{List, [], _∷_, map}
 use lib.ListN.{take}
 use Rattle.paper.specs.Octets.{number, octetsOf}
 use Rattle.paper.specs.Answer.{refuseIf}
 use Rattle.paper.specs.First.{firstFrom, firstBad, all, some, passingFrom, passing, next, greatest}
 use Rattle.paper.specs.SignalList
 use Rattle.paper.specs.SignalList.{Signal, Code, Route, OfTwo, ofBoth, firstRefused, secondRefused, judgeTo, version, hasCodes, inRange, knownIn, knows, placeOf}
 use Rattle.paper.specs.Extends.{codesKept, keeps, stands, newer, extends}
 use Rattle.paper.specs.Pairs.{has, index}
 use Rattle.paper.specs.Comparing.{Range, starts, past, ranges, Change, added, removed, changed, changeAt, Differing, differing, codesCompared, gained, signalDiffers, signalChange, routeDiffers, routeChange, Line, signalLine, routeLine, verdict, signalLineAt, routeLineAt, signalLines, routeLines, compare, comparing}
 use Rattle.paper.specs.Bench.{listL, listL2}
-use Rattle.paper.specs.Cases.{joined, made, signal, code, route}
+use Rattle.tables.specs.Cases.{joined, made, signal, code, route}
 
 -- ---- Lists and lines
 

@@ -6,20 +6,20 @@ use mathlib.Core.List.{List, [], _∷_, map}
 use native.Mathlib.Omega.{arith}
 use lib.ListN.{replicate}
 use lib.Dec.{lit<}
 use Rattle.paper.specs.Octets.{bit, field, withBit, setBit, put, puts, number, octetsOf, over}
 use Rattle.paper.specs.Answer.{Answer, gives, refused, refuseIf, andThen, after}
 use Rattle.paper.specs.First.{firstFrom, firstBad, all, some, greatest, listed}
 use Rattle.paper.specs.Telegrams.{applicationType, telegramType, versionOf, error, ok, forced, undefined}
 use Rattle.paper.specs.SignalList
 use Rattle.paper.specs.SignalList.{Counts, judgeTo, listOf, hasCodes, inRange, knownIn, knows, placeOf, version}
 use Rattle.paper.specs.Extends.{codesKept, keeps, stands, newer, extends}
 use Rattle.paper.specs.Store.{slotOf, taken, taking, age, inTime, stale, sweptOne, sweptTo, sweeping}
 use Rattle.paper.specs.Reading.{Reading, heard, markOf, codeOf, hindrances, reasonOf, readingOf, readingAt, reading}
 use Rattle.paper.specs.Composing.{headed, composed, markFits, valueFits, composing}
 use Rattle.paper.specs.Demands.{Step, offer, sweep, run, NoneLater, NoneExpired}
 use Rattle.paper.specs.Relaying.{Requested, relayType, readLive, under, allLive, vouched, relayMark, relayValue, relaying}
-use Rattle.paper.specs.Marked.{silent}
-use Rattle.paper.specs.Cases.{joined, made, signal, code}
+use Rattle.paper.specs.Bench.{silent}
+use Rattle.tables.specs.Cases.{joined, made, signal, code}
 
 -- ---- The trip of a telegram
 

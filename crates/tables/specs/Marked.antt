@@ -5,25 +5,18 @@ use mathlib.Core.Path.{_≡_, refl, sym, ap₂, _∙_}
 use mathlib.Core.List.{List, [], _∷_, map}
 use lib.ListN.{getD, set, replicate, List·getD-map}
 use lib.Ieee.{binary32, ofBits, round}
 use Rattle.paper.specs.Octets.{bit, field, withBit, setBit, put, puts, number, octetsOf, over}
 use Rattle.paper.specs.Answer.{Answer, gives, refuseIf, after}
 use Rattle.paper.specs.First.{firstFrom, firstBad, all, some, count, greatest}
 use Rattle.paper.specs.Telegrams.{applicationType, telegramType, versionOf, ok}
 use Rattle.paper.specs.SignalList
 use Rattle.paper.specs.SignalList.{judge, judgeTo, version, hasCodes, inRange, knownIn, knows, placeOf}
-use Rattle.paper.specs.Store.{storeOctets, slotOf, taken, taking, age}
+use Rattle.paper.specs.Store.{slotOf, taken, taking, age}
 use Rattle.paper.specs.Reading.{Reading, heard, markOf, codeOf, hindrances, reasonOf, readingOf, readingAt, reading}
 use Rattle.paper.specs.Marshalling.{Marshalled, routed, marshalled, live, marshalling}
 use Rattle.paper.specs.Composing.{headed, composed, markFits, valueFits, composing}
 use Rattle.paper.specs.Shown.{speed, Shown, asSpeed, shownAs, ShownReading, showing}
-use Rattle.paper.specs.Bench.{listL, listV}
-
--- "Vehicle 1 sends R1, version 1", with these octets 41 and 54
-unfoldable pub telegram : ℕ → ℕ → List ℕ
-telegram o41 o54 = set (set (0x11 ∷ 0x01 ∷ replicate 126 0) 40 o41) 53 o54
-
-unfoldable pub silent : List ℕ
-silent = replicate storeOctets 0
+use Rattle.paper.specs.Bench.{listL, listV, telegram, silent}
 
 unfoldable pub heardAt : ℕ → ℕ → ℕ → List ℕ
 heardAt o41 o54 stamp = after silent (taking silent 1 stamp (telegram o41 o54))

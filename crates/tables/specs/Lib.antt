@@ -1,0 +1,7 @@
+pub mod Marked
+pub mod Cases
+pub mod Edges
+pub mod Breaks
+pub mod RelayCases
+pub mod CompareCases
+pub mod Wrong
