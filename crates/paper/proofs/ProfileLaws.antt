@@ -308,8 +308,8 @@ never-late p l h slot now k lt live =
     (either (leb (age now (slot .stamp)) (l .signal k .limit)) (eqb (l .signal k .limit) 0) (both (not (expired slot) || eqb (l .signal k .limit) 0) _ (live-exactly l slot now k .0 live .in-time) .1))
 
 -- the list meets two premises of C-24: every signal has a check, and every replacement is known, so that no relaying is refused with 15
-pub passes-on : (p : Profile) (l : SignalList) → InProfile p l → ((k : ℕ) → k < l .signals → l .signal k .check ≡ 0 → ⊥) × ReplacementsKnown l
-passes-on p l h = (h .checked, h .replaced)
+pub meets-premises : (p : Profile) (l : SignalList) → InProfile p l → ((k : ℕ) → k < l .signals → l .signal k .check ≡ 0 → ⊥) × ReplacementsKnown l
+meets-premises p l h = (h .checked, h .replaced)
 
 -- each route has a bit at least, behind those of the routes before
 route-far : (l : SignalList) → Kept l → (k : ℕ) → k < l .routes → k < routeEnd (l .signal) (l .route k)

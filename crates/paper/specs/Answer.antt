@@ -4,8 +4,8 @@ use mathlib.Core.Path.{_≡_}
 use mathlib.Core.Bool.{Bool, true, false}
 use mathlib.Core.List.{List}
 
--- a call gives a value, or is refused by a number of the paper with what that refusal carries: 1-4 the offset of the count, of the
--- entry or of the first octet too many, 15 the signal at fault, every other number nothing (0)
+-- a call gives a value, or is refused by a number of the paper with what that refusal carries: 1-4 and 34 the offset of the count, of
+-- the entry or of the first octet too many, 15 the signal at fault, every other number nothing (0)
 pub data Answer (A : Type 0) : Type 0 where
   gives : A → Answer A
   refused : ℕ → ℕ → Answer A

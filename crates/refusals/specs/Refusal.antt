@@ -6,7 +6,7 @@ use Rattle.refusals.specs.declared.Refusal.{Refusal}
 abbrev pub numberOf : Refusal → ℕ
 numberOf f = f .0
 
--- the offset of 1 to 4 and the signal of 15; nothing (0) of the others
+-- the offset of 1 to 4 and 34, and the signal of 15; nothing (0) of the others
 abbrev pub carriedOf : Refusal → ℕ
 carriedOf f = f .1
 
