@@ -33,8 +33,9 @@ with each field that differs, its number in FIRST and in SECOND: width, check
 (its place, or none), since, limit, replacement. Where the widths are equal and
 at most 16, the known codes gained and lost follow, in ranges. A signal that is
 added or removed stands there with its own numbers. A PLACE is that of FIRST
-where it has the signal. Then come the routes, by their destination, each with
-its vehicle and the place of its signal.
+where it has the signal. Then come the routes, by their destination: one that is
+added or removed with its vehicle and the place of its signal, a changed one with
+what of these differs.
 A line that begins with ! is why SECOND does not extend FIRST, and closes with
 the first rule of extending that the difference breaks:
   1 width  2 check place  3 since-version  4 codes lost  5 removed
@@ -49,8 +50,10 @@ columns with a tab between, and a row of their names above where something
 differs: what (signal, route), change, type, start, breaks (the rule's number, 0
 for none), field, from and to, which are the number in FIRST and in SECOND (a
 dash where a list has no such entry), or of `gained` and `lost` the lowest code
-and the highest. A place is its first bit's address, no check is 0. In form 2
-two columns more stand behind start, serial_1 and serial_2 (a dash for none).
+and the highest. A place is its first bit's address, no check is 0. A route has
+a dash for its type and its destination for start, and the fields vehicle,
+signal_type and signal_start. In form 2 two columns more stand behind start,
+serial_1 and serial_2 (a dash for none). The last line stays the last.
 These words may be combined, in any order.
 A list that breaks a rule gets one line that begins with `refused`, as of
 `judge`, and says which list it is; nothing is compared then. A file that cannot

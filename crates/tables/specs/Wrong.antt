@@ -259,13 +259,14 @@ one-of checks check since limit codes = made checks (signal 24 4 0 check since l
 abbrev knowing : ℕ → List ℕ
 knowing high = one-of [] 0 1 0 (code 0 0 high ∷ [])
 
--- the same and one of 4 bits at 28, with this since-version; with a route of the signal at 24 to bit 0
+-- such a one without check, limit and codes, and one of 4 bits at 28 with this since-version
 abbrev one-more : ℕ → List ℕ
 one-more since = made [] (signal 24 4 0 0 1 0 0 ∷ signal 28 4 0 0 since 0 0 ∷ []) [] []
 
 abbrev plain-one : List ℕ
 plain-one = one-of [] 0 1 0 []
 
+-- one of 4 bits at 24 behind these, and a route of signal k from this vehicle to bit 0
 abbrev routed-one : List Signal → ℕ → ℕ → List ℕ
 routed-one before k vehicle = made [] (before ++ (signal 24 4 0 0 1 0 0 ∷ [])) [] (route k vehicle 0 ∷ [])
 
@@ -334,6 +335,9 @@ table =
     (extends listL (made (322 ∷ []) (plain 100 0 1 ∷ signal 424 4 1 1 1 5000 0 ∷ []) (code 1 0 6 ∷ code 1 15 15 ∷ []) [])) no
     (extends listL (made (322 ∷ []) (plain 100 0 2 ∷ signal 424 4 1 1 1 5000 0 ∷ []) (code 1 0 6 ∷ code 1 15 15 ∷ []) [])) yes
     ∷ asked-as "code-lost" (extends listL (set listL 29 5)) no (extends listL (set listL 29 7)) yes
+    ∷ saying "width-changed-extends" (extends plain-one (made [] (signal 24 5 0 0 1 0 0 ∷ []) [] [])) no yes
+    ∷ saying "since-changed-extends" (extends plain-one (one-of [] 0 2 0 [])) no yes
+    ∷ saying "check-one-place-off-extends" (extends (one-of (16 ∷ 18 ∷ []) 1 1 0 []) (one-of (16 ∷ 18 ∷ []) 2 1 0 [])) no yes
     ∷ saying "which-list" (extends listL []) (refuses 1 0 ++ (2 ∷ [])) (refuses 1 0 ++ (1 ∷ []))
     ∷ saying "second-judged-first" (extends [] (listL ++ (0 ∷ []))) (refuses 1 0 ++ (1 ∷ [])) (refuses 4 44 ++ (2 ∷ []))
     ∷ asked-as "one-form-for-both" (extendsIn 1 listL 2 (listL2 7)) yes (extendsIn 1 listL 1 (listL2 7)) (refuses 1 22 ++ (2 ∷ []))
@@ -557,7 +561,7 @@ table =
     ∷ saying "not-newer-passed" (changes plain-one (one-more 1) 0) (gave (1 ∷ 28 ∷ 1 ∷ 1 ∷ 6 ∷ [])) (gave (1 ∷ 28 ∷ 1 ∷ 1 ∷ 0 ∷ []))
     ∷ saying "told-again" (changes plain-one (one-of [] 0 1 5000 []) 25) nothing-more (told-of 0)
     ∷ saying "second-compared-first" (changes [] (0 ∷ []) 0) (refuses 1 0 ++ (1 ∷ [])) (refuses 1 0 ++ (2 ∷ []))
-    ∷ saying "ranges-apart" (gains (knowing 3) (knowing 7) 24 0) (gave (1 ∷ 4 ∷ 7 ∷ [])) (gave (1 ∷ 4 ∷ 5 ∷ []))
+    ∷ saying "range-in-two" (gains (knowing 3) (knowing 7) 24 0) (gave (1 ∷ 4 ∷ 7 ∷ [])) (gave (1 ∷ 4 ∷ 5 ∷ []))
     ∷ saying "lost-as-gained" (gains (knowing 7) (knowing 3) 24 0) nothing-more (gave (1 ∷ 4 ∷ 7 ∷ []))
     ∷ saying "codes-of-another-width" (gains (knowing 7) (made [] (signal 24 5 0 0 1 0 0 ∷ []) [] []) 24 0) nothing-more (gave (1 ∷ 8 ∷ 31 ∷ []))
     ∷ saying "rest-of-a-range" (gains (knowing 3) (knowing 7) 24 5) nothing-more (gave (1 ∷ 5 ∷ 7 ∷ []))
