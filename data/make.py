@@ -1,8 +1,9 @@
 #!/usr/bin/env python3
-"""Writes the signal lists of this folder from signals.csv. data/README.md says what is the sources' and what is a choice.
+"""Writes the signal lists of this folder from signals.csv, and a telegram with remedy texts. data/README.md says what is the sources' and what is a
+choice.
 
     data/make.py            writes coach.list, coach-2.list, coach-next.list, coach-wrong.list, coach-off.list, plain-coach.list,
-                            driving-trailer.list, counters.list and L.list
+                            driving-trailer.list, counters.list and L.list; door.texts, door.telegram and door-off.telegram
     data/make.py --check    only says whether they are as they would be written, and whether the programs' table of kinds is the column `kind`
 """
 import csv
@@ -130,6 +131,40 @@ COUNTERS = bytes.fromhex(
     "0000 0003 0000 01 00 0000 0000 02 00 0040 0002 01 00 0084")
 
 
+# A door of a coach that does not close, as a desk may show it: octets 1-6; octets 9-20, with an error code in 11-12, a time in 13-18 and a kind of remedy
+# in 19; the language, whether it is the one ordered, and texts by their keys
+DOOR = (bytes.fromhex("00 10 05 01 00 00"), bytes.fromhex("01 00 22 95 1a 2b 3c 4d 00 00 01 00"), b"de", True, [
+    (1, "Tür 3 links: Hindernis entfernen, Taster „Tür zu“ drücken"),
+    (2, "Schließt sie nicht: mit Vierkantschlüssel verriegeln"),
+    (4, "Aufkleber „Tür gestört“ außen und innen anbringen"),
+    (8, "Prüfen: grüne Anzeige „Türen geschlossen“ leuchtet"),
+])
+
+
+def remedies(head, carried, language, ordered, texts):
+    """The telegram 8.8A, of code 8A08: a text has two octets a character."""
+    out = head + n(0x8A08, 2) + carried + language + bytes([ordered, len(texts)]) + bytes(6)
+    for key, text in texts:
+        octets = text.encode("utf-16-be")
+        out += n(6 + len(octets), 2) + bytes([key, 0]) + n(len(octets), 2) + octets
+    return out
+
+
+def remedies_file(head, carried, language, ordered, texts):
+    """The text file that `write_remedies` makes it from."""
+    lines = ["# a door that does not close: what the train crew can do; octets 1-6 and 9-20 are carried unread", f"head {head.hex(' ')}", f"carried {carried.hex(' ')}",
+             f"language {language.decode()}", "ordered " + ("yes" if ordered else "no"), *(f"F{key} {text}" for key, text in texts)]
+    return ("\n".join(lines) + "\n").encode()
+
+
+def block_off(telegram, block):
+    """The telegram with the length of a block off by two, as if its own two octets were not counted."""
+    at = 30
+    for _ in range(block):
+        at += int.from_bytes(telegram[at:at + 2], "big")
+    return telegram[:at] + n(int.from_bytes(telegram[at:at + 2], "big") - 2, 2) + telegram[at + 2:]
+
+
 def kinds_of_code():
     """Telegram, start, kind and serial number of each row of the programs' table."""
     with open(KINDS) as f:
@@ -167,6 +202,9 @@ def main():
         "coach-off.list": pack(one_off(list(read_signals())), ROUTES),
         "plain-coach.list": profiled(plain_coach(read_signals()), PLAIN_COACH_ROUTES),
         "driving-trailer.list": profiled(driving_trailer(read_signals()), DRIVING_TRAILER_ROUTES),
+        "door.texts": remedies_file(*DOOR),
+        "door.telegram": remedies(*DOOR),
+        "door-off.telegram": block_off(remedies(*DOOR), 1),
     }
     return settle(files, "make.py") or "--check" in sys.argv and check_kinds()
 

@@ -4,13 +4,16 @@
  * The library is proved; this header is not checked against it. It declares what `crates/dustferrule/src/lib.rt` exports.
  *
  * What the caller owes:
- *  - each pointer with its length names readable memory (writable where the parameter is not const) of that many elements;
- *  - no area is longer than a C object can be (PTRDIFF_MAX octets); `values` is aligned for a uint64_t, also with length 0;
+ *  - each pointer with its length names readable memory (writable where the parameter is not const) of that many elements, and one without a
+ *    length names as many octets as stand in its brackets;
+ *  - no area is longer than a C object can be (PTRDIFF_MAX octets); `values` is aligned for a uint64_t and `lengths` for a uint16_t, also with
+ *    length 0;
  *  - an area that is written overlaps no other area of the same call;
  *  - with length 0 the pointer is never read or written, but it must not be NULL: pass any non-null pointer.
  *
  * Results: `refusal` is 0, or a number of DF_REFUSALS below; every field that an answer does not use is 0. A refused call changes no
- * octet it was lent. Of the numbers that a call can meet, 1-4 come first, as judging the list meets them, then the lowest.
+ * octet it was lent. Of the numbers that a call can meet, 1-4 come first, as judging the list meets them, then the lowest; the calls on remedy
+ * texts say their own order.
  *
  * `form`, behind each list, says how its signal entries are laid out: DF_FORM_1, 16 octets, or DF_FORM_2, 18 octets, of which the last two
  * are a serial number, 0 for none. Any number of 8 bits but 2 is form 1. A list in form 2 answers as the same list without its serial numbers
@@ -51,7 +54,7 @@ enum df_kind { DF_CODE = 0, DF_SPEED = 1, DF_PERCENTAGE = 2, DF_SIGNED_PERCENTAG
 /* What a shown value is in. */
 enum df_unit { DF_NO_UNIT = 0, DF_KM_PER_HOUR = 1, DF_PERCENT = 2, DF_AMPERE = 3 };
 
-/* The refusals, in the words of document 01 or, as 5, 26 and those from 32 on, of document 02: X(name, number, text). A new one is a line. */
+/* The refusals, in the words of document 01 or, as 5, 25, 26 and those from 28 on, after document 02: X(name, number, text). A new one is a line. */
 #define DF_REFUSALS(X) \
     X(LIST_ENDS, 1, "list ends inside a count or a section") \
     X(COUNT_ABOVE, 2, "count above its limit") \
@@ -77,9 +80,12 @@ enum df_unit { DF_NO_UNIT = 0, DF_KM_PER_HOUR = 1, DF_PERCENT = 2, DF_AMPERE = 3
     X(E_CODE, 22, "code neither request nor report") \
     X(ANSWER_TO_REPORT, 23, "answer to a report") \
     X(HEAD_LENGTH, 24, "head not 6 octets") \
-    X(OUTPUT_SHORT, 25, "output under 9 octets") \
+    X(OUTPUT_SHORT, 25, "output too short") \
     X(SCALED_KIND, 26, "scaled kind, with width not 16") \
     X(NO_CHECK_PLACE, 27, "no check place in the table") \
+    X(BLOCK_PAST, 28, "block runs past the end, or octets after the last") \
+    X(REMEDY_FIELD, 29, "field out of its range or length that disagrees") \
+    X(KEY_TWICE, 30, "key twice") \
     X(SERIAL_SET, 32, "serial number set") \
     X(FORM_OUTPUT, 33, "output not of the needed length") \
     X(PROFILE, 34, "profile rule broken")
@@ -163,6 +169,15 @@ typedef struct { uint32_t refusal; uint32_t size; uint64_t set; } df_members;
 
 /* report: 1 a report, 0 a request; status: octet 9 */
 typedef struct { uint32_t refusal; uint32_t code; uint32_t report; uint32_t status; } df_e_reading;
+
+/* language: octets 21-22; ordered: octet 23, 0 or 1; count: octet 24, the number of blocks, 1-8 */
+typedef struct { uint32_t refusal; uint32_t language; uint32_t ordered; uint32_t count; } df_remedies;
+
+/* found: 1 a block, 0 no more, or refused; key: 1-8, of F1 to F8; at: where in the telegram its text starts, from 0; size: its octets */
+typedef struct { uint32_t refusal; uint32_t found; uint32_t key; uint64_t at, size; } df_remedy;
+
+/* size: of the telegram that was written */
+typedef struct { uint32_t refusal; uint64_t size; } df_wrote;
 
 /* Judges a signal list. Refusals 1-4. */
 df_judged df_judge(const uint8_t *list, size_t list_len, uint8_t form);
@@ -251,12 +266,29 @@ df_outcome df_relay(const uint8_t *list, size_t list_len, uint8_t form, const ui
  * 1 leading, 2 coach, 4 tractive, 8 led, 16 sleeping; the three high bits are not read. Refusals 17-20. */
 df_members df_resolve(const uint8_t *marks, size_t marks_len, uint64_t address);
 
-/* Reads an E-telegram's code, request or report, and octet 9. Refusals 21, 22. */
+/* Reads an E-telegram's code, request or report, and octet 9. It has 9 to 1,024 octets, with the code 8A08 up to 2,110. Refusals 21, 22. */
 df_e_reading df_e_read(const uint8_t *telegram, size_t telegram_len);
 
 /* Answers a request: head (6 octets), report code and status into the first 9 octets of out. Refusals 21-25. */
 df_outcome df_e_answer(const uint8_t *telegram, size_t telegram_len, const uint8_t *head, size_t head_len, uint8_t status,
                        uint8_t *out, size_t out_len);
+
+/* Reads a report with remedy texts, telegram 8.8A of code 8A08: its language, octet 23 and the number of its blocks. Octets 1-6, 9-20 and the
+ * reserve are not read. Refusals 21, also under 30 octets; then 29 for octets 7-24, also for another code; then that of the first bad block, its
+ * lowest of 28 (the block, or its first 6 octets, runs past the end), 29 and 30; then 28 for octets after the last. */
+df_remedies df_read_remedies(const uint8_t *telegram, size_t telegram_len);
+
+/* A block of such a telegram by its number, from 0: its key, and the part of the telegram that is its text. Refusals as of df_read_remedies. */
+df_remedy df_remedy_block(const uint8_t *telegram, size_t telegram_len, size_t block);
+
+/* Writes such a telegram into the first octets of out: head is octets 1-6, carried octets 9-20, ordered octet 23, and the reserve is 0. Each
+ * block has a key and a length; the texts stand in one area, one behind the other. Refusals 29 where there are not as many keys as lengths or the
+ * lengths do not add up to the area; then 25 where out has under 30 octets and, for each block, 6 and those of its text; then 29 for ordered above
+ * 1 or a number of blocks that is not 1-8; then that of the first bad block: 29 for a key that is not 1-8 or a text of an odd number of octets or
+ * of more than 254, else 30. */
+df_wrote df_write_remedies(const uint8_t head[6], const uint8_t carried[12], uint16_t language, uint8_t ordered, const uint8_t *keys,
+                           size_t keys_len, const uint16_t *lengths, size_t lengths_len, const uint8_t *texts, size_t texts_len, uint8_t *out,
+                           size_t out_len);
 
 #ifdef __cplusplus
 }

@@ -11,7 +11,7 @@ import sys
 ROOT = os.path.dirname(os.path.dirname(os.path.abspath(__file__)))
 HEADER, RUST, RAW = "include/dustferrule.h", "rust/dustferrule/src/numbers.rs", "rust/dustferrule/src/raw.rs"
 PROVED, REFUSALS, PAGE = "crates/dustferrule/src/lib.rt", "crates/refusals/src/lib.rt", "docs/PROMISES.md"
-WIDTHS = {"uint8_t": "u8", "uint32_t": "u32", "uint64_t": "u64", "size_t": "usize", "float": "f32"}
+WIDTHS = {"uint8_t": "u8", "uint16_t": "u16", "uint32_t": "u32", "uint64_t": "u64", "size_t": "usize", "float": "f32"}
 
 
 def read(path):
@@ -55,7 +55,7 @@ def numbered():
     return bad, len(refusals), len(reasons)
 
 
-# ---- calls: {name: (parameters, fields of what is returned)}, in Rust's words; a slice is a pointer and a length
+# ---- calls: {name: (parameters, fields of what is returned)}, in Rust's words; a slice is a pointer and a length, an array a pointer to it
 
 
 def plain(name):
@@ -71,17 +71,22 @@ def of_c():
         structs[name] = [(plain(field), WIDTHS[width]) for width, fields in members for field in fields.split(", ")]
     calls = {}
     for returned, name, given in re.findall(r"^(\w+) (df_\w+)\((.*?)\);", text, re.S | re.M):
-        words = [re.fullmatch(r"(const )?(\w+) (\*?)(\w+)", word.strip()) for word in given.split(",")]
-        parameters = [(plain(w[4]), (("*const " if w[1] else "*mut ") if w[3] else "") + WIDTHS[w[2]]) for w in words]
-        calls[name] = parameters, structs.get(returned, WIDTHS.get(returned))
+        words = [re.fullmatch(r"(const )?(\w+) (\*?)(\w+)(?:\[(\d+)\])?", word.strip()) for word in given.split(",")]
+        calls[name] = [(plain(w[4]), given_in_c(*w.group(1, 2, 3, 5))) for w in words], structs.get(returned, WIDTHS.get(returned))
     return calls
+
+
+def given_in_c(const, width, star, count):
+    """A parameter's type."""
+    of = f"[{WIDTHS[width]}; {count}]" if count else WIDTHS[width]
+    return ("*const " if const else "*mut ") + of if star or count else of
 
 
 def of_raw():
     text = read(RAW)
     structs = {name: re.findall(r"pub (\w+): (\w+)", body) for name, body in re.findall(r"pub struct (\w+) \{(.*?)\n\}", text, re.S)}
     found = re.findall(r"pub fn (df_\w+)\((.*?)\) -> (\w+);", text, re.S)
-    return {name: (re.findall(r"(\w+): ([\w* ]+)", given), structs.get(returned, returned)) for name, given, returned in found}
+    return {name: (re.findall(r"(\w+): ([\w*;\[\] ]+)", given), structs.get(returned, returned)) for name, given, returned in found}
 
 
 def of_proved():
@@ -89,12 +94,18 @@ def of_proved():
     structs = {name: re.findall(r"pub (\w+): (\w+)", body) for name, body in re.findall(r"#\[repr\(C\)\]\npub struct (\w+) \{(.*?)\n\}", text, re.S)}
     calls = {}
     for name, given, returned in re.findall(r'#\[no_mangle\]\npub extern "C" fn (df_\w+)\((.*?)\) -> (\w+)', text, re.S):
-        parameters = []
-        for word, of in re.findall(r"(\w+): ([^,]+)", given):
-            lent = re.fullmatch(r"&(mut )?\[(\w+)\]", of.strip())
-            parameters += [(word, ("*mut " if lent[1] else "*const ") + lent[2]), (word + "_len", "usize")] if lent else [(word, of.strip())]
+        parameters = [one for word, of in re.findall(r"(\w+): ([^,]+)", given) for one in given_in_proved(word, of.strip())]
         calls[name] = parameters, structs.get(returned, returned)
     return calls
+
+
+def given_in_proved(word, of):
+    """A parameter, and behind a slice its length."""
+    lent = re.fullmatch(r"&(mut )?(?:\[(\w+)\]|(\[\w+; \d+\]))", of)
+    if lent is None:
+        return [(word, of)]
+    to = "*mut " if lent[1] else "*const "
+    return [(word, to + lent[3])] if lent[3] else [(word, to + lent[2]), (word + "_len", "usize")]
 
 
 def called():

@@ -16,12 +16,13 @@ import time
 import printed
 
 ROOT = printed.ROOT
-PROGRAMS = ("judge", "extends", "compare", "convert", "take", "sweep", "believe", "differ", "marshal", "compose", "relay")
+PROGRAMS = ("judge", "extends", "compare", "convert", "take", "sweep", "believe", "differ", "marshal", "compose", "relay", "remedies", "write_remedies")
 TOOLS = ("sh", "awk", "readlink", "uname")  # what an installed program needs beside itself
 BUILT = ("bin", "stamp")  # of target/: what a run goes by that finds all proved
 OTHER = os.uname().machine != "x86_64"
 COACH, NEXT, WRONG, STORE = "data/coach.list", "data/coach-next.list", "data/coach-wrong.list", "data/scene/train.store"
 COACH_2, PLAIN, OFF = "data/coach-2.list", "data/plain-coach.list", "data/coach-off.list"
+DOOR, DOOR_OFF, TEXTS = "data/door.telegram", "data/door-off.telegram", "data/door.texts"
 OK = "list ok checks=48 signals=165 codes=41 routes=14 version=2\n"
 OK_PLAIN = "list ok profile=plain-coach checks=11 signals=64 codes=3 routes=14 version=2\n"
 OFF_PAGE = "! changed  R1 octet 54 bits 0-3  check octet 41 bits 2-3 -> octet 41 bits 4-5  breaks extending: check place\nextends: no\n"
@@ -114,6 +115,12 @@ def statuses(how, start, env=None):
     end(2, ["differ", COACH, NEXT, STORE, "9000", "behind", COACH, "9000"], err="refused 5 (second store): ")
     end(1, ["relay", COACH, STORE, "9000", "4", "data/none"], err="refused 9: ")
     end(2, ["relay", COACH, STORE, "9000", "1", STORE], err=f"error: OUT '{STORE}': is given twice")
+    with open(os.path.join(ROOT, "crates", "remedies", "stdout"), encoding="utf-8") as f:
+        end(0, ["remedies", DOOR], f.read())
+    end(1, ["remedies", DOOR_OFF], err="refused 29: ")
+    end(2, ["remedies", "data/none"], err="error: TELEGRAM 'data/none': ")
+    end(2, ["write_remedies", "data/signals.csv", "data/none"], err="error: FILE 'data/signals.csv' line 1: ")
+    end(2, ["write_remedies", TEXTS, TEXTS], err=f"error: TELEGRAM '{TEXTS}': is given twice")
     end(2, ["differ", COACH, STORE, STORE, "9000"], err="refused ")
     end(2, ["differ", COACH, "data/none", STORE, "9000"], err="error: ")
     for name in PROGRAMS:
@@ -193,13 +200,17 @@ def standard_input():
         shutil.copy(os.path.join(ROOT, COACH), os.path.join(folder, "bus"))
         before = set(os.listdir(folder))
         for words in (["take", "-", "1", "1", "1-R1.telegram"], ["take", "new", "-"], ["sweep", "-", "9000"], ["marshal", "coach.list", "train.store", "9000", "-"],
-                      ["compose", "coach.list", "R3", "1-R1.values", "-"], ["relay", "coach.list", "train.store", "7000", "1", "-"], ["convert", "coach.list", "form2", "-"]):
+                      ["compose", "coach.list", "R3", "1-R1.values", "-"], ["relay", "coach.list", "train.store", "7000", "1", "-"], ["convert", "coach.list", "form2", "-"],
+                      ["write_remedies", os.path.join(ROOT, TEXTS), "-"]):
             ends(" ".join(words), given(COACH, *words, folder=folder), 2, err="error: '-' ")
         check("nothing is written to a file '-'", set(os.listdir(folder)) == before)
         ends("convert of -", given(COACH, "convert", "-", "form2", "moved", folder=folder), 0, "moved to form 2: 165 signals, 3404 octets\n")
         ends("judge of what it made", given(os.path.join(folder, "moved"), "judge", "-", "form2"), 0, OK)
         taken = given("data/scene/2-R2.telegram", "take", "train.store", "5", "8000", "-", folder=folder)
         ends("take of -", taken, 0, "taken R2 version 2 vehicle 5 at 8000\n")
+        with open(os.path.join(ROOT, "crates", "remedies", "stdout"), encoding="utf-8") as f:
+            ends("remedies of -", given(DOOR, "remedies", "-"), 0, f.read())
+        ends("write_remedies of -", given(TEXTS, "write_remedies", "-", "door", folder=folder), 0, "written in de: 4 texts, 470 octets\n")
         ends("relay of -", given(STORE, "relay", "coach.list", "-", "7000", "1", "passed", folder=folder), 0, "relayed R1 version 2 octets 128, live 128 of 129 signals\n")
 
 

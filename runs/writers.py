@@ -15,6 +15,7 @@ import time
 
 import judge as lists
 import programs
+import remedies
 from programs import NEW, R1, R3, RELAYED, slots
 
 RUN = os.path.join(programs.ROOT, "run")
@@ -27,12 +28,13 @@ MARSHAL = ["marshal", "coach.list", "train", "9000", "bus"]
 COMPOSE = ["compose", "next.list", "R1", "values", "out"]
 RELAY = ["relay", "coach.list", "train", "7000", "1", "passed"]
 CONVERT = ["convert", "L.list", "form2", "moved"]
+WRITE = ["write_remedies", "door.texts", "desk"]
 STORE_1 = slots.taken(NEW, 1, 5000, R1)
 SWEPT = slots.expired(programs.FULL, *range(1, slots.VEHICLES + 1))
 BUS = bytes.fromhex("F334 2000 2800 3F FF 1B58 2800 000000000000 FFFF")
 # the words of each program that writes, the place of what it writes, its name there, and the octets before and after
 WRITERS = [(TAKE, 1, "STORE", NEW, STORE_1), (SWEEP, 1, "STORE", programs.FULL, SWEPT), (MARSHAL, 4, "DATA", b"\xff" * 20, BUS), (COMPOSE, 4, "OUT", R3, R1),
-           (RELAY, 5, "OUT", R3, RELAYED)]
+           (RELAY, 5, "OUT", R3, RELAYED), (WRITE, 2, "TELEGRAM", remedies.TEXT, remedies.DOOR)]
 
 
 def place(pid):
@@ -50,6 +52,8 @@ class Folder:
             self.write(name, programs.FILES[name])
         for name in ("out", "passed"):
             self.write(name, R3)
+        self.write("desk", remedies.TEXT)
+        self.write("door.texts", remedies.data("door.texts"))
         self.said = []
 
     def at(self, name):
@@ -146,7 +150,7 @@ def links(f):
         f.expect("links", (words[i] + ".2", f.at(target)), tuple(os.readlink(f.at(n)) for n in (words[i], words[i] + ".2")))
         f.holds(target, new)
     f.has_left()
-    f.expect("folder", ["bus", "full", "out", "passed", "store"], sorted(os.listdir(f.at("folder"))))
+    f.expect("folder", ["bus", "desk", "full", "out", "passed", "store"], sorted(os.listdir(f.at("folder"))))
 
 
 def link_to_nothing(f):
@@ -162,7 +166,10 @@ def link_to_nothing(f):
     os.symlink("made-4", f.at("new-4"))
     f.says(instead(RELAY, 5, "new-4"), "relayed R1 version 2 octets 128, live 128 of 129 signals")
     f.holds("made-4", RELAYED)
-    f.expect("links", ["made", "made-2", "made-3", "made-4"], [os.readlink(f.at(n)) for n in ("new", "new-2", "new-3", "new-4")])
+    os.symlink("made-5", f.at("new-5"))
+    f.says(instead(WRITE, 2, "new-5"), "written in de: 4 texts, 470 octets")
+    f.holds("made-5", remedies.DOOR)
+    f.expect("links", ["made", "made-2", "made-3", "made-4", "made-5"], [os.readlink(f.at(n)) for n in ("new", "new-2", "new-3", "new-4", "new-5")])
     os.symlink("round", f.at("round"))
     f.says(*error(TAKE, 1, "STORE", "too many links", "round"))
 
@@ -206,8 +213,12 @@ def given_twice(f):
     os.symlink("train", f.at("train.link"))
     for words in (instead(RELAY, 5, "train"), instead(RELAY, 5, "train.link"), instead(RELAY, 2, "train.link")[:5] + ["folder/../train"], instead(RELAY, 5, "coach.list")):
         f.says(words, f"error: OUT '{words[5]}': is given twice")
+    os.symlink("door.texts", f.at("door.link"))
+    for words in (instead(WRITE, 2, "door.texts"), instead(WRITE, 2, "door.link"), instead(WRITE, 1, "door.link")[:2] + ["folder/../door.texts"]):
+        f.says(words, f"error: TELEGRAM '{words[2]}': is given twice")
     f.holds("L.list", lists.L)
     f.holds("train", programs.TRAIN)
+    f.holds("door.texts", remedies.data("door.texts"))
     f.has_left()
 
 
@@ -255,6 +266,16 @@ def killed_convert(f):
     f.expect("moved", False, os.path.exists(f.at("moved")))
     f.says(words, "moved to form 2: 165 signals, 3404 octets")
     f.holds("moved", lists.in_form_2(programs.FILES["coach.list"]))
+    f.has_left()
+
+
+def killed_remedies(f):
+    """A telegram with texts is replaced whole or not at all."""
+    f.run(WRITE, dies)
+    f.holds("desk", remedies.TEXT)
+    f.has_left("desk.lock", "desk.new")
+    f.says(WRITE, "written in de: 4 texts, 470 octets")
+    f.holds("desk", remedies.DOOR)
     f.has_left()
 
 
@@ -342,7 +363,7 @@ def at_once_behind_a_killed_one(f):
 
 ROOTS = [owner_not_kept]
 ALONE = [at_once, swept_at_once, at_once_behind_a_killed_one]
-CASES = [mode_and_owner, read_only, links, link_to_nothing, two_names, no_plain_file, given_twice, killed, killed_sweep, killed_new, killed_convert,
+CASES = [mode_and_owner, read_only, links, link_to_nothing, two_names, no_plain_file, given_twice, killed, killed_sweep, killed_new, killed_convert, killed_remedies,
          not_over_a_list, others_new, lock_without_process, lock_of_another_machine, lock_half_freed, held]
 
 

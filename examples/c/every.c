@@ -418,6 +418,71 @@ static void train(void)
     expect("df_e_answer", !o.refusal && !o.carried && !memcmp(out, "\6\5\4\3\2\1\x1A\x07\7\0", 10));
 }
 
+/* octets 1-6 and 9-20, and two texts: "test" under F3, and an empty one under F8 */
+static const uint8_t front[6] = {1, 2, 3, 4, 5, 6}, behind[12] = {9, 10, 11, 12, 13, 14, 15, 16, 17, 18, 19, 20}, keys[3] = {3, 8, 8};
+static const uint16_t lengths[3] = {4, 0, 0};
+static const uint8_t remedy[46] = {1, 2, 3, 4, 5, 6, 0x8A, 8, 9, 10, 11, 12, 13, 14, 15, 16, 17, 18, 19, 20, 4, 7, 1, 2, 0, 0, 0, 0, 0, 0,
+                                   0, 10, 3, 0, 0, 4, 't', 'e', 's', 't', 0, 6, 8, 0, 0, 0};
+
+/* the telegram with another octet, and so many of its octets; every field of the refusal is looked at */
+static int unread(size_t at, uint8_t octet, size_t len, uint32_t refusal)
+{
+    uint8_t telegram[sizeof remedy + 1] = {0};
+    memcpy(telegram, remedy, sizeof remedy);
+    telegram[at] = octet;
+    df_remedies r = df_read_remedies(telegram, len);
+    df_remedy b = df_remedy_block(telegram, len, 0);
+    return r.refusal == refusal && !r.language && !r.ordered && !r.count && b.refusal == refusal && !b.found && !b.key && !b.at && !b.size;
+}
+
+static int block(size_t number, uint32_t found, uint32_t key, uint64_t at, uint64_t size)
+{
+    df_remedy b = df_remedy_block(remedy, sizeof remedy, number);
+    return !b.refusal && b.found == found && b.key == key && b.at == at && b.size == size;
+}
+
+static void remedies(void)
+{
+    static uint8_t report[2111] = {0, 0, 0, 0, 0, 0, 0x8A, 8, 7};
+    df_remedies r = df_read_remedies(remedy, sizeof remedy);
+    expect("df_read_remedies", !r.refusal && r.language == 0x0407 && r.ordered == 1 && r.count == 2);
+    expect("df_remedy_block", block(0, 1, 3, 36, 4) && block(1, 1, 8, 46, 0));
+    expect("df_remedy_block, no more", block(2, 0, 0, 0, 0) && block(SIZE_MAX, 0, 0, 0, 0));
+    expect("df_read_remedies, 29 octets", unread(6, 0, 29, DF_REFUSAL_E_LENGTH));
+    expect("df_read_remedies, another code", unread(7, 9, sizeof remedy - 1, DF_REFUSAL_REMEDY_FIELD));
+    expect("df_read_remedies, octet 23", unread(22, 2, sizeof remedy + 1, DF_REFUSAL_REMEDY_FIELD));
+    expect("df_read_remedies, past the end", unread(42, 3, sizeof remedy - 1, DF_REFUSAL_BLOCK_PAST));
+    expect("df_read_remedies, an octet after", unread(0, 0, sizeof remedy + 1, DF_REFUSAL_BLOCK_PAST));
+    expect("df_read_remedies, key 9", unread(32, 9, sizeof remedy - 1, DF_REFUSAL_REMEDY_FIELD));
+    expect("df_read_remedies, key twice", unread(42, 3, sizeof remedy + 1, DF_REFUSAL_KEY_TWICE));
+    /* this code alone has more than 1,024 octets */
+    df_e_reading e = df_e_read(report, 2110);
+    expect("df_e_read, 2110 octets", !e.refusal && e.code == 0x8A08 && e.report == 1 && e.status == 7);
+    e = df_e_read(report, 2111);
+    expect("df_e_read, 2111 octets", e.refusal == DF_REFUSAL_E_LENGTH && !e.code && !e.report && !e.status);
+    report[7] = 2, e = df_e_read(report, 1025);
+    expect("df_e_read, another code", e.refusal == DF_REFUSAL_E_LENGTH && !e.code && !e.report && !e.status);
+}
+
+/* the first so many blocks into so many octets, of which those that are not written stay */
+static int writes(uint8_t ordered, size_t blocks, size_t texts, size_t len, uint32_t refusal, uint64_t size)
+{
+    uint8_t out[64], wanted[64];
+    memset(out, 0xEE, sizeof out), memset(wanted, 0xEE, sizeof wanted), memcpy(wanted, remedy, size);
+    df_wrote w = df_write_remedies(front, behind, 0x0407, ordered, keys, blocks, lengths, blocks, (const uint8_t *)"test", texts, out, len);
+    return w.refusal == refusal && w.size == size && !memcmp(out, wanted, sizeof out);
+}
+
+static void written(void)
+{
+    expect("df_write_remedies", writes(1, 2, 4, 46, 0, 46) && writes(1, 2, 4, 64, 0, 46));
+    expect("df_write_remedies, lengths and texts", writes(1, 2, 3, 0, DF_REFUSAL_REMEDY_FIELD, 0));
+    expect("df_write_remedies, no room", writes(2, 2, 4, 45, DF_REFUSAL_OUTPUT_SHORT, 0));
+    expect("df_write_remedies, octet 23", writes(2, 2, 4, 46, DF_REFUSAL_REMEDY_FIELD, 0));
+    expect("df_write_remedies, no block", writes(1, 0, 0, 30, DF_REFUSAL_REMEDY_FIELD, 0));
+    expect("df_write_remedies, key twice", writes(1, 3, 4, 64, DF_REFUSAL_KEY_TWICE, 0));
+}
+
 /* what is expected of texts: those of the first and last number, and something for every other */
 static void texts(void)
 {
@@ -425,6 +490,9 @@ static void texts(void)
     expect("df_refusal_text", !strcmp(df_refusal_text(DF_REFUSAL_STORE_LENGTH), "store not 8,631 octets"));
     expect("df_refusal_text", !strcmp(df_refusal_text(DF_REFUSAL_SCALED_KIND), "scaled kind, with width not 16"));
     expect("df_refusal_text", !strcmp(df_refusal_text(27), "no check place in the table") && DF_REFUSAL_NO_CHECK_PLACE == 27);
+    expect("df_refusal_text", !strcmp(df_refusal_text(28), "block runs past the end, or octets after the last") && DF_REFUSAL_BLOCK_PAST == 28);
+    expect("df_refusal_text", !strcmp(df_refusal_text(29), "field out of its range or length that disagrees") && DF_REFUSAL_REMEDY_FIELD == 29);
+    expect("df_refusal_text", !strcmp(df_refusal_text(30), "key twice") && DF_REFUSAL_KEY_TWICE == 30);
     expect("df_refusal_text", !strcmp(df_refusal_text(33), "output not of the needed length") && DF_REFUSAL_FORM_OUTPUT == 33);
     expect("df_refusal_text", !strcmp(df_refusal_text(34), "profile rule broken") && DF_REFUSAL_PROFILE == 34);
     expect("df_refusal_text", !strcmp(df_refusal_text(DF_NOT_REFUSED), "not refused") && df_refusal_text(UINT32_MAX));
@@ -446,6 +514,8 @@ int main(void)
     shown();
     passed_on();
     train();
+    remedies();
+    written();
     texts();
     if (!bad)
         puts("every call of the header answers as it should");

@@ -5,7 +5,6 @@ ghost use lib.ListN.{length};
 
 mod place;
 mod text;
-mod word;
 
 use gateway::Counts;
 use gateway::EntryOutcome;

@@ -1,8 +1,8 @@
 // Places in a values file, as the programs print them: `R1 octet 54 bits 0-3`, `octets 51-52`, `start 424`.
 ghost use Prim.Native.Nat.{_≤_};
-use crate::word::find;
-use crate::word::word;
 use saying::Number;
+use saying::find;
+use saying::word;
 
 // A field that a line names; width 0 where it says the start alone.
 pub struct Field {

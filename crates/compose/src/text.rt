@@ -3,13 +3,13 @@ ghost use Prim.Native.Nat.{_≤_};
 use crate::place::Field;
 use crate::place::field_at;
 use crate::place::type_of;
-use crate::word::count;
-use crate::word::find;
-use crate::word::word;
 use gateway::EntryOutcome;
 use gateway::Found;
 use saying::Line;
 use saying::Number;
+use saying::find;
+use saying::word;
+use saying::word_count;
 
 // What can be wrong with a line.
 const FINE: u8 = 0;
@@ -208,7 +208,7 @@ fn last(line: &[u8], n: usize) -> &[u8] {
 }
 
 fn read_words(list: &[u8], form: u8, line: &[u8], values: &mut [u64], marks: &mut [u8]) -> u8 {
-    let n = count(line);
+    let n = word_count(line);
     if n == 0 {
         return FINE;
     }
@@ -269,7 +269,7 @@ fn note_signal(list: &[u8], form: u8, k: usize, kind: usize, line: u64) {
 }
 
 fn note_words(list: &[u8], form: u8, line: &[u8], kind: usize, number: u64) {
-    let n = count(line);
+    let n = word_count(line);
     if check::same(word(line, 0), b"value") {
         let found = signal_of(list, form, line, n);
         if let Number::Is(k) = found {

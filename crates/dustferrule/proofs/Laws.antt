@@ -21,10 +21,12 @@ use Rattle.paper.specs.Relaying.{relaying}
 use Rattle.paper.specs.Shown.{Kind, ShownReading, showing}
 use Rattle.paper.specs.Train.{Vehicle, Members, resolving}
 use Rattle.paper.specs.ETelegrams.{EReading, eReading, answering}
+use Rattle.paper.specs.Remedies.{Remedies, remedyReading, Remedy, remedyBlock, Handed, WrittenRemedies, remedyWriting}
 use Rattle.paper.proofs.RefusalLaws as laws
 use Rattle.dustferrule.specs.declared.DfOutcome.{DfOutcome}
 use Rattle.dustferrule.specs.declared.DfMarshalled.{DfMarshalled}
-use Rattle.dustferrule.specs.Results.{outcomeC, judgedC, extendingC, changeC, rangeC, entryC, foundC, serialC, gapC, livesC, placeC, readingC, shownC, membersC, eReadC, WrittenC, DeliveredC}
+use Rattle.dustferrule.specs.declared.DfWrote.{DfWrote}
+use Rattle.dustferrule.specs.Results.{outcomeC, judgedC, extendingC, changeC, rangeC, entryC, foundC, serialC, gapC, livesC, placeC, readingC, shownC, membersC, eReadC, remediesC, remedyC, wroteC, WrittenC, DeliveredC, WroteC}
 
 -- ---- each result, of any answer
 
@@ -81,6 +83,16 @@ members-given = laws.zero-given (λ a. membersC a .refusal) (λ a. refl) (λ n a
 pub e-reading-given : (a : Answer EReading) → Numbered a → (eReadC a .refusal ≡ 0) ↔ Given a
 e-reading-given = laws.zero-given (λ a. eReadC a .refusal) (λ a. refl) (λ n at. refl)
 
+pub remedies-given : (a : Answer Remedies) → Numbered a → (remediesC a .refusal ≡ 0) ↔ Given a
+remedies-given = laws.zero-given (λ a. remediesC a .refusal) (λ a. refl) (λ n at. refl)
+
+remedy-zero : (a : Sought Remedy) → remedyC (gives a) .refusal ≡ 0
+remedy-zero (found b) = refl
+remedy-zero nothing = refl
+
+pub remedy-given : (a : Answer (Sought Remedy)) → Numbered a → (remedyC a .refusal ≡ 0) ↔ Given a
+remedy-given = laws.zero-given (λ a. remedyC a .refusal) remedy-zero (λ n at. refl)
+
 -- ---- a call that writes, of any answer: "changes no lent octet"
 
 pub written-given : (a : Answer (List ℕ)) (old : List ℕ) (r : DfOutcome) (new : List ℕ) → WrittenC a old r new → Numbered a
@@ -101,6 +113,16 @@ pub delivered-kept : (a : Answer Marshalled) (old : List ℕ) (r : DfMarshalled)
     → (r .refusal ≡ 0 → ⊥) → new ≡ old
 delivered-kept (gives m) old r new d h = absurd (h (ap (λ (o : DfMarshalled). o .refusal) (d .result)))
 delivered-kept (refused n at) old r new d h = d .octets
+
+pub wrote-given : (a : Answer WrittenRemedies) (old : List ℕ) (r : DfWrote) (new : List ℕ) → WroteC a old r new → Numbered a
+    → (r .refusal ≡ 0) ↔ Given a
+wrote-given a old r new d h =
+    rw (d .result) (laws.zero-given (λ x. wroteC (mapAnswer (λ (m : WrittenRemedies). m .size) x) .refusal) (λ x. refl) (λ n at. refl) a h)
+
+pub wrote-kept : (a : Answer WrittenRemedies) (old : List ℕ) (r : DfWrote) (new : List ℕ) → WroteC a old r new
+    → (r .refusal ≡ 0 → ⊥) → new ≡ old
+wrote-kept (gives m) old r new d h = absurd (h (ap (λ (o : DfWrote). o .refusal) (d .result)))
+wrote-kept (refused n at) old r new d h = d .octets
 
 -- ---- the calls
 
@@ -206,3 +228,16 @@ module _ (form : ℕ) (xs store : List ℕ) (now : ℕ) (bus : List ℕ) (r : Df
 
   pub marshal-kept : (r .refusal ≡ 0 → ⊥) → new ≡ bus
   marshal-kept = delivered-kept _ bus r new d
+
+pub read-remedies-given : (telegram : List ℕ) → (remediesC (remedyReading telegram) .refusal ≡ 0) ↔ Given (remedyReading telegram)
+read-remedies-given telegram = remedies-given _ (laws.numbered-remedies telegram)
+
+pub remedy-block-given : (telegram : List ℕ) (k : ℕ) → (remedyC (remedyBlock telegram k) .refusal ≡ 0) ↔ Given (remedyBlock telegram k)
+remedy-block-given telegram k = remedy-given _ (laws.numbered-remedy telegram k)
+
+module _ (h : Handed) (out : List ℕ) (r : DfWrote) (new : List ℕ) (w : WroteC (remedyWriting h out) out r new) where
+  pub write-remedies-given : (r .refusal ≡ 0) ↔ Given (remedyWriting h out)
+  write-remedies-given = wrote-given _ out r new w (laws.numbered-writing h out)
+
+  pub write-remedies-kept : (r .refusal ≡ 0 → ⊥) → new ≡ out
+  write-remedies-kept = wrote-kept _ out r new w

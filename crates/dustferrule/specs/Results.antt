@@ -15,6 +15,7 @@ use Rattle.paper.specs.Marshalling.{Marshalled}
 use Rattle.paper.specs.Shown.{Kind, code, speed, percentage, signedPercentage, current, Shown, asCode, asSpeed, asPercentage, asCurrent, ShownReading}
 use Rattle.paper.specs.Train.{Members}
 use Rattle.paper.specs.ETelegrams.{EReading}
+use Rattle.paper.specs.Remedies.{Remedies, Remedy, WrittenRemedies}
 use Rattle.dustferrule.specs.declared.DfOutcome.{DfOutcome}
 use Rattle.dustferrule.specs.declared.DfJudged.{DfJudged}
 use Rattle.dustferrule.specs.declared.DfExtending.{DfExtending}
@@ -30,6 +31,9 @@ use Rattle.dustferrule.specs.declared.DfReading.{DfReading}
 use Rattle.dustferrule.specs.declared.DfShown.{DfShown}
 use Rattle.dustferrule.specs.declared.DfMembers.{DfMembers}
 use Rattle.dustferrule.specs.declared.DfERead.{DfERead}
+use Rattle.dustferrule.specs.declared.DfRemedies.{DfRemedies}
+use Rattle.dustferrule.specs.declared.DfRemedy.{DfRemedy}
+use Rattle.dustferrule.specs.declared.DfWrote.{DfWrote}
 
 abbrev pub yesNo : Bool → ℕ
 yesNo true = 1
@@ -152,6 +156,19 @@ abbrev pub eReadC : Answer EReading → DfERead
 eReadC (gives r) = record { refusal = 0; code = r .code; report = yesNo (r .report); status = r .status }
 eReadC (refused n at) = record { refusal = n; code = 0; report = 0; status = 0 }
 
+abbrev pub remediesC : Answer Remedies → DfRemedies
+remediesC (gives m) = record { refusal = 0; language = m .language; ordered = m .ordered; count = m .count }
+remediesC (refused n at) = record { refusal = n; language = 0; ordered = 0; count = 0 }
+
+abbrev pub remedyC : Answer (Sought Remedy) → DfRemedy
+remedyC (gives (found b)) = record { refusal = 0; found = 1; key = b .key; at = b .at; size = b .size }
+remedyC (gives nothing) = record { refusal = 0; found = 0; key = 0; at = 0; size = 0 }
+remedyC (refused n at) = record { refusal = n; found = 0; key = 0; at = 0; size = 0 }
+
+abbrev pub wroteC : Answer ℕ → DfWrote
+wroteC (gives n) = record { refusal = 0; size = n }
+wroteC (refused n at) = record { refusal = n; size = 0 }
+
 -- a call that writes: its result, and the lent octets afterwards
 pub record WrittenC (answer : Answer (List ℕ)) (old : List ℕ) (r : DfOutcome) (new : List ℕ) : Type 0 where
   pub result : r ≡ outcomeC (forget answer)
@@ -160,3 +177,7 @@ pub record WrittenC (answer : Answer (List ℕ)) (old : List ℕ) (r : DfOutcome
 pub record DeliveredC (answer : Answer Marshalled) (old : List ℕ) (r : DfMarshalled) (new : List ℕ) : Type 0 where
   pub result : r ≡ livesC (mapAnswer (λ m. m .lives) answer)
   pub octets : new ≡ after old (mapAnswer (λ m. m .octets) answer)
+
+pub record WroteC (answer : Answer WrittenRemedies) (old : List ℕ) (r : DfWrote) (new : List ℕ) : Type 0 where
+  pub result : r ≡ wroteC (mapAnswer (λ w. w .size) answer)
+  pub octets : new ≡ after old (mapAnswer (λ w. w .octets) answer)

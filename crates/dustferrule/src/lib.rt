@@ -19,6 +19,7 @@ ghost use Rattle.paper.specs.Relaying.{relaying};
 ghost use Rattle.paper.specs.Shown.{showing};
 ghost use Rattle.paper.specs.Train.{resolving};
 ghost use Rattle.paper.specs.ETelegrams.{eReading, answering};
+ghost use Rattle.paper.specs.Remedies.{areaBlocks, remedyReading, remedyBlock, remedyWriting};
 ghost use Rattle.refusals.specs.Refusal.{numberOf, carriedOf};
 ghost use Rattle.refusals.specs.Outcome.{outcomeOf};
 ghost use Rattle.lists.specs.Judged.{judgedAnswer};
@@ -34,7 +35,9 @@ ghost use Rattle.reading.specs.Reading.{readAnswer};
 ghost use Rattle.shown.specs.Show.{kindOf, shownOf, showingAnswer};
 ghost use Rattle.train.specs.Marks.{vehicleOf, resolvedAnswer};
 ghost use Rattle.etelegrams.specs.Answers.{eReadAnswer};
-ghost use Rattle.dustferrule.specs.Results.{yesNo, profileNumbered, changeRefused, changeC, rangeRefused, rangeC, kindNumbered, codeOf, unitOf, floatOf, outcomeC, judgedC, extendingC, entryC, foundC, serialC, gapC, livesC, placeC, readingC, shownC, membersC, eReadC, WrittenC, DeliveredC};
+ghost use Rattle.texts.specs.Texts.{readAnswer as remediesAnswer, remedyAnswer};
+ghost use Rattle.textwriting.specs.Writing.{handedOf, wroteAnswer};
+ghost use Rattle.dustferrule.specs.Results.{yesNo, profileNumbered, changeRefused, changeC, rangeRefused, rangeC, kindNumbered, codeOf, unitOf, floatOf, outcomeC, judgedC, extendingC, entryC, foundC, serialC, gapC, livesC, placeC, readingC, shownC, membersC, eReadC, remediesC, remedyC, wroteC, WrittenC, DeliveredC, WroteC};
 use gateway::Changes;
 use gateway::ERead;
 use gateway::EntryOutcome;
@@ -50,10 +53,13 @@ use gateway::Place;
 use gateway::Profile;
 use gateway::ReadOutcome;
 use gateway::Refusal;
+use gateway::RemediesRead;
+use gateway::RemedyRead;
 use gateway::Resolved;
 use gateway::SerialOutcome;
 use gateway::Showing;
 use gateway::Shown;
+use gateway::Wrote;
 
 // A call that only writes.
 #[repr(C)]
@@ -185,6 +191,32 @@ pub struct DfERead {
     pub code: u32,
     pub report: u32,
     pub status: u32,
+}
+
+// What a telegram with remedy texts says beside its blocks; ordered: octet 23.
+#[repr(C)]
+pub struct DfRemedies {
+    pub refusal: u32,
+    pub language: u32,
+    pub ordered: u32,
+    pub count: u32,
+}
+
+// found: 1 a block, 0 there is none more; at, size: where its text stands in the telegram, counted from 0, and its octets.
+#[repr(C)]
+pub struct DfRemedy {
+    pub refusal: u32,
+    pub found: u32,
+    pub key: u32,
+    pub at: u64,
+    pub size: u64,
+}
+
+// size: the octets that were written.
+#[repr(C)]
+pub struct DfWrote {
+    pub refusal: u32,
+    pub size: u64,
 }
 
 fn number(f: Refusal) -> u32
@@ -608,6 +640,68 @@ fn e_read_c(o: ERead) -> DfERead
     }
 }
 
+fn remedies_c(o: RemediesRead) -> DfRemedies
+    ensures { λ r. ⌜ r ≡ remediesC (remediesAnswer o) ⌝ }
+{
+    match o {
+        RemediesRead::Read(x) => DfRemedies {
+            refusal: 0,
+            language: x.language as u32,
+            ordered: x.ordered as u32,
+            count: x.count as u32,
+        },
+        RemediesRead::Refused(f) => DfRemedies {
+            refusal: number(f),
+            language: 0,
+            ordered: 0,
+            count: 0,
+        },
+    }
+}
+
+fn remedy_c(o: RemedyRead) -> DfRemedy
+    ensures { λ r. ⌜ r ≡ remedyC (remedyAnswer o) ⌝ }
+{
+    match o {
+        RemedyRead::Found(b) => DfRemedy {
+            refusal: 0,
+            found: 1,
+            key: b.key as u32,
+            at: b.at as u64,
+            size: b.size as u64,
+        },
+        RemedyRead::Nothing => DfRemedy {
+            refusal: 0,
+            found: 0,
+            key: 0,
+            at: 0,
+            size: 0,
+        },
+        RemedyRead::Refused(f) => DfRemedy {
+            refusal: number(f),
+            found: 0,
+            key: 0,
+            at: 0,
+            size: 0,
+        },
+    }
+}
+
+fn wrote_c(o: Wrote) -> DfWrote
+    ensures { λ r. ⌜ r ≡ wroteC (wroteAnswer o) ⌝ }
+{
+    match o {
+        Wrote::Octets(n) => DfWrote {
+            refusal: 0,
+            size: n as u64,
+        },
+        Wrote::Refused(f) => DfWrote {
+            refusal: number(f),
+            size: 0,
+        },
+    }
+}
+
 #[no_mangle]
 pub extern "C" fn df_judge(list: &[u8], form: u8) -> DfJudged
     ensures { λ r. ⌜ r ≡ judgedC (judging form (now (list .entry))) ⌝ }
@@ -817,4 +911,34 @@ pub extern "C" fn df_e_answer(telegram: &[u8], head: &[u8], status: u8, out: &mu
     ensures { λ r. ⌜ WrittenC (answering (now (telegram .entry)) (now (head .entry)) status (now (out .entry))) (now (out .entry)) r (now (out .exit)) ⌝ }
 {
     outcome_c(gateway::e_answer(telegram, head, status, out))
+}
+
+#[no_mangle]
+pub extern "C" fn df_read_remedies(telegram: &[u8]) -> DfRemedies
+    ensures { λ r. ⌜ r ≡ remediesC (remedyReading (now (telegram .entry))) ⌝ }
+{
+    remedies_c(gateway::read_remedies(telegram))
+}
+
+#[no_mangle]
+pub extern "C" fn df_remedy_block(telegram: &[u8], block: usize) -> DfRemedy
+    ensures { λ r. ⌜ r ≡ remedyC (remedyBlock (now (telegram .entry)) block) ⌝ }
+{
+    remedy_c(gateway::remedy_block(telegram, block))
+}
+
+#[no_mangle]
+pub extern "C" fn df_write_remedies(
+    head: &[u8; 6],
+    carried: &[u8; 12],
+    language: u16,
+    ordered: u8,
+    keys: &[u8],
+    lengths: &[u16],
+    texts: &[u8],
+    out: &mut [u8],
+) -> DfWrote
+    ensures { λ r. ⌜ WroteC (remedyWriting (handedOf (now (head .entry)) (now (carried .entry)) language ordered (areaBlocks (now (keys .entry)) (now (lengths .entry)) (now (texts .entry)))) (now (out .entry))) (now (out .entry)) r (now (out .exit)) ⌝ }
+{
+    wrote_c(gateway::write_area(head, carried, language, ordered, keys, lengths, texts, out))
 }

@@ -10,13 +10,14 @@ use lib.Dec.{eqb, ltb}
 use native.Mathlib.Numerals.{add-one}
 use lib.ListN.{length, getD, take, set, length-append}
 use lib.Seq.{set-split, getD-append-add}
-use borrow.Author.Tests.{eq-eqb, ne-eqb, eqb-true, ltb-true, ltb-false, not-true, not-false}
+use borrow.Author.Tests.{eq-eqb, ne-eqb, eqb-true, ltb-true, ltb-false, le-ltb, not-true, not-false}
 use Rattle.paper.specs.Answer.{Answer, gives, refused, refuseIf}
 use Rattle.paper.specs.Octets.{octet, number, octetsOf, over}
 use Rattle.paper.specs.First.{all, some, firstBad, firstFrom}
 use Rattle.paper.specs.ETelegrams.{requests, reportTo, isRequest, isReport, eCode, eLimit, EReading, eReading, answerTo, answering}
 use Rattle.paper.proofs.AnswerLaws.{not-refused, and-then, gives-one, one-answer}
 use Rattle.paper.proofs.NumberLaws.{number-two, number-back, number-octetsOf-front, length-octetsOf, part-over, length-over, over-over}
+use Rattle.paper.proofs.RemedyLaws.{limit-least}
 use Rattle.refusals.proofs.Laws.{numbered, numbered-of}
 use Rattle.etelegrams.specs.declared.ERead.{ERead}
 use Rattle.etelegrams.specs.declared.ERead.the-variants as E
@@ -116,17 +117,20 @@ apart code e =
 -- ---- the three answers to a telegram of a good length
 
 module _ (t : List ℕ) (code : ℕ) (long : (ltb (length t) 9 || ltb (eLimit (eCode t)) (length t)) ≡ false) (e : code ≡ eCode t) where
+  long-by : (ltb (length t) 9 || ltb (eLimit code) (length t)) ≡ false
+  long-by = rw e long
+
   pub by-request : isRequest code ≡ true → gives (record { code = code; report = false; status = octet t 9 }) ≡ eReading t
   unfolding eReading refuseIf
-  by-request q = simp (long, sym e, q, apart code q)
+  by-request q = simp (long-by, sym e, q, apart code q)
 
   pub by-neither : isRequest code ≡ false → isReport code ≡ false → refused 22 0 ≡ eReading t
   unfolding eReading refuseIf
-  by-neither q r = simp (long, sym e, q, r)
+  by-neither q r = simp (long-by, sym e, q, r)
 
   pub by-report : isRequest code ≡ false → isReport code ≡ true → gives (record { code = code; report = true; status = octet t 9 }) ≡ eReading t
   unfolding eReading refuseIf
-  by-report q r = simp (long, sym e, q, r)
+  by-report q r = simp (long-by, sym e, q, r)
 
 -- ---- an answer's octets
 
@@ -233,7 +237,7 @@ read-back t head s out new e =
     ∙ ap (λ (n : ℕ). take n (over out 0 (answerTo c head s))) (sym l)
     ∙ part-over out 0 (answerTo c head s) (omega (arith, a .room)) in
     let k = is-report c ∙ a .request in
-    rw nine (simp (l, answer-code c head s (a .headed) (report-fits c (a .request)), answer-status c head s (a .headed), k, or-true))
+    rw nine (simp (l, answer-code c head s (a .headed) (report-fits c (a .request)), le-ltb (eLimit (reportTo c)) 9 (omega (arith, limit-least (reportTo c))), answer-status c head s (a .headed), k, or-true))
 
 -- ---- the contract settles the answer
 

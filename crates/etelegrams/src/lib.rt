@@ -19,10 +19,10 @@ pub enum ERead {
 }
 
 // The longest telegram of a code.
-fn e_limit(code: u16) -> usize
+pub fn e_limit(code: u16) -> usize
     ensures { λ r. ⌜ r ≡ eLimit code ⌝ }
 {
-    1024
+    if code == 0x8A08 { 2110 } else { 1024 }
 }
 
 // The request codes of document 01: one chain of comparisons of 16 bits, of which a compiler makes several at a time.

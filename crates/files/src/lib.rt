@@ -15,6 +15,7 @@ pub use error::print_long;
 use facts::Found;
 use facts::look_at;
 use path::beside;
+pub use path::put_at;
 pub use path::target_of;
 
 // How many octets were read; not ok where the file could not be read, which an error line has said.

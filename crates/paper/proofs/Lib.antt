@@ -30,4 +30,5 @@ pub mod RelayingLaws
 pub mod ProfileLaws
 pub mod RangeLaws
 pub mod ComparingLaws
+pub mod RemedyLaws
 pub mod TrueClock

@@ -2,7 +2,10 @@
 use Prim.Native.Nat.{ℕ, _≤_}
 use mathlib.Core.Path.{_≡_, refl}
 use mathlib.Core.Logic.{_↔_}
-use mathlib.Core.Bool.{Bool, true, false, cond}
+use mathlib.Core.Bool.{Bool, true, false, not, cond}
+use lib.Dec.{ltb, eqb}
+use lib.ListN.{length}
+use borrow.Author.Tests.{eqb-false}
 use mathlib.Core.List.{List, [], _∷_}
 use native.Mathlib.Omega.{arith}
 use Rattle.paper.specs.Answer.{Answer, gives, refused, refuseIf, andThen, shift, mapAnswer, forget, Given, Numbered, Sought, found, nothing}
@@ -21,6 +24,7 @@ use Rattle.paper.specs.Comparing.{nextSignal, nextRoute, nextGained, sig
 use Rattle.paper.specs.Profiles.{Profile, breachIn, unlessBreach, profiling}
 use Rattle.paper.specs.Shown.{Kind, showing}
 use Rattle.paper.specs.Train.{Vehicle, resolving}
+use Rattle.paper.specs.Remedies.{blockCount, start, blockFault, firstFault, refuseBy, remediesOf, remedyReading, remedyBlock, Handed, handedFault, writtenOf, remedyWriting}
 use Rattle.paper.specs.ETelegrams.{eReading, answering}
 use Rattle.paper.specs.Extends.{extends, extendsLists}
 use Rattle.paper.proofs.AnswerLaws.{never-both}
@@ -230,6 +234,28 @@ unfolding answering
 numbered-answering telegram head status out =
     numbered-then _ _ (numbered-e-reading telegram)
     (λ r. numbered-if _ 23 _ _ (omega arith) (numbered-if _ 24 _ _ (omega arith) (numbered-if _ 25 _ _ (omega arith) (numbered-gives _))))
+
+numbered-by : {A : Type 0} (fault : ℕ) (rest : Answer A) → Numbered rest → Numbered (refuseBy fault rest)
+unfolding Numbered refuseIf
+numbered-by fault rest k = by (eqb fault 0) refl
+  where
+    by : (b : Bool) → eqb fault 0 ≡ b → Numbered (refuseIf (not b) fault 0 rest)
+    by true e = k
+    by false e = let z : fault ≡ 0 → ⊥ = eqb-false fault 0 e in omega arith
+
+pub numbered-remedies : (telegram : List ℕ) → Numbered (remedyReading telegram)
+unfolding remedyReading
+numbered-remedies telegram =
+    numbered-if _ 21 _ _ (omega arith) (numbered-if _ 29 _ _ (omega arith) (numbered-by (firstFault (blockFault telegram) (blockCount telegram)) _ (numbered-if (ltb (start telegram (blockCount telegram)) (length telegram)) 28 0 (gives (remediesOf telegram)) (omega arith) (numbered-gives (remediesOf telegram)))))
+
+pub numbered-remedy : (telegram : List ℕ) (k : ℕ) → Numbered (remedyBlock telegram k)
+unfolding remedyBlock
+numbered-remedy telegram k = numbered-then _ _ (numbered-remedies telegram) (λ r. numbered-gives _)
+
+pub numbered-writing : (h : Handed) (out : List ℕ) → Numbered (remedyWriting h out)
+unfolding remedyWriting
+numbered-writing h out =
+    numbered-if _ 29 _ _ (omega arith) (numbered-if _ 25 _ _ (omega arith) (numbered-if _ 29 _ _ (omega arith) (numbered-by (firstFault (handedFault (h .blocks)) (h .blocks .many)) (gives (writtenOf h out)) (numbered-gives (writtenOf h out)))))
 
 numbered-two : {A B : Type 0} (x : Answer A) (refusal : ℕ → ℕ → OfTwo B) (next : A → OfTwo B) → Numbered x
     → ((n at : ℕ) → 1 ≤ n → NumberedTwo (refusal n at)) → ((a : A) → NumberedTwo (next a)) → NumberedTwo (ofTwo x refusal next)

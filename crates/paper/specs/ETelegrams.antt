@@ -1,5 +1,5 @@
 -- Document 01, "Train and E-telegrams": reading an E-telegram's code and composing the short answer.
-use mathlib.Core.Bool.{Bool, not, _||_}
+use mathlib.Core.Bool.{Bool, not, cond, _||_}
 use mathlib.Core.List.{List, [], _∷_, _++_}
 use Prim.Native.Nat.{ℕ, _+_}
 use lib.Dec.{ltb, eqb}
@@ -28,8 +28,13 @@ isReport code = some (λ i. eqb (reportTo (getD requests i 0)) code) (length req
 abbrev pub eCode : List ℕ → ℕ
 eCode telegram = number telegram 6 2
 
-abbrev pub eLimit : ℕ → ℕ
-eLimit code = 1024
+-- the report with remedy texts, telegram 8.8A
+abbrev pub remedyCode : ℕ
+remedyCode = 0x8A08
+
+-- C-11: "For this code only, the limit behind 21 becomes 2,110 octets."
+unfoldable pub eLimit : ℕ → ℕ
+eLimit code = cond (eqb code remedyCode) 2110 1024
 
 -- "Reading gives the code, request or report, and octet 9."
 pub record EReading : Type 0 where

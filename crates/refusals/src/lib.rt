@@ -66,6 +66,12 @@ impl Refusal {
 
     pub const NO_CHECK_PLACE: Refusal = Refusal(27, 0);
 
+    pub const BLOCK_PAST: Refusal = Refusal(28, 0);
+
+    pub const REMEDY_FIELD: Refusal = Refusal(29, 0);
+
+    pub const KEY_TWICE: Refusal = Refusal(30, 0);
+
     pub const SERIAL_SET: Refusal = Refusal(32, 0);
 
     pub const FORM_OUTPUT: Refusal = Refusal(33, 0);

@@ -1,8 +1,9 @@
-// How the programs say something and how they are spoken to: lines in columns, and words and numbers as arguments.
+// How the programs say something and how they are spoken to: lines in columns, words and numbers as arguments, and lines of words in a text file.
 // No function that a program's input reaches has a `requires`.
 mod argument;
 mod line;
 mod page;
+mod split;
 
 pub use argument::Clock;
 pub use argument::Number;
@@ -34,3 +35,6 @@ pub use page::Page;
 pub use page::add;
 pub use page::flush;
 pub use page::new_page;
+pub use split::find;
+pub use split::word;
+pub use split::word_count;

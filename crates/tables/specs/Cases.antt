@@ -2,7 +2,7 @@
 use Prim.Native.Nat.{ℕ, zero, suc, _+_}
 use mathlib.Core.Bool.{Bool, cond}
 use mathlib.Core.List.{List, [], _∷_, _++_, map}
-use lib.ListN.{length, getD}
+use lib.ListN.{length, getD, replicate}
 use lib.Ieee.{binary32, toBits}
 use Rattle.paper.specs.Octets.{octetsOf}
 use Rattle.paper.specs.Answer.{Answer, gives, refused, after, mapAnswer, Sought, found, nothing}
@@ -22,6 +22,7 @@ use Rattle.paper.specs.Comparing.{Changed, Range, signalChanges, routeChanges, 
 use Rattle.paper.specs.Shown.{Kind, Shown, ShownReading, asCode, asSpeed, asPercentage, asCurrent, showing}
 use Rattle.paper.specs.Train.{Vehicle, Members, resolving}
 use Rattle.paper.specs.ETelegrams.{EReading, eReading, answering}
+use Rattle.paper.specs.Remedies.{Remedies, remedyReading, Remedy, remedyBlock, remedyText, Blocks, blocksOf, areaBlocks, Handed, WrittenRemedies, remedyWriting}
 
 -- ---- Lists made of entries
 
@@ -121,6 +122,12 @@ pub data Question : Type 0 where
   eReads : List ℕ → Question
   -- an E-telegram, a head, a status and an output
   eAnswers : List ℕ → List ℕ → ℕ → List ℕ → Question
+  -- a telegram with remedy texts; one and a block
+  remedyReads : List ℕ → Question
+  remedyBlocks : List ℕ → ℕ → Question
+  -- octet 23, keys, lengths, the area of the texts and an output; octet 23, keys, texts and an output
+  remedyWrites : ℕ → List ℕ → List ℕ → List ℕ → List ℕ → Question
+  textsWrites : ℕ → List ℕ → List (List ℕ) → List ℕ → Question
 
 -- the same in form 1
 abbrev pub judges : List ℕ → Question
@@ -244,6 +251,12 @@ ofMembers m = m .set ∷ m .size ∷ []
 abbrev pub ofERead : EReading → List ℕ
 ofERead r = r .code ∷ yes-no (r .report) ∷ r .status ∷ []
 
+abbrev pub ofRemedies : Remedies → List ℕ
+ofRemedies m = m .language ∷ m .ordered ∷ m .count ∷ []
+
+abbrev pub ofRemedy : Remedy → List ℕ
+ofRemedy b = b .key ∷ b .at ∷ b .size ∷ []
+
 -- these elements of a lent area
 abbrev pub seen : List ℕ → List ℕ → List ℕ
 seen at xs = map (λ i. getD xs i 0) at
@@ -254,6 +267,15 @@ wrote old a at = said (λ new. []) a ++ seen at (after old a)
 
 abbrev pub wroteAll : List ℕ → Answer (List ℕ) → List ℕ
 wroteAll old a = said (λ new. []) a ++ after old a
+
+-- the length written, then the output
+abbrev pub wroteRemedies : List ℕ → Answer WrittenRemedies → List ℕ
+wroteRemedies out a = said (λ w. w .size ∷ []) a ++ after out (mapAnswer (λ w. w .octets) a)
+
+-- blocks handed in with octets 1-6 from 1 to 6, octets 9-20 all 7, and the language "de"
+abbrev pub handed : ℕ → Blocks → Handed
+handed ordered blocks =
+    record { head = 1 ∷ 2 ∷ 3 ∷ 4 ∷ 5 ∷ 6 ∷ []; carried = replicate 12 7; language = 0x6465; ordered = ordered; blocks = blocks }
 
 unfoldable pub ask : Question → List ℕ
 ask (judgesIn form xs) = said ofCounts (judge form xs)
@@ -286,3 +308,7 @@ ask (showsIn form xs store now v k kind) = said ofShownReading (showing form xs 
 ask (resolves train a) = said ofMembers (resolving train a)
 ask (eReads telegram) = said ofERead (eReading telegram)
 ask (eAnswers telegram head status out) = wroteAll out (answering telegram head status out)
+ask (remedyReads telegram) = said ofRemedies (remedyReading telegram)
+ask (remedyBlocks telegram k) = said (ofSought ofRemedy) (remedyBlock telegram k) ++ remedyText telegram k
+ask (remedyWrites ordered keys lengths area out) = wroteRemedies out (remedyWriting (handed ordered (areaBlocks keys lengths area)) out)
+ask (textsWrites ordered keys texts out) = wroteRemedies out (remedyWriting (handed ordered (blocksOf keys texts)) out)

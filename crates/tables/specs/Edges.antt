@@ -19,7 +19,7 @@ use Rattle.paper.specs.Relaying.{relayType, readLive, under, allLive, vouched, 
 use Rattle.paper.specs.Profiles.{plainCoach, drivingTrailer, underTable, signalBroken, routeBroken, firstBreach, breachIn, profiling}
 use Rattle.paper.specs.Shown.{speed, showing}
 use Rattle.paper.specs.Train.{noVehicle, consistRule, meets, member, setTo, membersOf, resolving}
-use Rattle.paper.specs.ETelegrams.{requests, isRequest, isReport, eReading, answerTo, answering}
+use Rattle.paper.specs.ETelegrams.{requests, isRequest, isReport, eLimit, eReading, answerTo, answering}
 use Rattle.paper.specs.Bench.{listL, listL2, listV, telegram, silent}
 use Rattle.tables.specs.Marked.{heardAt, rawAt}
 use Rattle.tables.specs.Cases.{joined, made, made2, bits, signal, code, route, Question, judges, judgesIn, profiles, serialsIn, movesTo2, movesTo1, places, takes, gaps, sweeps, reads, marshals, composes, relays, shows, resolves, eReads, gave, refuses, ask}
@@ -314,5 +314,5 @@ unfolding edges evens bits joined made made2 ask listL listL2 listV rawAt serial
     SignalList.greatestSince SignalList.ending SignalList.fromRoutes SignalList.fromCodes SignalList.fromSignalsTo judgeTo hasCodes inRange knownIn knows
     placeOf version slotOf taken taking age gap gapping stale sweptOne sweptTo sweeping heard markOf codeOf hindrances reasonOf readingOf readingAt reading routed marshalled live marshalling headed
     composed markFits valueFits composing relayType readLive under allLive vouched relayMark relayValue relaying underTable signalBroken routeBroken firstBreach breachIn profiling listed showing ofBits round toBits consistRule meets member setTo membersOf resolving requests isRequest isReport
-    eReading answerTo answering
+    eLimit eReading answerTo answering
 at-each-edge = refl

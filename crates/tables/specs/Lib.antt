@@ -4,4 +4,5 @@ pub mod Edges
 pub mod Breaks
 pub mod RelayCases
 pub mod CompareCases
+pub mod RemedyCases
 pub mod Wrong

@@ -30,10 +30,12 @@ use Rattle.paper.specs.Profiles.{plainCoach, drivingTrailer, underTable, signal
 use Rattle.paper.specs.Shown.{Kind, speed, percentage, signedPercentage, showing}
 use Rattle.paper.specs.Shown as Shown
 use Rattle.paper.specs.Train.{Vehicle, consistRule, meets, member, setTo, membersOf, resolving}
-use Rattle.paper.specs.ETelegrams.{requests, isRequest, isReport, eReading, answerTo, answering}
+use Rattle.paper.specs.ETelegrams.{requests, isRequest, isReport, eLimit, eReading, answerTo, answering}
+use Rattle.paper.specs.Remedies.{start, twice, blockFault, firstFault, remedyReading, remedyBlock, remedyText, areaTo, blockOctets, blocksTo, frontOctets, telegramOf, sizeTo, handedFault, remedyWriting}
 use Rattle.paper.specs.Bench.{listL, listL2, listV, telegram, silent}
 use Rattle.tables.specs.Marked.{heardAt, rawAt}
-use Rattle.tables.specs.Cases.{joined, made, made2, bits, signal, code, route, Question, judges, judgesIn, faults, faultsIn, profilesIn, profiles, breaches, extends, extendsIn, serialsIn, movesTo2, movesTo1, readsIn, signalEntries, routeEntries, finds, pairs, signalChangesIn, changes, reroutes, gains, places, takes, gaps, sweeps, holds, reads, marshals, composes, relays, shows, resolves, eReads, eAnswers, gave, refuses, ask}
+use Rattle.tables.specs.Cases.{joined, made, made2, bits, signal, code, route, Question, judges, judgesIn, faults, faultsIn, profilesIn, profiles, breaches, extends, extendsIn, serialsIn, movesTo2, movesTo1, readsIn, signalEntries, routeEntries, finds, pairs, signalChangesIn, changes, reroutes, gains, places, takes, gaps, sweeps, holds, reads, marshals, composes, relays, shows, resolves, eReads, eAnswers, gave, refuses, ask, remedyReads, remedyBlocks, remedyWrites, textsWrites}
+use Rattle.tables.specs.RemedyCases.{front, twoTexts, but, long, write}
 
 -- ---- A wrong gateway
 
@@ -665,6 +667,53 @@ table =
     ∷ saying "report-answered"
     (eAnswers (e-telegram 0x1A12 9) (replicate 6 7) 5 (replicate 9 0xEE)) (refuses 23 0 ++ replicate 9 0xEE)
     (gave (replicate 6 7 ++ (0x24 ∷ 0x12 ∷ 5 ∷ [])))
+    -- remedy texts: the code, the limit, octets 21-24, the blocks in order; a block's key and text; what is written
+    ∷ saying "other-code-is-22" (remedyReads (but 8 7 (twoTexts 9))) (refuses 29 0) (refuses 22 0)
+    ∷ saying "remedies-end-at-1024" (eReads (long 0x8A08 1016)) (gave (0x8A08 ∷ 1 ∷ 1 ∷ [])) (refuses 21 0)
+    ∷ saying "limit-2110-for-every-code" (eReads (long 0x8008 1016)) (refuses 21 0) (gave (0x8008 ∷ 0 ∷ 1 ∷ []))
+    ∷ saying "long-report-is-21" (eAnswers (long 0x8A08 1016) (replicate 6 7) 5 []) (refuses 23 0) (refuses 21 0)
+    ∷ saying "language-low-first" (remedyReads (twoTexts 9)) (gave (0x6465 ∷ 1 ∷ 2 ∷ [])) (gave (0x6564 ∷ 1 ∷ 2 ∷ []))
+    ∷ saying "reserve-examined" (remedyReads (twoTexts 9)) (gave (0x6465 ∷ 1 ∷ 2 ∷ [])) (refuses 29 0)
+    ∷ asked-as "key-twice-passed" (remedyReads (but 41 3 (twoTexts 9))) (refuses 30 0) (remedyReads (twoTexts 9)) (gave (0x6465 ∷ 1 ∷ 2 ∷ []))
+    ∷ asked-as "octets-after-the-last-passed" (remedyReads (twoTexts 9 ++ (0 ∷ []))) (refuses 28 0) (remedyReads (twoTexts 9)) (gave (0x6465 ∷ 1 ∷ 2 ∷ []))
+    ∷ saying "odd-text-passed" (remedyReads (front 1 1 9 ++ (0 ∷ 7 ∷ 3 ∷ 9 ∷ 0 ∷ 1 ∷ 0x61 ∷ []))) (refuses 29 0) (gave (0x6465 ∷ 1 ∷ 1 ∷ []))
+    ∷ saying "lowest-of-all-blocks" (remedyReads (but 40 7 (but 33 0 (twoTexts 9)))) (refuses 29 0) (refuses 28 0)
+    ∷ saying "field-before-the-end" (remedyReads (but 33 0 (but 31 1 (twoTexts 9)))) (refuses 28 0) (refuses 29 0)
+    ∷ saying "key-twice-before-its-length" (remedyReads (but 44 2 (but 41 3 (twoTexts 9)))) (refuses 29 0) (refuses 30 0)
+    ∷ saying "after-the-last-before-the-blocks" (remedyReads (but 41 3 (twoTexts 9) ++ (0 ∷ []))) (refuses 30 0) (refuses 28 0)
+    ∷ saying "block-ends-by-its-text" (remedyReads (but 36 254 (twoTexts 9))) (refuses 29 0) (refuses 28 0)
+    ∷ saying "text-two-octets-early" (remedyBlocks (twoTexts 9) 0) (gave (1 ∷ 3 ∷ 36 ∷ 2 ∷ 0x61 ∷ 0x62 ∷ [])) (gave (1 ∷ 3 ∷ 34 ∷ 2 ∷ 0 ∷ 2 ∷ []))
+    ∷ saying "text-to-the-block-s-length"
+    (remedyBlocks (twoTexts 9) 0) (gave (1 ∷ 3 ∷ 36 ∷ 2 ∷ 0x61 ∷ 0x62 ∷ []))
+    (gave (1 ∷ 3 ∷ 36 ∷ 8 ∷ 0x61 ∷ 0x62 ∷ 0 ∷ 6 ∷ 1 ∷ 9 ∷ 0 ∷ 0 ∷ []))
+    ∷ saying "key-of-the-next-block" (remedyBlocks (twoTexts 9) 0) (gave (1 ∷ 3 ∷ 36 ∷ 2 ∷ 0x61 ∷ 0x62 ∷ [])) (gave (1 ∷ 1 ∷ 36 ∷ 2 ∷ 0x61 ∷ 0x62 ∷ []))
+    ∷ asked-as "last-block-again" (remedyBlocks (twoTexts 9) 2) (gave (0 ∷ [])) (remedyBlocks (twoTexts 9) 1) (gave (1 ∷ 1 ∷ 44 ∷ 0 ∷ []))
+    ∷ asked-as "block-before-the-fault"
+    (remedyBlocks (but 41 3 (twoTexts 9)) 0) (refuses 30 0)
+    (remedyBlocks (twoTexts 9) 0) (gave (1 ∷ 3 ∷ 36 ∷ 2 ∷ 0x61 ∷ 0x62 ∷ []))
+    ∷ saying "reserve-left-as-it-stood"
+    (remedyWrites 1 (1 ∷ []) (0 ∷ []) [] (replicate 36 0xEE)) (gave (36 ∷ front 1 1 0 ++ (0 ∷ 6 ∷ 1 ∷ 0 ∷ 0 ∷ 0 ∷ [])))
+    (gave (36 ∷ front 1 1 0xEE ++ (0 ∷ 6 ∷ 1 ∷ 0xEE ∷ 0 ∷ 0 ∷ [])))
+    ∷ saying "block-length-without-its-six"
+    (remedyWrites 1 (1 ∷ []) (0 ∷ []) [] (replicate 36 0xEE)) (gave (36 ∷ front 1 1 0 ++ (0 ∷ 6 ∷ 1 ∷ 0 ∷ 0 ∷ 0 ∷ [])))
+    (gave (36 ∷ front 1 1 0 ++ (0 ∷ 0 ∷ 1 ∷ 0 ∷ 0 ∷ 0 ∷ [])))
+    ∷ saying "output-past-the-telegram-cleared"
+    (remedyWrites 1 (1 ∷ []) (0 ∷ []) [] (replicate 37 0xEE)) (gave (36 ∷ front 1 1 0 ++ (0 ∷ 6 ∷ 1 ∷ 0 ∷ 0 ∷ 0 ∷ 0xEE ∷ [])))
+    (gave (36 ∷ front 1 1 0 ++ (0 ∷ 6 ∷ 1 ∷ 0 ∷ 0 ∷ 0 ∷ 0 ∷ [])))
+    ∷ saying "length-of-the-output"
+    (remedyWrites 1 (1 ∷ []) (0 ∷ []) [] (replicate 37 0xEE)) (gave (36 ∷ front 1 1 0 ++ (0 ∷ 6 ∷ 1 ∷ 0 ∷ 0 ∷ 0 ∷ 0xEE ∷ [])))
+    (gave (37 ∷ front 1 1 0 ++ (0 ∷ 6 ∷ 1 ∷ 0 ∷ 0 ∷ 0 ∷ 0xEE ∷ [])))
+    ∷ asked-as "keys-exchanged"
+    (textsWrites 1 (3 ∷ 1 ∷ []) ([] ∷ [] ∷ []) (replicate 42 0xEE)) (gave (42 ∷ front 1 2 0 ++ (0 ∷ 6 ∷ 3 ∷ 0 ∷ 0 ∷ 0 ∷ 0 ∷ 6 ∷ 1 ∷ 0 ∷ 0 ∷ 0 ∷ [])))
+    (textsWrites 1 (1 ∷ 3 ∷ []) ([] ∷ [] ∷ []) (replicate 42 0xEE)) (gave (42 ∷ front 1 2 0 ++ (0 ∷ 6 ∷ 1 ∷ 0 ∷ 0 ∷ 0 ∷ 0 ∷ 6 ∷ 3 ∷ 0 ∷ 0 ∷ 0 ∷ [])))
+    ∷ saying "octet-23-before-the-room" (write 2 (3 ∷ []) (0 ∷ []) 0 35) (refuses 25 0 ++ replicate 35 0xEE) (refuses 29 0 ++ replicate 35 0xEE)
+    ∷ saying "room-of-eight-blocks" (write 1 (replicate 9 1) (replicate 9 0) 0 83) (refuses 25 0 ++ replicate 83 0xEE) (refuses 29 0 ++ replicate 83 0xEE)
+    ∷ saying "area-cut-to-its-lengths"
+    (write 1 (1 ∷ []) (0 ∷ []) 2 36) (refuses 29 0 ++ replicate 36 0xEE)
+    (gave (36 ∷ front 1 1 0 ++ (0 ∷ 6 ∷ 1 ∷ 0 ∷ 0 ∷ 0 ∷ [])))
+    ∷ saying "written-though-refused"
+    (write 1 (9 ∷ []) (0 ∷ []) 0 36) (refuses 29 0 ++ replicate 36 0xEE)
+    (refuses 29 0 ++ (front 1 1 0 ++ (0 ∷ 6 ∷ 9 ∷ 0 ∷ 0 ∷ 0 ∷ [])))
     ∷ []
 
 -- what is told of a row, and what is written in it
@@ -695,5 +744,6 @@ unfolding table bits answered sameNumbers joined made made2 ask listL listL2 lis
     SignalList.fromSignalsTo judgeTo faultIn faultFromRoutes faultFromCodes faultFromSignals faultOf hasCodes inRange knownIn knows placeOf version codesKept keeps stands newer Extending.extends extendsLists entryOf
     routeEntry signalFound finding has index nextPair pairing starts past changeAt codesCompared gained signalDiffers signalChange breaks routeDiffers routeChange nextSignal nextRoute nextGained signalChanges routeChanges codesGained slotOf taken taking age gap gapping stale sweptOne sweptTo sweeping heard heldIn holding markOf codeOf hindrances reasonOf readingOf
     readingAt reading routed marshalled live marshalling headed composed markFits valueFits composing relayType readLive under allLive vouched relayMark relayValue relaying underTable signalBroken routeBroken firstBreach breachIn breachOf profiling listed showing ofBits round toBits consistRule meets member
-    setTo membersOf resolving requests isRequest isReport eReading answerTo answering
+    setTo membersOf resolving requests isRequest isReport eLimit eReading answerTo answering
+    twoTexts start twice blockFault firstFault remedyReading remedyBlock remedyText areaTo blockOctets blocksTo frontOctets telegramOf sizeTo handedFault remedyWriting
 wrong = refl

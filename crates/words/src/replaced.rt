@@ -4,6 +4,7 @@ use gateway::FORM_1;
 use gateway::FORM_2;
 use gateway::Judged;
 use gateway::Outcome;
+use gateway::RemediesRead;
 use gateway::STORE;
 use saying::print_word;
 
@@ -12,6 +13,7 @@ pub enum Written {
     Data,
     Anyway,
     Telegram,
+    Remedies,
 }
 
 // A list without a signal says nothing of any bit: eight zeros are one, and bus data too.
@@ -34,6 +36,14 @@ fn is_telegram(octets: &[u8]) -> bool {
     match outcome {
         Outcome::Refused(_) => false,
         Outcome::Done => true,
+    }
+}
+
+// Whether `remedies` would show it.
+fn is_remedies(octets: &[u8]) -> bool {
+    match gateway::read_remedies(octets) {
+        RemediesRead::Refused(_) => false,
+        RemediesRead::Read(_) => true,
     }
 }
 
@@ -70,11 +80,20 @@ fn is_old_telegram(i: usize, name: &[u8], old: &[u8]) -> bool {
     ok
 }
 
+fn is_old_remedies(i: usize, name: &[u8], old: &[u8]) -> bool {
+    let ok = is_remedies(old);
+    if !ok {
+        print_word(i, name, b"exists and is no telegram that `remedies` reads");
+    }
+    ok
+}
+
 // Whether what stands in the file of argument i may go; where not, an error line has said so.
 pub fn may_replace(i: usize, name: &[u8], old: &[u8], written: Written) -> bool {
     match written {
         Written::Anyway => is_no_list(i, name, old),
         Written::Data => is_no_list(i, name, old) && is_no_telegram(i, name, old),
         Written::Telegram => is_old_telegram(i, name, old),
+        Written::Remedies => is_old_remedies(i, name, old),
     }
 }

@@ -127,7 +127,18 @@ fn say_taking_refusal(line: Line, number: u8) -> Line {
     }
 }
 
-// No program here meets a number from 17 to 31.
+// Of telegram 8.8A, with remedy texts.
+fn say_remedy_refusal(line: Line, number: u8) -> Line {
+    match number {
+        21 => say(line, b"E-telegram length"),
+        28 => say(line, b"block runs past the end, or octets after the last"),
+        29 => say(line, b"field out of its range or length that disagrees"),
+        30 => say(line, b"key twice"),
+        _ => say(line, b"see the table of refusals"),
+    }
+}
+
+// No program here meets another number from 17 to 31.
 fn say_other_refusal(line: Line, number: u8) -> Line {
     match number {
         11 => say(line, b"no such signal"),
@@ -142,7 +153,7 @@ fn say_other_refusal(line: Line, number: u8) -> Line {
         32 => say(line, b"serial number set"),
         33 => say(line, b"output not of the needed length"),
         34 => say(line, b"profile rule broken"),
-        _ => say(line, b"see the table of refusals"),
+        _ => say_remedy_refusal(line, number),
     }
 }
 

@@ -1,9 +1,9 @@
 //! The calls that are measured: each on both sides, with the same octets lent for reading and an area of its own lent for writing.
 
-use crate::lists::{self, NOW, STAMP};
+use crate::lists::{self, Handed, NOW, STAMP};
 use crate::proved::{self, Said};
 use crate::rust;
-use reference::{Change, CodeRange, Form, Kind, Profile, Shown, ShownReading};
+use reference::{Change, CodeRange, Form, Kind, Profile, Remedy, Shown, ShownReading};
 use std::fmt::Debug;
 use std::hint::black_box;
 
@@ -20,6 +20,10 @@ pub struct Case {
 
 /// How many fields one run reads or writes, each at another bit of an octet.
 const FIELDS: usize = 64;
+
+/// The blocks and the octets of the longest telegram of remedy texts.
+const BLOCKS: usize = 8;
+const LONGEST: usize = 2_110;
 
 fn leak<T>(of: Vec<T>) -> &'static [T] {
     Vec::leak(of)
@@ -545,6 +549,67 @@ fn e_read(name: &str, code: u16) -> Case {
     )
 }
 
+/// The longest telegram of remedy texts: read, each of its blocks asked for, and written.
+fn remedies() -> [Case; 3] {
+    let handed: &Handed = Box::leak(Box::new(lists::remedies()));
+    let mut telegram = vec![0; LONGEST];
+    let written = rust::write_remedies(handed, &mut telegram);
+    assert_eq!(written, Ok(LONGEST), "the texts of the bench are written");
+    let telegram = leak(telegram);
+    [
+        said(
+            "read remedies, 8 texts of 254 octets",
+            vec![],
+            move |_| proved::read_remedies(black_box(telegram)),
+            move |_| rust::read_remedies(black_box(telegram)),
+        ),
+        case(
+            "remedy blocks, all of 8 texts of 254 octets",
+            vec![],
+            (move |_: &mut [u8]| proved_blocks(telegram), |sum| sum),
+            (move |_: &mut [u8]| rust_blocks(telegram), |sum| sum),
+        ),
+        said(
+            "write remedies, 8 texts of 254 octets",
+            vec![0xA5; LONGEST],
+            move |out| proved::write_remedies(black_box(handed), out),
+            move |out| rust::write_remedies(black_box(handed), out),
+        ),
+    ]
+}
+
+fn proved_blocks(telegram: &[u8]) -> u64 {
+    all_blocks(|block| {
+        let found = proved::remedy_block(black_box(telegram), block).said();
+        found.expect("the telegram of the bench is good")
+    })
+}
+
+fn rust_blocks(telegram: &[u8]) -> u64 {
+    all_blocks(|block| {
+        let found = rust::remedy_block(black_box(telegram), block);
+        placed(telegram, found.expect("the telegram of the bench is good"))
+    })
+}
+
+/// A block by where its text stands, as the proved library has it.
+#[inline(always)]
+fn placed(telegram: &[u8], block: Option<Remedy>) -> Option<proved::Block> {
+    let start = |text: &[u8]| text.as_ptr().addr() - telegram.as_ptr().addr();
+    block.map(|block| (block.key, start(block.text), block.text.len()))
+}
+
+/// Every block, each by a call, as one number.
+#[inline(always)]
+fn all_blocks(block: impl Fn(usize) -> Option<proved::Block>) -> u64 {
+    (0..BLOCKS)
+        .filter_map(block)
+        .fold(0, |sum, (key, at, size)| {
+            let sum = sum.rotate_left(7) ^ u64::from(key);
+            sum.rotate_left(7) ^ (at as u64) << 32 ^ size as u64
+        })
+}
+
 fn check_place(bit: u64) -> Case {
     said(
         "check place, the last row of the grouping",
@@ -633,6 +698,24 @@ pub fn refused_alike() {
     for (form, list) in lists {
         refused_by_profiles(form, &list);
         refused_alike_in(form, list);
+    }
+    remedies_refused_alike(&lists::remedies());
+}
+
+/// A telegram of remedy texts that is cut, and one that has no room.
+fn remedies_refused_alike(handed: &Handed) {
+    let mut telegram = vec![0; LONGEST];
+    assert_eq!(rust::write_remedies(handed, &mut telegram), Ok(LONGEST));
+    for cut in 0..LONGEST {
+        let short = &telegram[..cut];
+        let refused = reference::read_remedies(short);
+        assert_eq!(proved::read_remedies(short).said(), refused);
+        let refused = reference::remedy_block(short, 7).map(|block| placed(short, block));
+        assert_eq!(proved::remedy_block(short, 7).said(), refused);
+        let (mut ours, mut theirs) = (vec![0xA5; cut], vec![0xA5; cut]);
+        let refused = rust::write_remedies(handed, &mut theirs);
+        assert_eq!(proved::write_remedies(handed, &mut ours).said(), refused);
+        assert_eq!(ours, theirs);
     }
 }
 
@@ -748,12 +831,11 @@ pub fn all() -> Vec<Case> {
     cases.extend([
         e_read("E read, a request", 0x9001),
         e_read("E read, a report", 0x9A01),
-    ]);
-    cases.extend([
         resolve("resolve 63 vehicles, coaches", 67),
         resolve("resolve 63 vehicles, all", 66),
+        check_place(583),
     ]);
-    cases.push(check_place(583));
+    cases.extend(remedies());
     cases.extend(forms());
     cases.extend(wide());
     for width in [1, 4, 8, 16, 48, 49, 63, 64] {

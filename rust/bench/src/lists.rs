@@ -1,4 +1,4 @@
-//! The lists, the store and the telegrams that are measured.
+//! The lists, the store, the telegrams and the texts that are measured.
 //!
 //! The bits of a telegram are laid out in units of 14: a check, then signals of 2, 3, 3 and 4 bits that name it. The longest list has 64
 //! units, 21 of them in the octets that every type carries and 43 in those of R1, so that an R1 carries all its 256 signals.
@@ -241,4 +241,28 @@ pub fn train() -> Vec<u8> {
     marks[0] = 5;
     marks[62] = 12;
     marks
+}
+
+/// What a writer of remedy texts is handed.
+pub struct Handed {
+    pub head: [u8; 6],
+    pub carried: [u8; 12],
+    pub language: u16,
+    pub ordered: u8,
+    pub keys: Vec<u8>,
+    pub lengths: Vec<u16>,
+    pub texts: Vec<u8>,
+}
+
+/// As many texts as there can be, each as long as it can be, under keys that are not in order.
+pub fn remedies() -> Handed {
+    Handed {
+        head: [1, 2, 3, 4, 5, 6],
+        carried: [7; 12],
+        language: 0x0407,
+        ordered: 1,
+        keys: vec![8, 1, 7, 2, 6, 3, 5, 4],
+        lengths: vec![254; 8],
+        texts: (0..8 * 254).map(|octet| (37 * octet) as u8).collect(),
+    }
 }

@@ -3,9 +3,11 @@
 
 use reference::{
     Change, CodeRange, Counts, EReading, Extends, Form, Kind, Members, Profile, Reading, Refusal,
-    Refused, Rule, Shown, ShownReading,
+    Refused, Remedies, Rule, Shown, ShownReading,
 };
 use std::mem::MaybeUninit;
+
+use crate::lists::Handed;
 
 #[repr(C)]
 pub struct Outcome {
@@ -111,6 +113,29 @@ pub struct ERead {
     code: u32,
     report: u32,
     status: u32,
+}
+
+#[repr(C)]
+pub struct RemediesRead {
+    refusal: u32,
+    language: u32,
+    ordered: u32,
+    count: u32,
+}
+
+#[repr(C)]
+pub struct RemedyRead {
+    refusal: u32,
+    found: u32,
+    key: u32,
+    at: u64,
+    size: u64,
+}
+
+#[repr(C)]
+pub struct Wrote {
+    refusal: u32,
+    size: u64,
 }
 
 pub type To<T> = *mut MaybeUninit<T>;
@@ -242,6 +267,24 @@ extern "C" {
     fn df_check_place(bit: u64) -> Placed;
     fn df_resolve(marks: *const u8, marks_len: usize, address: u64) -> Resolved;
     fn df_e_read(telegram: *const u8, telegram_len: usize) -> ERead;
+    fn df_read_remedies(telegram: *const u8, telegram_len: usize) -> RemediesRead;
+    #[rustfmt::skip]
+    fn df_remedy_block(to: To<RemedyRead>, telegram: *const u8, telegram_len: usize, block: usize);
+    #[rustfmt::skip]
+    fn df_write_remedies(
+        head: *const [u8; 6],
+        carried: *const [u8; 12],
+        language: u16,
+        ordered: u8,
+        keys: *const u8,
+        keys_len: usize,
+        lengths: *const u16,
+        lengths_len: usize,
+        texts: *const u8,
+        texts_len: usize,
+        out: *mut u8,
+        out_len: usize,
+    ) -> Wrote;
 
     fn proved_read_field(octets: *const u8, len: usize, start: usize, width: usize) -> u64;
     fn proved_write_field(octets: *mut u8, len: usize, start: usize, width: usize, value: u64);
@@ -454,6 +497,36 @@ pub fn e_read(telegram: &[u8]) -> ERead {
 }
 
 #[inline(always)]
+pub fn read_remedies(telegram: &[u8]) -> RemediesRead {
+    unsafe { df_read_remedies(telegram.as_ptr(), telegram.len()) }
+}
+
+#[inline(always)]
+pub fn remedy_block(telegram: &[u8], block: usize) -> RemedyRead {
+    answer(|to| unsafe { df_remedy_block(to, telegram.as_ptr(), telegram.len(), block) })
+}
+
+#[inline(always)]
+pub fn write_remedies(handed: &Handed, out: &mut [u8]) -> Wrote {
+    unsafe {
+        df_write_remedies(
+            &handed.head,
+            &handed.carried,
+            handed.language,
+            handed.ordered,
+            handed.keys.as_ptr(),
+            handed.keys.len(),
+            handed.lengths.as_ptr(),
+            handed.lengths.len(),
+            handed.texts.as_ptr(),
+            handed.texts.len(),
+            out.as_mut_ptr(),
+            out.len(),
+        )
+    }
+}
+
+#[inline(always)]
 pub fn read_field(octets: &[u8], start: usize, width: usize) -> u64 {
     unsafe { proved_read_field(octets.as_ptr(), octets.len(), start, width) }
 }
@@ -633,5 +706,35 @@ impl Said for ERead {
             status: self.status as u8,
         };
         unless_refused(self.refusal, 0, reading)
+    }
+}
+
+impl Said for RemediesRead {
+    type As = Result<Remedies, Refusal>;
+    fn said(self) -> Self::As {
+        let remedies = Remedies {
+            language: self.language as u16,
+            ordered: self.ordered as u8,
+            count: self.count as usize,
+        };
+        unless_refused(self.refusal, 0, remedies)
+    }
+}
+
+/// A block: its key, where its text starts, and its octets.
+pub type Block = (u8, usize, usize);
+
+impl Said for RemedyRead {
+    type As = Result<Option<Block>, Refusal>;
+    fn said(self) -> Self::As {
+        let block = (self.key as u8, self.at as usize, self.size as usize);
+        unless_refused(self.refusal, 0, (self.found != 0).then_some(block))
+    }
+}
+
+impl Said for Wrote {
+    type As = Result<usize, Refusal>;
+    fn said(self) -> Self::As {
+        unless_refused(self.refusal, 0, self.size as usize)
     }
 }

@@ -1,8 +1,9 @@
 //! The independent implementation, each function a call as the proved one is, whose archive is never inlined into the bench.
 
+use crate::lists::Handed;
 use reference::{
     Change, CodeRange, Counts, EReading, Extends, Form, Kind, Members, Profile, Reading, Refusal,
-    Refused, ShownReading,
+    Refused, Remedies, Remedy, ShownReading,
 };
 
 #[inline(never)]
@@ -157,6 +158,30 @@ pub fn resolve(marks: &[u8], address: u64) -> Result<Members, Refusal> {
 #[inline(never)]
 pub fn e_read(telegram: &[u8]) -> Result<EReading, Refusal> {
     reference::e_read(telegram)
+}
+
+#[inline(never)]
+pub fn read_remedies(telegram: &[u8]) -> Result<Remedies, Refusal> {
+    reference::read_remedies(telegram)
+}
+
+#[inline(never)]
+pub fn remedy_block(telegram: &[u8], block: usize) -> Result<Option<Remedy<'_>>, Refusal> {
+    reference::remedy_block(telegram, block)
+}
+
+#[inline(never)]
+pub fn write_remedies(handed: &Handed, out: &mut [u8]) -> Result<usize, Refusal> {
+    reference::write_remedies(
+        &handed.head,
+        &handed.carried,
+        handed.language,
+        handed.ordered,
+        &handed.keys,
+        &handed.lengths,
+        &handed.texts,
+        out,
+    )
 }
 
 #[inline(never)]

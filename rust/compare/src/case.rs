@@ -29,6 +29,9 @@ pub enum Call {
     Resolve,
     ERead,
     EAnswer,
+    ReadRemedies,
+    RemedyBlock,
+    WriteRemedies,
 }
 
 /// The parameters of a call: its areas of octets in order, which of them is written, and its numbers in order.
@@ -54,7 +57,7 @@ const fn takes(
 }
 
 impl Call {
-    pub const ALL: [Call; 23] = [
+    pub const ALL: [Call; 26] = [
         Call::Judge,
         Call::JudgeProfile,
         Call::Extends,
@@ -78,6 +81,9 @@ impl Call {
         Call::Resolve,
         Call::ERead,
         Call::EAnswer,
+        Call::ReadRemedies,
+        Call::RemedyBlock,
+        Call::WriteRemedies,
     ];
 
     #[rustfmt::skip]
@@ -106,6 +112,9 @@ impl Call {
             Call::Resolve => takes("resolve", &["marks"], None, &["address"]),
             Call::ERead => takes("e_read", &["telegram"], None, &[]),
             Call::EAnswer => takes("e_answer", &["telegram", "head", "out"], Some(2), &["status"]),
+            Call::ReadRemedies => takes("read_remedies", &["telegram"], None, &[]),
+            Call::RemedyBlock => takes("remedy_block", &["telegram"], None, &["block"]),
+            Call::WriteRemedies => takes("write_remedies", &["octets 1-6", "octets 9-20", "keys", "texts", "out"], Some(4), &["language", "octet 23"]),
         }
     }
 }
@@ -127,6 +136,8 @@ pub struct Case {
     pub areas: Vec<Vec<u8>>,
     /// The values to compose; no other call has any.
     pub values: Vec<u64>,
+    /// The lengths of the texts to be written; no other call has any.
+    pub lengths: Vec<u16>,
     /// The numbers, in the order of the parameters.
     pub numbers: Vec<u64>,
 }
@@ -137,8 +148,16 @@ impl Case {
             call,
             areas,
             values: Vec::new(),
+            lengths: Vec::new(),
             numbers,
         }
+    }
+
+    /// Whether an area has a number of octets that it must have.
+    pub fn is_fixed(&self, area: usize) -> bool {
+        // A store of another length is only refused; the others are arrays.
+        let fixed = ["store", "octets 1-6", "octets 9-20"];
+        fixed.contains(&self.call.parameters().areas[area])
     }
 
     /// The number that says the form of the list in an area: the forms of a call's lists are its first numbers.
@@ -171,6 +190,11 @@ impl Case {
                 .iter()
                 .map(|value| 1 + ones(value))
                 .sum::<usize>()
+            + self
+                .lengths
+                .iter()
+                .map(|&length| 1 + ones(&length.into()))
+                .sum::<usize>()
             + self.numbers.iter().map(ones).sum::<usize>()
     }
 }
@@ -184,6 +208,9 @@ impl fmt::Display for Case {
         }
         if self.call == Call::Compose {
             writeln!(f, "  {} values: {:X?}", self.values.len(), self.values)?;
+        }
+        if self.call == Call::WriteRemedies {
+            writeln!(f, "  {} lengths: {:?}", self.lengths.len(), self.lengths)?;
         }
         for (name, number) in takes.numbers.iter().zip(&self.numbers) {
             writeln!(f, "  {name} {number}")?;

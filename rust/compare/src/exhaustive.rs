@@ -7,6 +7,7 @@ use crate::changes::{self, compared};
 use crate::generate::REQUESTS;
 use crate::list::{Code, List, Route, Signal};
 use crate::profiles::{self, by_profiles};
+use crate::remedies;
 use crate::store::{plant, OLD_STORE};
 use reference::{write_field, PREVIOUS, SLOT, STORE, TELEGRAM, VEHICLES};
 
@@ -34,6 +35,7 @@ pub fn each(mut try_one: impl FnMut(Case)) {
     check_places(&mut try_one);
     addresses(&mut try_one);
     e_telegrams(&mut try_one);
+    remedies::each(&mut try_one);
     telegrams(&mut try_one);
     lists(&mut try_one);
     forms(&mut try_one);

@@ -6,7 +6,7 @@ use crate::case::{is_scaled, Call, Case, KINDS, PROFILES};
 use crate::damage::{any_list, damaged, mostly_good, said_form};
 use crate::list::List;
 use crate::random::Random;
-use crate::{edited, make, narrow, pair, store};
+use crate::{edited, make, narrow, pair, store, texts};
 use reference::{HEAD, SLOT, STORE, VEHICLES};
 
 /// The request codes of document 01.
@@ -17,8 +17,8 @@ pub const REQUESTS: [u16; 25] = [
 ];
 
 pub fn case(r: &Random) -> Case {
-    match r.below(188) {
-        0..=13 | 176..=179 => {
+    match r.below(223) {
+        0..=13 | 176..=179 | 216..=217 => {
             let (list, form) = any_list(r);
             Case::new(Call::Judge, vec![list], vec![form])
         }
@@ -31,7 +31,7 @@ pub fn case(r: &Random) -> Case {
         35..=37 => check_place(r),
         38..=43 => take(r),
         44..=46 => sweep(r),
-        47..=61 | 180..=184 => read(r),
+        47..=61 | 180..=184 | 219..=220 => read(r),
         62..=70 => marshal(r),
         71..=82 => compose(r),
         83..=85 | 114..=122 => show(r),
@@ -41,11 +41,14 @@ pub fn case(r: &Random) -> Case {
         160..=166 => route_change(r),
         167..=175 => codes_gained(r),
         86..=91 | 187 => resolve(r),
-        92..=94 => e_read(r),
+        92..=94 | 221..=222 => e_read(r),
         95..=99 => e_answer(r),
         100..=102 => serial(r),
         103..=105 => moved(r, Call::ToForm2, [1, 2]),
-        106..=109 | 185..=186 => moved(r, Call::ToForm1, [2, 1]),
+        106..=109 | 185..=186 | 218 => moved(r, Call::ToForm1, [2, 1]),
+        188..=197 => texts::read(r),
+        198..=203 => texts::block(r),
+        204..=215 => texts::write(r),
         _ => gap(r),
     }
 }
@@ -486,20 +489,23 @@ fn resolve(r: &Random) -> Case {
 }
 
 fn e_telegram(r: &Random) -> Vec<u8> {
-    let len = match r.below(12) {
-        0 => r.of(&[0, 1, 6, 7, 8]),
-        1 => r.of(&[1_022, 1_023, 1_024, 1_025, 1_100]),
-        2 => r.index(1_101),
-        _ => r.of(&[9, 9, 9, 10, 40]),
-    };
     let request = r.of(&REQUESTS);
-    let code = match r.below(8) {
+    let code = match r.below(10) {
         0 => r.word() as u16,
         1 => r.near(request.into()) as u16,
         2 => r.near(u64::from(request) + 0x0A00) as u16,
         3 => request.wrapping_sub(0x0A00),
         4 => request.wrapping_add(0x0A00),
+        5 => texts::REMEDIES,
         _ => request,
+    };
+    // The code with the other limit has its own ends too.
+    let len = match r.below(if code == texts::REMEDIES { 6 } else { 12 }) {
+        0 => r.of(&[0, 1, 6, 7, 8]),
+        1 => r.of(&[1_022, 1_023, 1_024, 1_025, 1_100]),
+        2 => r.index(1_101),
+        3 => r.of(&[2_109, 2_110, 2_111, r.index(2_200)]),
+        _ => r.of(&[9, 9, 9, 10, 40]),
     };
     let mut telegram = r.octets(len);
     if let Some(octets) = telegram.get_mut(6..8) {

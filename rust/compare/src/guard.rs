@@ -3,8 +3,8 @@
 use std::ffi::{c_int, c_void};
 use std::{ptr, slice};
 
-/// Above every page size in use; the areas of a call are far smaller.
-const PAGE: usize = 1 << 16;
+/// Above every page size in use, and above every area of a call.
+const PAGE: usize = 1 << 18;
 
 const NONE: c_int = 0;
 const READ: c_int = 1;
@@ -90,5 +90,11 @@ impl Arena {
     pub fn numbers(&self) -> &[u64] {
         // SAFETY: as above; both ends of the page are multiples of 8, and so is the length of what was placed.
         unsafe { slice::from_raw_parts(self.area.cast(), self.len / 8) }
+    }
+
+    /// The octets placed last as numbers of 16 bits.
+    pub fn lengths(&self) -> &[u16] {
+        // SAFETY: as above, with 2 for 8.
+        unsafe { slice::from_raw_parts(self.area.cast(), self.len / 2) }
     }
 }

@@ -28,10 +28,14 @@ mod profiles;
 mod random;
 mod reached;
 mod relayed;
+mod remedied;
+mod remedies;
+mod returned;
 mod run;
 mod shrink;
 mod sides;
 mod store;
+mod texts;
 mod true_clock;
 mod walked;
 
@@ -80,6 +84,56 @@ fn well<T>(what: &str, met: Result<T, String>) -> Option<T> {
     met.map_err(|why| println!("{what}: {why}")).ok()
 }
 
+/// What the runs of their own met.
+struct Runs {
+    exact: u32,
+    clocked: true_clock::Met,
+    passed_on: passed_on::Met,
+    walked: walked::Met,
+    returned: returned::Met,
+}
+
+impl Runs {
+    /// All of them, if all went well.
+    fn new(cases: u64, seed: u64) -> Option<Self> {
+        let exact = well("NOT EXACT", exact::all_shown());
+        let clocked = well("NOT BY THE TRUE CLOCK", true_clock::all(cases / 20, seed));
+        let passed_on = well("NOT PASSED ON", passed_on::all(cases / 40, seed));
+        let walked = well("NOT AS COMPARED", walked::all(cases / 20, seed));
+        let returned = well("NOT THERE AND BACK", returned::all(cases / 40, seed));
+        Some(Runs {
+            exact: exact?,
+            clocked: clocked?,
+            passed_on: passed_on?,
+            walked: walked?,
+            returned: returned?,
+        })
+    }
+
+    fn faults(&self) -> Vec<String> {
+        [
+            self.clocked.faults(),
+            self.passed_on.faults(),
+            self.walked.faults(),
+            self.returned.faults(),
+        ]
+        .concat()
+    }
+
+    fn said(&self) -> String {
+        format!(
+            "{} readings by the true clock; {} behind an old gateway; {} differences in {} pairs of lists; \
+             {} telegrams with remedy texts there and back; {} shown values exact",
+            self.clocked.readings(),
+            self.passed_on.readings(),
+            self.walked.differences,
+            self.walked.pairs,
+            self.returned.telegrams,
+            self.exact
+        )
+    }
+}
+
 /// All cases; gives whether all is well.
 fn compare(cases: u64, seed: u64, memory: Memory) -> bool {
     let mut run = Run::new(memory);
@@ -100,36 +154,21 @@ fn compare(cases: u64, seed: u64, memory: Memory) -> bool {
             return false;
         }
     }
-    let exact = well("NOT EXACT", exact::all_shown());
-    let clocked = well("NOT BY THE TRUE CLOCK", true_clock::all(cases / 20, seed));
-    let passed_on = well("NOT PASSED ON", passed_on::all(cases / 40, seed));
-    let walked = well("NOT AS COMPARED", walked::all(cases / 20, seed));
-    let (Some(exact), Some(clocked), Some(passed_on), Some(walked)) =
-        (exact, clocked, passed_on, walked)
-    else {
+    let Some(runs) = Runs::new(cases, seed) else {
         return false;
     };
-    print!("{reached}{clocked}{passed_on}{walked}");
-    let faults = [
-        reached.faults(),
-        clocked.faults(),
-        passed_on.faults(),
-        walked.faults(),
-    ]
-    .concat();
+    print!("{reached}{}{}", runs.clocked, runs.passed_on);
+    print!("{}{}", runs.walked, runs.returned);
+    let faults = [reached.faults(), runs.faults()].concat();
     if !faults.is_empty() {
         println!("{}", faults.join("\n"));
         return false;
     }
     println!(
         "{cases} cases of seed {seed} and {exhaustive} exhaustive ones: no difference; \
-         {} kinds of answer, all reached; {} readings by the true clock; {} behind an old gateway; \
-         {} differences in {} pairs of lists; {exact} shown values exact; {} s",
+         {} kinds of answer, all reached; {}; {} s",
         reached.rows(),
-        clocked.readings(),
-        passed_on.readings(),
-        walked.differences,
-        walked.pairs,
+        runs.said(),
         run.started.elapsed().as_secs()
     );
     true

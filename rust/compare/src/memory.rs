@@ -6,8 +6,14 @@ use crate::sides::{Lent, Side};
 
 pub enum Memory {
     Heap,
-    /// An arena for each area, and one for the values.
-    Guarded([Arena; 3], Arena),
+    Guarded(Box<Arenas>),
+}
+
+/// An arena for each area, one for the values and one for the lengths.
+pub struct Arenas {
+    areas: [Arena; 5],
+    values: Arena,
+    lengths: Arena,
 }
 
 /// An answer and every octet that was lent, afterwards.
@@ -16,18 +22,23 @@ pub struct After {
     pub answer: Answer,
     pub areas: Vec<Vec<u8>>,
     pub values: Vec<u64>,
+    pub lengths: Vec<u16>,
 }
 
 impl Memory {
     pub fn guarded() -> Self {
-        Memory::Guarded([(); 3].map(|()| Arena::new()), Arena::new())
+        Memory::Guarded(Box::new(Arenas {
+            areas: [(); 5].map(|()| Arena::new()),
+            values: Arena::new(),
+            lengths: Arena::new(),
+        }))
     }
 
     /// Makes the call; on the heap the edge is no matter.
     pub fn run(&mut self, side: Side, case: &Case, edge: Edge) -> After {
         match self {
             Memory::Heap => on_heap(side, case),
-            Memory::Guarded(arenas, values) => guarded(side, case, edge, arenas, values),
+            Memory::Guarded(arenas) => guarded(side, case, edge, arenas),
         }
     }
 }
@@ -37,6 +48,7 @@ pub fn on_heap(side: Side, case: &Case) -> After {
     let lent = Lent {
         areas: areas.iter_mut().map(|area| &mut area[..]).collect(),
         values: &case.values,
+        lengths: &case.lengths,
         numbers: &case.numbers,
     };
     let answer = side(case.call, lent);
@@ -44,40 +56,48 @@ pub fn on_heap(side: Side, case: &Case) -> After {
         answer,
         areas,
         values: case.values.clone(),
+        lengths: case.lengths.clone(),
     }
 }
 
-fn guarded(
-    side: Side,
-    case: &Case,
-    edge: Edge,
-    arenas: &mut [Arena; 3],
-    values: &mut Arena,
-) -> After {
-    let written = case.call.parameters().written;
+/// Places what is lent for reading.
+fn place_read(arena: &mut Arena, octets: &[u8], edge: Edge) {
+    arena.place(octets, edge);
+    arena.forbid_writing();
+}
+
+fn guarded(side: Side, case: &Case, edge: Edge, arenas: &mut Arenas) -> After {
+    let Arenas {
+        areas,
+        values,
+        lengths,
+    } = arenas;
     let octets: Vec<u8> = case.values.iter().flat_map(|v| v.to_ne_bytes()).collect();
-    values.place(&octets, edge);
-    values.forbid_writing();
-    for (i, (arena, area)) in arenas.iter_mut().zip(&case.areas).enumerate() {
-        arena.place(area, edge);
-        if written != Some(i) {
-            arena.forbid_writing();
+    place_read(values, &octets, edge);
+    let octets: Vec<u8> = case.lengths.iter().flat_map(|l| l.to_ne_bytes()).collect();
+    place_read(lengths, &octets, edge);
+    let written = case.call.parameters().written;
+    for (i, (arena, area)) in areas.iter_mut().zip(&case.areas).enumerate() {
+        match written == Some(i) {
+            true => arena.place(area, edge),
+            false => place_read(arena, area, edge),
         }
     }
+    let areas = &mut areas[..case.areas.len()];
     let lent = Lent {
-        areas: arenas
-            .iter_mut()
-            .take(case.areas.len())
-            .map(Arena::area)
-            .collect(),
+        areas: areas.iter_mut().map(Arena::area).collect(),
         values: values.numbers(),
+        lengths: lengths.lengths(),
         numbers: &case.numbers,
     };
     let answer = side(case.call, lent);
-    let areas = arenas.iter_mut().take(case.areas.len());
     After {
         answer,
-        areas: areas.map(|arena| arena.area().to_vec()).collect(),
+        areas: areas
+            .iter_mut()
+            .map(|arena| arena.area().to_vec())
+            .collect(),
         values: values.numbers().to_vec(),
+        lengths: lengths.lengths().to_vec(),
     }
 }

@@ -311,7 +311,7 @@ impl Met {
 impl fmt::Display for Met {
     fn fmt(&self, f: &mut fmt::Formatter) -> fmt::Result {
         let said = NAMES.map(|name| format!("{name}: {}", self.0[name]));
-        writeln!(f, "{:14}{}", "passed on", said.join(", "))
+        writeln!(f, "{:15}{}", "passed on", said.join(", "))
     }
 }
 

@@ -8,6 +8,7 @@ use crate::changed;
 use crate::list::{longest, sizes, Route, Signal, MOST};
 use crate::profiled;
 use crate::relayed;
+use crate::remedied;
 use crate::store::{stamp_at, OLD_STORE};
 use reference::{Form, HEAD, HEARD, PREVIOUS, SIGNAL_SIZE, SLOT, STAMP, VEHICLES};
 
@@ -196,9 +197,17 @@ fn wanted(call: Call) -> Vec<Row> {
         Call::ERead => [
             vec![("request", 0), ("report", 0)],
             refusals(&[21, 22]),
-            vec![],
+            remedied::wanted(call),
         ],
-        Call::EAnswer => [vec![("ok", 0)], refusals(&[21, 22, 23, 24, 25]), vec![]],
+        Call::EAnswer => [
+            vec![("ok", 0)],
+            refusals(&[21, 22, 23, 24, 25]),
+            remedied::wanted(call),
+        ],
+        Call::ReadRemedies | Call::RemedyBlock => {
+            [remedied::wanted(call), refusals(&[21, 28, 29, 30]), vec![]]
+        }
+        Call::WriteRemedies => [remedied::wanted(call), refusals(&[25, 29, 30]), vec![]],
     };
     let old = match call.parameters().areas.contains(&"store") {
         true => each("store refused, octets", &[OLD_STORE as u64]),
@@ -253,8 +262,9 @@ fn rows(case: &Case, answer: &Answer) -> Vec<Row> {
         Call::Show => show_rows(case.numbers[4], answer),
         Call::Marshal => vec![(lives(case, first), 0)],
         Call::Compose => vec![("type", case.numbers[1])],
-        // What is told of these stands in `profiled`, in `relayed` and in `changed`.
+        // What is told of these stands in `profiled`, in `relayed`, in `remedied` and in `changed`.
         Call::JudgeProfile | Call::Relay => vec![],
+        Call::ReadRemedies | Call::RemedyBlock | Call::WriteRemedies => vec![],
         Call::SignalChange | Call::RouteChange | Call::CodesGained => vec![],
         Call::Resolve => vec![("address", case.numbers[0])],
         Call::ERead => vec![(["request", "report"][second as usize], 0)],
@@ -600,6 +610,7 @@ impl Reached {
             scaled_rows,
             profiled::rows,
             relayed::rows,
+            remedied::rows,
             changed::rows,
         ];
         let all = all.map(|rows| rows(case, answer));
@@ -633,7 +644,16 @@ impl Reached {
 fn named((what, number): Row) -> String {
     match number {
         0 if ![
-            "kind", "type", "form", "reason", "profile", "signals", "breaks",
+            "kind",
+            "type",
+            "form",
+            "reason",
+            "profile",
+            "signals",
+            "breaks",
+            "found, block",
+            "text octets",
+            "octet 23 is",
         ]
         .iter()
         .any(|end| what.ends_with(end)) =>
@@ -647,11 +667,11 @@ fn named((what, number): Row) -> String {
 impl fmt::Display for Reached {
     fn fmt(&self, f: &mut fmt::Formatter) -> fmt::Result {
         for call in Call::ALL {
-            write!(f, "{:14}", call.parameters().name)?;
+            write!(f, "{:15}", call.parameters().name)?;
             let of = self.wanted.iter().filter(|((of, _), _)| *of == call);
             for (i, ((_, row), count)) in of.enumerate() {
                 match i % 7 {
-                    0 if i > 0 => write!(f, "\n{:14}", "")?,
+                    0 if i > 0 => write!(f, "\n{:15}", "")?,
                     0 => {}
                     _ => write!(f, ", ")?,
                 }

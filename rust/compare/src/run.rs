@@ -48,8 +48,8 @@ pub fn print(case: &Case, memory: &mut Memory) {
             println!("{area} after the library:{}", Hex(given));
         }
     }
-    if wanted.values != given.values {
-        println!("the values were changed");
+    if wanted.values != given.values || wanted.lengths != given.lengths {
+        println!("the values or the lengths were changed");
     }
 }
 

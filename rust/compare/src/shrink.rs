@@ -11,9 +11,12 @@ const TRIES: usize = 30_000;
 enum Step {
     /// A list loses an entry of a section.
     Entry(usize, usize, usize),
-    /// A number, or a value, becomes another.
+    /// A number, a value, or the length of a text, becomes another.
     Number(usize, u64),
     Value(usize, u64),
+    Length(usize, u16),
+    /// A block to be written goes, with its key, its length and its text.
+    Block(usize),
     /// A run of octets of an area is left out, or set to 0.
     Without(usize, Range<usize>),
     Zeroed(usize, Range<usize>),
@@ -66,25 +69,33 @@ fn steps(case: &Case) -> Vec<Step> {
     for (i, &n) in case.values.iter().enumerate() {
         steps.extend([0, n / 2].map(|to| Step::Value(i, to)));
     }
-    for (i, area) in case.areas.iter().enumerate() {
-        let mut len = area.len();
-        while len > 0 {
-            for first in (0..area.len()).step_by(len) {
-                let run = first..(first + len).min(area.len());
-                if area[run.clone()].iter().any(|&octet| octet != 0) {
-                    steps.push(Step::Zeroed(i, run.clone()));
-                }
-                // A store of another length is only refused.
-                if case.call.parameters().areas[i] != "store" {
-                    steps.push(Step::Without(i, run));
-                }
+    for (i, &n) in case.lengths.iter().enumerate() {
+        steps.push(Step::Block(i));
+        steps.extend([0, n / 2, n.saturating_sub(1)].map(|to| Step::Length(i, to)));
+    }
+    (0..case.areas.len()).for_each(|i| steps.extend(area_steps(case, i)));
+    steps
+}
+
+/// Of the octets of an area.
+fn area_steps(case: &Case, i: usize) -> Vec<Step> {
+    let (mut steps, area) = (Vec::new(), &case.areas[i]);
+    let mut len = area.len();
+    while len > 0 {
+        for first in (0..area.len()).step_by(len) {
+            let run = first..(first + len).min(area.len());
+            if area[run.clone()].iter().any(|&octet| octet != 0) {
+                steps.push(Step::Zeroed(i, run.clone()));
             }
-            len /= 2;
+            if !case.is_fixed(i) {
+                steps.push(Step::Without(i, run));
+            }
         }
-        for (at, octet) in area.iter().enumerate() {
-            let set = (0..8).map(|bit| 1 << bit).filter(|bit| octet & bit != 0);
-            steps.extend(set.map(|bit| Step::Cleared(i, at, bit)));
-        }
+        len /= 2;
+    }
+    for (at, octet) in area.iter().enumerate() {
+        let set = (0..8).map(|bit| 1 << bit).filter(|bit| octet & bit != 0);
+        steps.extend(set.map(|bit| Step::Cleared(i, at, bit)));
     }
     steps
 }
@@ -95,6 +106,8 @@ fn taken(case: &Case, step: &Step) -> Case {
         &Step::Entry(i, section, at) => without_entry(&mut case, i, section, at),
         &Step::Number(i, to) => case.numbers[i] = to,
         &Step::Value(i, to) => case.values[i] = to,
+        &Step::Length(i, to) => case.lengths[i] = to,
+        &Step::Block(at) => without_block(&mut case, at),
         Step::Without(i, run) => drop(case.areas[*i].drain(run.clone())),
         Step::Zeroed(i, run) => case.areas[*i][run.clone()].fill(0),
         &Step::Cleared(i, at, bit) => case.areas[i][at] &= !bit,
@@ -127,6 +140,20 @@ fn without_entry(case: &mut Case, i: usize, section: usize, at: usize) {
     case.areas[i] = list.octets();
 }
 
+/// One block less to be written, as far as its key and its text are there.
+fn without_block(case: &mut Case, at: usize) {
+    let before: usize = case.lengths[..at].iter().map(|&len| usize::from(len)).sum();
+    let len = usize::from(case.lengths.remove(at));
+    let [.., keys, texts, _] = &mut case.areas[..] else {
+        return;
+    };
+    if at < keys.len() {
+        keys.remove(at);
+    }
+    let end = texts.len().min(before + len);
+    texts.drain(before.min(end)..end);
+}
+
 #[cfg(test)]
 mod tests {
     use super::*;
@@ -143,7 +170,10 @@ mod tests {
             let case = generate::case(&Random::of_case(5, number));
             if sevens(&case) && case.size() < 1_000 {
                 let small = shrunk(&case, sevens);
-                assert_eq!(small.areas.concat(), [7]);
+                let mut octets = small.areas.concat();
+                // An array keeps its octets.
+                octets.retain(|&octet| octet != 0);
+                assert_eq!(octets, [7]);
             }
         }
     }

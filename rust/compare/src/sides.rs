@@ -3,10 +3,11 @@
 use crate::case::{Answer, Call};
 use dustferrule::raw;
 
-/// What a call is lent: its areas of octets, its values, its numbers.
+/// What a call is lent: its areas of octets, its values, its lengths, its numbers.
 pub struct Lent<'a> {
     pub areas: Vec<&'a mut [u8]>,
     pub values: &'a [u64],
+    pub lengths: &'a [u16],
     pub numbers: &'a [u64],
 }
 
@@ -15,6 +16,17 @@ pub type Side = fn(Call, Lent) -> Answer;
 /// A call's parameters do not match what was lent: the generator is wrong, not a library.
 fn misfit(call: Call) -> ! {
     panic!("{call:?}: areas or numbers do not fit")
+}
+
+/// An area that is an array.
+fn array<const N: usize>(call: Call, area: &[u8]) -> &[u8; N] {
+    area.try_into().unwrap_or_else(|_| misfit(call))
+}
+
+/// Where in the telegram a text starts: it is a part of it, and no copy.
+fn start_in(telegram: &[u8], text: &[u8]) -> u64 {
+    let [first, start] = [telegram, text].map(|octets| octets.as_ptr().addr());
+    start.wrapping_sub(first) as u64
 }
 
 fn refused_by_reference(refusal: reference::Refusal) -> Answer {
@@ -165,6 +177,27 @@ macro_rules! side {
                     .map(|r| Answer::gives([r.code.into(), r.report.into(), r.status.into()])),
                 (Call::EAnswer, [telegram, head, out], &[status]) => {
                     $library::e_answer(telegram, head, status as u8, out).map(done)
+                }
+                (Call::ReadRemedies, [telegram], []) => $library::read_remedies(telegram)
+                    .map(|m| Answer::gives([m.language.into(), m.ordered.into(), m.count as u64])),
+                (Call::RemedyBlock, [telegram], &[block]) => {
+                    let found = $library::remedy_block(telegram, block as usize);
+                    found.map(|found| match found {
+                        Some(b) => {
+                            let (at, size) = (start_in(telegram, b.text), b.text.len());
+                            Answer::gives([1, b.key.into(), at, size as u64])
+                        }
+                        None => Answer::default(),
+                    })
+                }
+                (Call::WriteRemedies, [head, carried, keys, texts, out], &[language, ordered]) => {
+                    let (head, carried) = (array(call, head), array(call, carried));
+                    let (language, ordered) = (language as u16, ordered as u8);
+                    let lengths = lent.lengths;
+                    $library::write_remedies(
+                        head, carried, language, ordered, keys, lengths, texts, out,
+                    )
+                    .map(|size| Answer::gives([size as u64]))
                 }
                 _ => misfit(call),
             };
@@ -340,6 +373,37 @@ pub fn by_header(call: Call, mut lent: Lent) -> Answer {
             outcome(unsafe {
                 raw::df_e_answer(telegram, len, head, head_len, status as u8, to, to_len)
             })
+        }
+        (Call::ReadRemedies, [telegram], []) => {
+            let r = unsafe { raw::df_read_remedies(telegram.as_ptr(), telegram.len()) };
+            let gives = [r.language.into(), r.ordered.into(), r.count.into()];
+            Answer::with(r.refusal, 0, gives)
+        }
+        (Call::RemedyBlock, [telegram], &[block]) => {
+            let (telegram, len) = (telegram.as_ptr(), telegram.len());
+            let r = unsafe { raw::df_remedy_block(telegram, len, block as usize) };
+            let gives = [r.found.into(), r.key.into(), r.at, r.size];
+            Answer::with(r.refusal, 0, gives)
+        }
+        (Call::WriteRemedies, [head, carried, keys, texts, out], &[language, ordered]) => {
+            let (head, carried) = (array(call, head), array(call, carried));
+            let r = unsafe {
+                raw::df_write_remedies(
+                    head,
+                    carried,
+                    language as u16,
+                    ordered as u8,
+                    keys.as_ptr(),
+                    keys.len(),
+                    lent.lengths.as_ptr(),
+                    lent.lengths.len(),
+                    texts.as_ptr(),
+                    texts.len(),
+                    out.as_mut_ptr(),
+                    out.len(),
+                )
+            };
+            Answer::with(r.refusal, 0, [r.size])
         }
         _ => misfit(call),
     }

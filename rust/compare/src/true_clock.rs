@@ -297,7 +297,7 @@ impl fmt::Display for Met {
             .named()
             .map(|(name, count)| format!("{name}: {count}"))
             .collect();
-        writeln!(f, "{:14}{}", "true clock", said.join(", "))
+        writeln!(f, "{:15}{}", "true clock", said.join(", "))
     }
 }
 

@@ -338,7 +338,7 @@ impl Met {
 impl fmt::Display for Met {
     fn fmt(&self, f: &mut fmt::Formatter) -> fmt::Result {
         let said = NAMES.map(|name| format!("{name}: {}", self.names[name]));
-        writeln!(f, "{:14}{}", "walked", said.join(", "))
+        writeln!(f, "{:15}{}", "walked", said.join(", "))
     }
 }
 

@@ -194,3 +194,23 @@ pub struct EReading {
     /// Octet 9, the order or status.
     pub status: u8,
 }
+
+/// What a report with remedy texts says beside its blocks.
+#[derive(Debug, Clone, Copy, PartialEq, Eq)]
+pub struct Remedies {
+    /// Octets 21-22.
+    pub language: u16,
+    /// Octet 23, 0 or 1.
+    pub ordered: u8,
+    /// The number of blocks, 1 to 8.
+    pub count: usize,
+}
+
+/// A block of such a report.
+#[derive(Debug, Clone, Copy, PartialEq, Eq)]
+pub struct Remedy<'a> {
+    /// 1 to 8, of F1 to F8.
+    pub key: u8,
+    /// The part of the telegram that is its text.
+    pub text: &'a [u8],
+}

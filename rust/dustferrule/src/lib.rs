@@ -13,7 +13,7 @@ pub mod raw;
 
 pub use answers::{
     Change, CodeRange, Counts, EReading, Entry, Extends, Form, Kind, Members, Profile, Reading,
-    Rule, Shown, ShownReading,
+    Remedies, Remedy, Rule, Shown, ShownReading,
 };
 pub use numbers::{Error, Reason, Refusal, Refused};
 
@@ -415,7 +415,7 @@ pub fn resolve(marks: &[u8], address: u64) -> Result<Members, Error> {
     unless_refused(r.refusal, 0, members)
 }
 
-/// Reads an E-telegram's code, request or report, and octet 9. Refusals 21, 22.
+/// Reads an E-telegram's code, request or report, and octet 9. It has 9 to 1,024 octets, with the code 8A08 up to 2,110. Refusals 21, 22.
 pub fn e_read(telegram: &[u8]) -> Result<EReading, Error> {
     let r = unsafe { raw::df_e_read(telegram.as_ptr(), telegram.len()) };
     let reading = EReading {
@@ -440,4 +440,65 @@ pub fn e_answer(telegram: &[u8], head: &[u8], status: u8, out: &mut [u8]) -> Res
         )
     };
     unless_refused(r.refusal, r.carried, ())
+}
+
+/// Reads a report with remedy texts, telegram 8.8A of code 8A08: its language, octet 23 and the number of its blocks. Octets 1-6, 9-20 and the
+/// reserve are not read. Refusals 21, also under 30 octets; then 29 for octets 7-24, also for another code; then that of the first bad block,
+/// its lowest of 28 (the block, or its first 6 octets, runs past the end), 29 and 30; then 28 for octets after the last.
+pub fn read_remedies(telegram: &[u8]) -> Result<Remedies, Error> {
+    let r = unsafe { raw::df_read_remedies(telegram.as_ptr(), telegram.len()) };
+    // An accepted telegram has each number in as many octets as the paper gives it.
+    let remedies = Remedies {
+        language: r.language as u16,
+        ordered: r.ordered as u8,
+        count: r.count as usize,
+    };
+    unless_refused(r.refusal, 0, remedies)
+}
+
+/// A block of such a telegram by its number, from 0: its key, and the part of the telegram that is its text. Refusals as of [`read_remedies`].
+pub fn remedy_block(telegram: &[u8], block: usize) -> Result<Option<Remedy<'_>>, Error> {
+    let r = unsafe { raw::df_remedy_block(telegram.as_ptr(), telegram.len(), block) };
+    // The text of a block that is found lies in the telegram.
+    let remedy = (r.found != 0).then(|| Remedy {
+        key: r.key as u8,
+        text: &telegram[r.at as usize..][..r.size as usize],
+    });
+    unless_refused(r.refusal, 0, remedy)
+}
+
+/// Writes such a telegram into the first octets of `out` and gives their number: `head` is octets 1-6, `carried` octets 9-20, `ordered`
+/// octet 23, and the reserve is 0. Each block has a key and a length; the texts stand in one area, one behind the other. Refusals 29 where there
+/// are not as many keys as lengths or the lengths do not add up to the area; then 25 where `out` has under 30 octets and, for each block, 6 and
+/// those of its text; then 29 for `ordered` above 1 or a number of blocks that is not 1 to 8; then that of the first bad block: 29 for a key that
+/// is not 1 to 8 or a text of an odd number of octets or of more than 254, else 30.
+// As the header has it.
+#[allow(clippy::too_many_arguments)]
+pub fn write_remedies(
+    head: &[u8; 6],
+    carried: &[u8; 12],
+    language: u16,
+    ordered: u8,
+    keys: &[u8],
+    lengths: &[u16],
+    texts: &[u8],
+    out: &mut [u8],
+) -> Result<usize, Error> {
+    let r = unsafe {
+        raw::df_write_remedies(
+            head,
+            carried,
+            language,
+            ordered,
+            keys.as_ptr(),
+            keys.len(),
+            lengths.as_ptr(),
+            lengths.len(),
+            texts.as_ptr(),
+            texts.len(),
+            out.as_mut_ptr(),
+            out.len(),
+        )
+    };
+    unless_refused(r.refusal, 0, r.size as usize)
 }

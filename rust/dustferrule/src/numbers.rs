@@ -74,9 +74,12 @@ numbered! {
         ECode = 22, "code neither request nor report";
         AnswerToReport = 23, "answer to a report";
         HeadLength = 24, "head not 6 octets";
-        OutputShort = 25, "output under 9 octets";
+        OutputShort = 25, "output too short";
         ScaledKind = 26, "scaled kind, with width not 16";
         NoCheckPlace = 27, "no check place in the table";
+        BlockPast = 28, "block runs past the end, or octets after the last";
+        RemedyField = 29, "field out of its range or length that disagrees";
+        KeyTwice = 30, "key twice";
         SerialSet = 32, "serial number set";
         FormOutput = 33, "output not of the needed length";
         Profile = 34, "profile rule broken";

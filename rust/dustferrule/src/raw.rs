@@ -2,9 +2,9 @@
 //! [`crate::Reason`], its forms are [`crate::Form`], its profiles [`crate::Profile`], what a difference breaks is a [`crate::Rule`], its kinds
 //! are [`crate::Kind`], and its units are those of [`crate::Shown`].)
 //!
-//! What the caller owes: each pointer with its length names memory that can be read (and written, where it is `*mut`), no longer than
-//! isize::MAX octets and aligned; an area that is written overlaps no other area of the same call; and no pointer is null, also with
-//! length 0.
+//! What the caller owes: each pointer, with its length where it has one, names memory that can be read (and written, where it is `*mut`), no
+//! longer than isize::MAX octets and aligned; an area that is written overlaps no other area of the same call; and no pointer is null, also
+//! with length 0.
 
 #![allow(non_camel_case_types, missing_docs)]
 
@@ -155,6 +155,33 @@ pub struct df_e_reading {
     pub code: u32,
     pub report: u32,
     pub status: u32,
+}
+
+#[repr(C)]
+#[derive(Debug, Clone, Copy)]
+pub struct df_remedies {
+    pub refusal: u32,
+    pub language: u32,
+    pub ordered: u32,
+    pub count: u32,
+}
+
+/// `found`: 1 a block, 0 no more; `at`: where in the telegram its text starts.
+#[repr(C)]
+#[derive(Debug, Clone, Copy)]
+pub struct df_remedy {
+    pub refusal: u32,
+    pub found: u32,
+    pub key: u32,
+    pub at: u64,
+    pub size: u64,
+}
+
+#[repr(C)]
+#[derive(Debug, Clone, Copy)]
+pub struct df_wrote {
+    pub refusal: u32,
+    pub size: u64,
 }
 
 extern "C" {
@@ -315,4 +342,23 @@ extern "C" {
         out: *mut u8,
         out_len: usize,
     ) -> df_outcome;
+
+    pub fn df_read_remedies(telegram: *const u8, telegram_len: usize) -> df_remedies;
+
+    pub fn df_remedy_block(telegram: *const u8, telegram_len: usize, block: usize) -> df_remedy;
+
+    pub fn df_write_remedies(
+        head: *const [u8; 6],
+        carried: *const [u8; 12],
+        language: u16,
+        ordered: u8,
+        keys: *const u8,
+        keys_len: usize,
+        lengths: *const u16,
+        lengths_len: usize,
+        texts: *const u8,
+        texts_len: usize,
+        out: *mut u8,
+        out_len: usize,
+    ) -> df_wrote;
 }

@@ -1,8 +1,9 @@
 //! Refusals and reasons by number and in words, and the refusals of calls as errors.
 
 use dustferrule::{
-    codes_gained, compose, find_signal, judge, judge_profile, read, route_change, show,
-    signal_change, Error, Form, Kind, Profile, Reason, Refusal, Refused, Rule, STORE_OCTETS,
+    codes_gained, compose, find_signal, judge, judge_profile, read, read_remedies, route_change,
+    show, signal_change, write_remedies, Error, Form, Kind, Profile, Reason, Refusal, Refused,
+    Rule, STORE_OCTETS,
 };
 
 /// The list L of document 01.
@@ -17,7 +18,7 @@ fn each_number_is_there_once() {
         .iter()
         .map(|refusal| refusal.number())
         .collect();
-    assert_eq!(refusals, (1..=27).chain(32..=34).collect::<Vec<u8>>());
+    assert_eq!(refusals, (1..=30).chain(32..=34).collect::<Vec<u8>>());
     let reasons: Vec<u8> = Reason::ALL.iter().map(|reason| reason.number()).collect();
     assert_eq!(reasons, (0..=8).collect::<Vec<u8>>());
     for &refusal in Refusal::ALL {
@@ -27,7 +28,7 @@ fn each_number_is_there_once() {
         assert_eq!(Reason::of(reason.number().into()), Some(reason));
         assert_eq!(reason.is_live(), reason.number() < 2);
     }
-    for none in [0, 28, 31, 35] {
+    for none in [0, 31, 35] {
         assert_eq!(Refusal::of(none), None);
     }
     assert_eq!(Reason::of(9), None);
@@ -74,6 +75,32 @@ fn errors_say_what_they_carry() {
     assert_eq!((error.refusal, error.carried), (Refusal::Profile, 6));
     assert_eq!(error.to_string(), "refused 34 at 6: profile rule broken");
     assert!(judge_profile(Profile::DrivingTrailer, &L, Form::One).is_ok());
+}
+
+/// Two empty texts: an octet of them is missing, octet 23 is to be 2, and both have one key.
+#[test]
+fn errors_of_remedy_texts() {
+    let mut telegram = [0; 42];
+    let write = |ordered, out: &mut [u8]| {
+        write_remedies(&[0; 6], &[0; 12], 0, ordered, &[1, 2], &[0, 0], &[], out)
+    };
+    assert_eq!(write(0, &mut telegram), Ok(42));
+    let said = |error: Error| (error.refusal, error.carried, error.to_string());
+    let past = "refused 28: block runs past the end, or octets after the last";
+    assert_eq!(
+        read_remedies(&telegram[..41]).map_err(said),
+        Err((Refusal::BlockPast, 0, past.to_string()))
+    );
+    let field = "refused 29: field out of its range or length that disagrees";
+    assert_eq!(
+        write(2, &mut telegram).map_err(said),
+        Err((Refusal::RemedyField, 0, field.to_string()))
+    );
+    telegram[38] = 1;
+    assert_eq!(
+        read_remedies(&telegram).map_err(said),
+        Err((Refusal::KeyTwice, 0, "refused 30: key twice".to_string()))
+    );
 }
 
 #[test]

@@ -1,14 +1,15 @@
 //! The tests of `reference`, run on the proved library: the same names stand for the other implementation. `reference` has numbers where the
 //! wrappers have a `Refusal` and a `Reason`; here they are numbers again.
 
-// Every test file brings what the tests share.
-#![allow(clippy::duplicate_mod)]
+// Every test file brings what the tests share; calls have the parameters that the header gives them.
+#![allow(clippy::duplicate_mod, clippy::too_many_arguments)]
 
 extern crate self as reference;
 
 use dustferrule::Error;
 pub use dustferrule::{
-    Change, CodeRange, Counts, EReading, Entry, Form, Kind, Members, Profile, Rule, Shown,
+    Change, CodeRange, Counts, EReading, Entry, Form, Kind, Members, Profile, Remedies, Remedy,
+    Rule, Shown,
 };
 
 #[derive(Debug, Clone, Copy, PartialEq, Eq)]
@@ -90,6 +91,9 @@ calls! { Refusal, plain:
     resolve(marks: &[u8], address: u64) -> Members;
     e_read(telegram: &[u8]) -> EReading;
     e_answer(telegram: &[u8], head: &[u8], status: u8, out: &mut [u8]) -> ();
+    read_remedies(telegram: &[u8]) -> Remedies;
+    remedy_block(telegram: &[u8], block: usize) -> Option<Remedy<'_>>;
+    write_remedies(head: &[u8; 6], carried: &[u8; 12], language: u16, ordered: u8, keys: &[u8], lengths: &[u16], texts: &[u8], out: &mut [u8]) -> usize;
 }
 
 pub fn extends(a: &[u8], form: Form, b: &[u8], other: Form) -> Extends {
@@ -156,6 +160,8 @@ mod profile;
 mod reading;
 #[path = "../../reference/tests/relay.rs"]
 mod relay;
+#[path = "../../reference/tests/remedies.rs"]
+mod remedies;
 #[path = "../../reference/tests/shown.rs"]
 mod shown;
 #[path = "../../reference/tests/store.rs"]

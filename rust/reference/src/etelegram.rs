@@ -6,6 +6,18 @@ use crate::refusal::Refusal;
 /// "The report to a request has the code plus 0A00."
 const TO_REPORT: u16 = 0x0A00;
 
+/// The report with remedy texts, "code 8A08".
+pub(crate) const REMEDIES: u16 = 0x8A08;
+
+/// The longest telegram of a code; C-11: "For this code only, the limit behind 21 becomes 2,110 octets."
+#[inline]
+pub(crate) fn limit_of(code: u16) -> usize {
+    match code {
+        REMEDIES => 2_110,
+        _ => 1_024,
+    }
+}
+
 /// "Request codes (source 002, hexadecimal)".
 #[rustfmt::skip]
 #[inline]
@@ -34,10 +46,10 @@ pub fn e_read(telegram: &[u8]) -> Result<EReading, Refusal> {
     let [_, _, _, _, _, _, c0, c1, status, ..] = *telegram else {
         return Err(Refusal::plain(21));
     };
-    if telegram.len() > 1024 {
+    let code = u16::from_be_bytes([c0, c1]);
+    if telegram.len() > limit_of(code) {
         return Err(Refusal::plain(21));
     }
-    let code = u16::from_be_bytes([c0, c1]);
     let report = !is_request(code);
     if report && !code.checked_sub(TO_REPORT).is_some_and(is_request) {
         return Err(Refusal::plain(22));

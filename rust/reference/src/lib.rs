@@ -1,7 +1,7 @@
 //! The gateway library of document 01, written a second time and independently: taking R-telegrams into
 //! a store, the gap between two of them, sweeping it, reading, showing and marshalling signals, composing R-telegrams, also anew from
 //! what was taken, judging signal lists, also by a profile, comparing two of them and moving them from one form to the other, resolving
-//! addresses, and reading and answering E-telegrams.
+//! addresses, reading and answering E-telegrams, and reading and writing those with remedy texts.
 //!
 //! Every function is total: it answers or refuses for every input and never panics. Every public call
 //! tests its own input, and a refusal changes no lent octet.
@@ -23,6 +23,7 @@ mod profile;
 mod reading;
 mod refusal;
 mod relay;
+mod remedies;
 mod shown;
 mod sizes;
 mod store;
@@ -42,6 +43,7 @@ pub use profile::{judge_profile, Profile};
 pub use reading::{read, Reading};
 pub use refusal::Refusal;
 pub use relay::relay;
+pub use remedies::{read_remedies, remedy_block, write_remedies, Remedies, Remedy};
 pub use shown::{show, Kind, Shown, ShownReading};
 pub use sizes::{
     HEAD, HEARD, PREVIOUS, SERIAL_SIZE, SIGNAL_SIZE, SLOT, STAMP, STORE, TELEGRAM, VEHICLES,

@@ -622,3 +622,50 @@ pub fn relay(
     }
     Ok(())
 }
+
+/// A block of remedy texts: its key, and where its text begins and ends.
+pub type Block = (u8, usize, usize);
+
+/// C-11: the blocks of a telegram, or the number by which it is refused.
+pub fn remedies(t: &[u8]) -> Result<Vec<Block>, u8> {
+    let is_ours = t.len() >= 30 && number(&t[6..8]) == 0x8A08;
+    if t.len() < 30 || t.len() > if is_ours { 2_110 } else { 1_024 } {
+        return Err(21);
+    }
+    if !is_ours || t[22] > 1 || t[23] < 1 || t[23] > 8 {
+        return Err(29);
+    }
+    let mut blocks: Vec<Block> = vec![];
+    let mut at = 30;
+    for _ in 0..t[23] {
+        if let Some(fault) = remedy_faults(t, at, &blocks).first() {
+            return Err(*fault);
+        }
+        let end = at + number(&t[at..at + 2]) as usize;
+        blocks.push((t[at + 2], at + 6, end));
+        at = end;
+    }
+    match at == t.len() {
+        true => Ok(blocks),
+        false => Err(28),
+    }
+}
+
+/// All that is wrong with the block that begins here, behind these, the lowest number first.
+fn remedy_faults(t: &[u8], at: usize, before: &[Block]) -> Vec<u8> {
+    if at + 6 > t.len() {
+        return vec![28];
+    }
+    let [length, text] = [at, at + 4].map(|from| number(&t[from..from + 2]) as usize);
+    let key = t[at + 2];
+    let wrong = [
+        (28, at + length > t.len()),
+        (29, !(1..=8).contains(&key)),
+        (29, text % 2 == 1),
+        (29, text > 254),
+        (29, length != 6 + text),
+        (30, before.iter().any(|&(other, _, _)| other == key)),
+    ];
+    let wrong = wrong.into_iter().filter(|&(_, is)| is);
+    wrong.map(|(fault, _)| fault).collect()
+}

@@ -1,0 +1,17 @@
+-- `spelling::hex::digit` meets its contract. Assumes nothing.
+use borrow.Author.Needs.{needs}
+use borrow.Author.Tests.{lt-ltb, le-ltb}
+use Rattle.spelling.specs.Hex.{digitOf}
+use Rattle.spelling.proofs.hex.digit.Statement.{statement}
+use Rattle.spelling.proofs.hex.digit.Tie as tie
+
+returns : tie.Need-returns
+unfolding digitOf
+returns c = simp (lt-ltb _ _ (c .if1 .taken))
+
+returns-2 : tie.Need-returns-2
+unfolding digitOf
+returns-2 c = simp (le-ltb _ _ (c .if1 .left))
+
+pub digit-spec : {M : Type 1} → statement M
+digit-spec = tie.close (tie.spec (λ c. search needs) (λ c. search needs) returns returns-2)
