@@ -1,10 +1,11 @@
 #!/usr/bin/env python3
-"""Writes the signal lists of this folder from signals.csv, and a telegram with remedy texts. data/README.md says what is the sources' and what is a
-choice.
+"""Writes the signal lists of this folder from signals.csv, a telegram with remedy texts, and christening records of a train. data/README.md says what is
+the sources' and what is a choice.
 
     data/make.py            writes coach.list, coach-2.list, coach-next.list, coach-wrong.list, coach-off.list, plain-coach.list,
-                            driving-trailer.list, counters.list and L.list; door.texts, door.telegram and door-off.telegram
-    data/make.py --check    only says whether they are as they would be written, and whether the programs' table of kinds is the column `kind`
+                            driving-trailer.list, counters.list and L.list; door.texts, door.telegram and door-off.telegram; train.records
+    data/make.py --check    only says whether they are as they would be written, whether the programs' table of kinds is the column `kind`, and
+                            whether `christening` has the names of properties.csv
 """
 import csv
 import os
@@ -20,6 +21,8 @@ CHECKS = list(range(16, 64, 2)) + list(range(320, 368, 2))
 LIMIT = 5000
 # a function for each telegram, in it a row for each start, with its serial number
 KINDS = os.path.join(HERE, "..", "crates", "words", "src", "kinds.rt")
+# a byte string with a name a line
+NAMES = os.path.join(HERE, "..", "crates", "christening", "src", "names.rt")
 
 # routes of the coach: signal (telegram, start), vehicle, destination start
 ROUTES = [
@@ -165,6 +168,47 @@ def block_off(telegram, block):
     return telegram[:at] + n(int.from_bytes(telegram[at:at + 2], "big") - 2, 2) + telegram[at + 2:]
 
 
+# A train of five vehicles, each by the rows of table E.1 that hold of it: an electric engine, a restaurant car, a sleeping car, a couchette coach, and a
+# driving trailer from which the engine can be controlled
+TRAIN = [
+    [38, 40, 43, 44, 49, 57, 60, 61, 69, 83, 91, 99, 100, 104, 130, 141],
+    [4, 9, 11, 17, 21, 24, 30, 31, 57, 97, 111, 122, 126, 141],
+    [13, 17, 18, 21, 24, 27, 30, 31, 57, 97, 111, 122, 126, 141],
+    [4, 12, 17, 21, 24, 30, 31, 57, 97, 111, 126, 141],
+    [2, 4, 5, 15, 17, 21, 24, 30, 31, 33, 42, 44, 57, 58, 97, 106, 107, 111, 141],
+]
+
+
+def read_properties():
+    with open(os.path.join(HERE, "properties.csv"), newline="", encoding="utf-8") as f:
+        return [{**r, **{name: int(r[name]) for name in ("row", "octet", "bit")}} for r in csv.DictReader(f)]
+
+
+def record(rows):
+    """A christening record in which the properties of these rows hold; every other bit is 0."""
+    out = bytearray(56)
+    for p in read_properties():
+        if p["row"] in rows:
+            out[p["octet"] - 1] |= 0x80 >> p["bit"]
+    return bytes(out)
+
+
+def names_of_code():
+    """The lines of the program's byte string, with its escapes undone."""
+    with open(NAMES) as f:
+        text = re.search(r'b"(.*?)(?<!\\)"', f.read(), re.S)[1]
+    escape = re.compile(rb"\\(?:x([0-9A-F]{2})|(.))", re.S)
+    return escape.sub(lambda found: bytes([int(found[1], 16)]) if found[1] else found[2], text.encode()).decode().splitlines()
+
+
+def check_names():
+    names = [p["name"] for p in read_properties()]
+    if names_of_code() == names:
+        return 0
+    print(f"crates/christening/src/names.rt and properties.csv have other names: {set(names_of_code()) ^ set(names) or 'in another order'}")
+    return 1
+
+
 def kinds_of_code():
     """Telegram, start, kind and serial number of each row of the programs' table."""
     with open(KINDS) as f:
@@ -205,8 +249,9 @@ def main():
         "door.texts": remedies_file(*DOOR),
         "door.telegram": remedies(*DOOR),
         "door-off.telegram": block_off(remedies(*DOOR), 1),
+        "train.records": b"".join(map(record, TRAIN)),
     }
-    return settle(files, "make.py") or "--check" in sys.argv and check_kinds()
+    return settle(files, "make.py") or "--check" in sys.argv and (check_kinds() or check_names())
 
 
 if __name__ == "__main__":

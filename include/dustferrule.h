@@ -12,8 +12,8 @@
  *  - with length 0 the pointer is never read or written, but it must not be NULL: pass any non-null pointer.
  *
  * Results: `refusal` is 0, or a number of DF_REFUSALS below; every field that an answer does not use is 0. A refused call changes no
- * octet it was lent. Of the numbers that a call can meet, 1-4 come first, as judging the list meets them, then the lowest; the calls on remedy
- * texts say their own order.
+ * octet it was lent. Of the numbers that a call can meet, 1-4 come first, as judging the list meets them, then the lowest; df_christen
+ * and the calls on remedy texts say their own order.
  *
  * `form`, behind each list, says how its signal entries are laid out: DF_FORM_1, 16 octets, or DF_FORM_2, 18 octets, of which the last two
  * are a serial number, 0 for none. Any number of 8 bits but 2 is form 1. A list in form 2 answers as the same list without its serial numbers
@@ -54,6 +54,9 @@ enum df_kind { DF_CODE = 0, DF_SPEED = 1, DF_PERCENTAGE = 2, DF_SIGNED_PERCENTAG
 /* What a shown value is in. */
 enum df_unit { DF_NO_UNIT = 0, DF_KM_PER_HOUR = 1, DF_PERCENT = 2, DF_AMPERE = 3 };
 
+/* The levels of table E.1. */
+enum df_level { DF_GATEWAY = 0, DF_VEHICLE = 1 };
+
 /* The refusals, in the words of document 01 or, as 5, 25, 26 and those from 28 on, after document 02: X(name, number, text). A new one is a line. */
 #define DF_REFUSALS(X) \
     X(LIST_ENDS, 1, "list ends inside a count or a section") \
@@ -86,6 +89,7 @@ enum df_unit { DF_NO_UNIT = 0, DF_KM_PER_HOUR = 1, DF_PERCENT = 2, DF_AMPERE = 3
     X(BLOCK_PAST, 28, "block runs past the end, or octets after the last") \
     X(REMEDY_FIELD, 29, "field out of its range or length that disagrees") \
     X(KEY_TWICE, 30, "key twice") \
+    X(RECORDS_MISFIT, 31, "record area not a whole number of records, or not as many pairs of marks as records") \
     X(SERIAL_SET, 32, "serial number set") \
     X(FORM_OUTPUT, 33, "output not of the needed length") \
     X(PROFILE, 34, "profile rule broken")
@@ -166,6 +170,13 @@ typedef struct { uint32_t refusal; uint64_t carried; uint64_t lives; } df_marsha
 
 /* vehicle v is bit v of the set, worth 2^v; bit 0 is never set */
 typedef struct { uint32_t refusal; uint32_t size; uint64_t set; } df_members;
+
+/* found: 1 a row of table E.1, 0 no row of this number has a bit; level: a number of df_level; octet, bit: its place in a record, octets from 1, bit 0
+ * the most significant; holds: 1 the bit is set, 0 not */
+typedef struct { uint32_t found, level, octet, bit, holds; } df_property_row;
+
+/* vehicles: how many marks were written */
+typedef struct { uint32_t refusal; uint64_t vehicles; } df_christened;
 
 /* report: 1 a report, 0 a request; status: octet 9 */
 typedef struct { uint32_t refusal; uint32_t code; uint32_t report; uint32_t status; } df_e_reading;
@@ -265,6 +276,15 @@ df_outcome df_relay(const uint8_t *list, size_t list_len, uint8_t form, const ui
 /* The vehicles of a train that meet an address (1-63, 64, 65, 66, 67, 70, 92). One mark octet for each vehicle, vehicle 1 first:
  * 1 leading, 2 coach, 4 tractive, 8 led, 16 sleeping; the three high bits are not read. Refusals 17-20. */
 df_members df_resolve(const uint8_t *marks, size_t marks_len, uint64_t address);
+
+/* A row of source document 002, table E.1, by its number: its level and its place, and whether its bit is set in this christening record. Rows
+ * 1-132 and 141-152 are there. Never refused. */
+df_property_row df_property(const uint8_t octets[56], uint32_t row);
+
+/* Builds the consist from christening records, 56 octets for each vehicle, vehicle 1 first, and as many octets in pairs: 1 leading, 8 led, the other
+ * bits are not read. Writes a mark octet for each vehicle, as df_resolve takes them, into the first octets of marks; the others stay. Sleeping is
+ * 51/4; tractive 24/0 or 24/1; a coach has any of 50/0, 50/1, 51/0, 51/3 and 51/4. Refusals 31, then 17 and 18. */
+df_christened df_christen(const uint8_t *records, size_t records_len, const uint8_t *pairs, size_t pairs_len, uint8_t marks[63]);
 
 /* Reads an E-telegram's code, request or report, and octet 9. It has 9 to 1,024 octets, with the code 8A08 up to 2,110. Refusals 21, 22. */
 df_e_reading df_e_read(const uint8_t *telegram, size_t telegram_len);

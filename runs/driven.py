@@ -16,13 +16,14 @@ import time
 import printed
 
 ROOT = printed.ROOT
-PROGRAMS = ("judge", "extends", "compare", "convert", "take", "sweep", "believe", "differ", "marshal", "compose", "relay", "remedies", "write_remedies")
+PROGRAMS = ("judge", "extends", "compare", "convert", "take", "sweep", "believe", "differ", "marshal", "compose", "relay", "remedies", "write_remedies", "christening")
 TOOLS = ("sh", "awk", "readlink", "uname")  # what an installed program needs beside itself
 BUILT = ("bin", "stamp")  # of target/: what a run goes by that finds all proved
 OTHER = os.uname().machine != "x86_64"
 COACH, NEXT, WRONG, STORE = "data/coach.list", "data/coach-next.list", "data/coach-wrong.list", "data/scene/train.store"
 COACH_2, PLAIN, OFF = "data/coach-2.list", "data/plain-coach.list", "data/coach-off.list"
 DOOR, DOOR_OFF, TEXTS = "data/door.telegram", "data/door-off.telegram", "data/door.texts"
+RECORDS = "data/train.records"
 OK = "list ok checks=48 signals=165 codes=41 routes=14 version=2\n"
 OK_PLAIN = "list ok profile=plain-coach checks=11 signals=64 codes=3 routes=14 version=2\n"
 OFF_PAGE = "! changed  R1 octet 54 bits 0-3  check octet 41 bits 2-3 -> octet 41 bits 4-5  breaks extending: check place\nextends: no\n"
@@ -121,6 +122,12 @@ def statuses(how, start, env=None):
     end(2, ["remedies", "data/none"], err="error: TELEGRAM 'data/none': ")
     end(2, ["write_remedies", "data/signals.csv", "data/none"], err="error: FILE 'data/signals.csv' line 1: ")
     end(2, ["write_remedies", TEXTS, TEXTS], err=f"error: TELEGRAM '{TEXTS}': is given twice")
+    with open(os.path.join(ROOT, "crates", "christening", "stdout"), encoding="utf-8") as f:
+        end(0, ["christening", RECORDS, "leading", "5", "led", "1"], f.read())
+    end(1, ["christening", DOOR], err="refused 31: ")
+    end(1, ["christening", RECORDS, "led", "2"], err="refused 18: ")
+    end(2, ["christening", RECORDS, "led", "6"], err="error: vehicle '6': ")
+    end(2, ["christening", "data/none"], err="error: RECORDS 'data/none': ")
     end(2, ["differ", COACH, STORE, STORE, "9000"], err="refused ")
     end(2, ["differ", COACH, "data/none", STORE, "9000"], err="error: ")
     for name in PROGRAMS:
@@ -210,6 +217,9 @@ def standard_input():
         ends("take of -", taken, 0, "taken R2 version 2 vehicle 5 at 8000\n")
         with open(os.path.join(ROOT, "crates", "remedies", "stdout"), encoding="utf-8") as f:
             ends("remedies of -", given(DOOR, "remedies", "-"), 0, f.read())
+        with open(os.path.join(ROOT, "crates", "christening", "stdout"), encoding="utf-8") as f:
+            ends("christening of -", given(RECORDS, "christening", "-", "led", "1", "leading", "5"), 0, f.read())
+        ends("christening of a vehicle -", given(RECORDS, "christening", RECORDS, "led", "-"), 2, err="error: '-' ")
         ends("write_remedies of -", given(TEXTS, "write_remedies", "-", "door", folder=folder), 0, "written in de: 4 texts, 470 octets\n")
         ends("relay of -", given(STORE, "relay", "coach.list", "-", "7000", "1", "passed", folder=folder), 0, "relayed R1 version 2 octets 128, live 128 of 129 signals\n")
 

@@ -418,6 +418,46 @@ static void train(void)
     expect("df_e_answer", !o.refusal && !o.carried && !memcmp(out, "\6\5\4\3\2\1\x1A\x07\7\0", 10));
 }
 
+/* an engine, a coach, a sleeping car and an engine that is led */
+static const uint8_t records[4 * 56] = {[23] = 0x80, [56 + 49] = 0x40, [112 + 50] = 0x08, [168 + 23] = 0x40, [168 + 49] = 0x80};
+
+/* so many octets of the records, and these pairs, over octets of which those that are not written stay */
+static int christens(size_t octets, const char *pairs, size_t len, uint32_t refusal, const char *wanted)
+{
+    uint8_t marks[63], after[63];
+    memset(marks, 0xEE, sizeof marks), memset(after, 0xEE, sizeof after), memcpy(after, wanted, refusal ? 0 : len);
+    df_christened c = df_christen(records, octets, (const uint8_t *)pairs, len, marks);
+    return c.refusal == refusal && c.vehicles == (refusal ? 0 : len) && !memcmp(marks, after, sizeof marks);
+}
+
+static int property(uint32_t row, uint32_t found, uint32_t level, uint32_t octet, uint32_t bit, uint32_t holds)
+{
+    df_property_row p = df_property(records + 112, row);
+    return p.found == found && p.level == level && p.octet == octet && p.bit == bit && p.holds == holds;
+}
+
+static void christened(void)
+{
+    static const uint8_t many[64 * 56] = {0};
+    uint8_t marks[63] = {0};
+    expect("df_christen", christens(224, "\xF7\xF6\0\x08", 4, 0, "\x05\x02\x12\x0E") && christens(56, "\0", 1, 0, "\x04"));
+    expect("df_christen, a pair too few", christens(224, "\1\1\0", 3, DF_REFUSAL_RECORDS_MISFIT, ""));
+    expect("df_christen, no record and a pair", christens(0, "\0", 1, DF_REFUSAL_RECORDS_MISFIT, ""));
+    expect("df_christen, a record and no pair", christens(56, "", 0, DF_REFUSAL_RECORDS_MISFIT, ""));
+    expect("df_christen, an octet too few", christens(111, "\1\1", 2, DF_REFUSAL_RECORDS_MISFIT, ""));
+    expect("df_christen, an octet too many", christens(113, "\1\1", 2, DF_REFUSAL_RECORDS_MISFIT, ""));
+    expect("df_christen, nobody", christens(0, "", 0, DF_REFUSAL_CONSIST_LENGTH, ""));
+    expect("df_christen, two lead", christens(112, "\1\1", 2, DF_REFUSAL_CONSIST_RULE, ""));
+    expect("df_christen, led without traction", christens(112, "\0\x08", 2, DF_REFUSAL_CONSIST_RULE, ""));
+    df_christened c = df_christen(many, 64 * 56, many, 64, marks);
+    expect("df_christen, 64 vehicles", c.refusal == DF_REFUSAL_CONSIST_LENGTH && !c.vehicles);
+    c = df_christen(records, sizeof records, (const uint8_t *)"\1\0\0\x08", 4, marks);
+    df_members m = df_resolve(marks, c.vehicles, 70);
+    expect("df_christen, resolved", !m.refusal && m.size == 2 && m.set == (1u << 1 | 1u << 4));
+    expect("df_property", property(13, 1, DF_VEHICLE, 51, 4, 1) && property(38, 1, DF_GATEWAY, 24, 0, 0) && property(142, 1, DF_GATEWAY, 23, 7, 0));
+    expect("df_property, no row", property(0, 0, 0, 0, 0, 0) && property(133, 0, 0, 0, 0, 0) && property(UINT32_MAX, 0, 0, 0, 0, 0));
+}
+
 /* octets 1-6 and 9-20, and two texts: "test" under F3, and an empty one under F8 */
 static const uint8_t front[6] = {1, 2, 3, 4, 5, 6}, behind[12] = {9, 10, 11, 12, 13, 14, 15, 16, 17, 18, 19, 20}, keys[3] = {3, 8, 8};
 static const uint16_t lengths[3] = {4, 0, 0};
@@ -493,6 +533,7 @@ static void texts(void)
     expect("df_refusal_text", !strcmp(df_refusal_text(28), "block runs past the end, or octets after the last") && DF_REFUSAL_BLOCK_PAST == 28);
     expect("df_refusal_text", !strcmp(df_refusal_text(29), "field out of its range or length that disagrees") && DF_REFUSAL_REMEDY_FIELD == 29);
     expect("df_refusal_text", !strcmp(df_refusal_text(30), "key twice") && DF_REFUSAL_KEY_TWICE == 30);
+    expect("df_refusal_text", !strncmp(df_refusal_text(31), "record area not a whole number of records", 41) && DF_REFUSAL_RECORDS_MISFIT == 31);
     expect("df_refusal_text", !strcmp(df_refusal_text(33), "output not of the needed length") && DF_REFUSAL_FORM_OUTPUT == 33);
     expect("df_refusal_text", !strcmp(df_refusal_text(34), "profile rule broken") && DF_REFUSAL_PROFILE == 34);
     expect("df_refusal_text", !strcmp(df_refusal_text(DF_NOT_REFUSED), "not refused") && df_refusal_text(UINT32_MAX));
@@ -514,6 +555,7 @@ int main(void)
     shown();
     passed_on();
     train();
+    christened();
     remedies();
     written();
     texts();

@@ -1,56 +1,26 @@
 -- An octet says what its entry says, and the octets stored one by one are the entries' own: so the answer over the octets is the answer over the entries.
 -- Assumes nothing.
 use mathlib.Core.Path.{_≡_, refl, sym, ap, ap₂, _∙_}
-use mathlib.Core.Bool.{Bool, true, false, cond, _||_}
+use mathlib.Core.Bool.{true, false, _||_}
 use mathlib.Core.List.{List, [], _∷_, _++_, map, map-append}
-use Prim.Native.Nat.{ℕ, zero, suc, _+_, _*_, _/_, _%_, _≤_}
+use Prim.Native.Nat.{ℕ, zero, suc, _≤_}
 use native.Mathlib.Decide.{decLt}
 use native.Mathlib.Omega.{arith}
-use borrow.Author.Tests.{lt-ltb, le-ltb, eq-eqb, ne-eqb}
-use lib.Dec.{eqb, ltb}
+use borrow.Author.Tests.{lt-ltb, le-ltb, ne-eqb}
+use lib.Dec.{ltb}
 use lib.ListN.{length, getD, set, take, replicate, length-set, length-map}
 use lib.Seq.{take-suc, take-suc-set, take-length}
 use Rattle.paper.specs.Answer.{Answer, refuseIf}
 use Rattle.paper.specs.Train as paper
 use Rattle.paper.proofs.AnswerLaws.{refuses, goes-past}
 use Rattle.train.specs.Marks.{vehicleOf}
+use Rattle.train.proofs.MarkOctets.{marks-read}
 use Rattle.consist.specs.declared.Vehicle.{Vehicle}
 use Rattle.consist.specs.Vehicles.{octetOf, vehicleAs}
 
--- what a mark of weight w adds to an octet, by the bit
-weighs : (b : Bool) (w : ℕ) → cond b w 0 ≡ w * cond b 1 0
-weighs true w = omega arith
-weighs false w = omega arith
-
-bit : (b : Bool) → cond b 1 0 ≤ 1
-bit true = omega arith
-bit false = omega arith
-
-mark : (x k : ℕ) (b : Bool) → x ≡ cond b 1 0 + 2 * k → eqb (x % 2) 1 ≡ b
-mark x k true e = eq-eqb (x % 2) 1 (omega arith)
-mark x k false e = ne-eqb (x % 2) 1 (λ q. omega arith)
-
--- the marks read out of an octet are those of its entry
-marks-read : (v : Vehicle) → vehicleOf (octetOf v) ≡ vehicleAs v
-marks-read v =
-    let l : ℕ = cond (v .leading) 1 0 in
-    let c : ℕ = cond (v .coach) 1 0 in
-    let t : ℕ = cond (v .tractive) 1 0 in
-    let d : ℕ = cond (v .led) 1 0 in
-    let s : ℕ = cond (v .sleeping) 1 0 in
-    let m : ℕ = octetOf v in
-    let e : m ≡ l + 2 * c + 4 * t + 8 * d + 16 * s = omega (arith, weighs (v .coach) 2, weighs (v .tractive) 4, weighs (v .led) 8, weighs (v .sleeping) 16) in
-    cc (
-      mark m (c + 2 * t + 4 * d + 8 * s) (v .leading) (omega arith),
-      mark (m / 2) (t + 2 * d + 4 * s) (v .coach) (omega (arith, bit (v .leading))),
-      mark (m / 4) (d + 2 * s) (v .tractive) (omega (arith, bit (v .leading), bit (v .coach))),
-      mark (m / 8) s (v .led) (omega (arith, bit (v .leading), bit (v .coach), bit (v .tractive))),
-      mark (m / 16) 0 (v .sleeping) (omega (arith, bit (v .leading), bit (v .coach), bit (v .tractive), bit (v .led))),
-    )
-
 train-read : (vs : List Vehicle) → map vehicleOf (map octetOf vs) ≡ map vehicleAs vs
 train-read [] = refl
-train-read (v ∷ vs) = ap₂ _∷_ (marks-read v) (train-read vs)
+train-read (v ∷ vs) = ap₂ _∷_ (marks-read (vehicleAs v)) (train-read vs)
 
 -- what is read past the last entry; no turn of the walk reads it
 abbrev pub noVehicle : Vehicle

@@ -4,6 +4,7 @@ use mathlib.Core.Path.{_≡_, refl, ap}
 use mathlib.Core.Logic.{_↔_}
 use mathlib.Core.Bool.{Bool}
 use mathlib.Core.List.{List}
+use lib.ListN.{length}
 use native.Mathlib.Omega.{arith}
 use Rattle.paper.specs.Answer.{Answer, gives, refused, forget, mapAnswer, Given, Numbered, Sought, found, nothing}
 use Rattle.paper.specs.Telegrams.{checkPlace}
@@ -21,12 +22,14 @@ use Rattle.paper.specs.Relaying.{relaying}
 use Rattle.paper.specs.Shown.{Kind, ShownReading, showing}
 use Rattle.paper.specs.Train.{Vehicle, Members, resolving}
 use Rattle.paper.specs.ETelegrams.{EReading, eReading, answering}
+use Rattle.paper.specs.Christening.{Pair, christening}
 use Rattle.paper.specs.Remedies.{Remedies, remedyReading, Remedy, remedyBlock, Handed, WrittenRemedies, remedyWriting}
 use Rattle.paper.proofs.RefusalLaws as laws
 use Rattle.dustferrule.specs.declared.DfOutcome.{DfOutcome}
 use Rattle.dustferrule.specs.declared.DfMarshalled.{DfMarshalled}
+use Rattle.dustferrule.specs.declared.DfChristened.{DfChristened}
 use Rattle.dustferrule.specs.declared.DfWrote.{DfWrote}
-use Rattle.dustferrule.specs.Results.{outcomeC, judgedC, extendingC, changeC, rangeC, entryC, foundC, serialC, gapC, livesC, placeC, readingC, shownC, membersC, eReadC, remediesC, remedyC, wroteC, WrittenC, DeliveredC, WroteC}
+use Rattle.dustferrule.specs.Results.{outcomeC, judgedC, extendingC, changeC, rangeC, entryC, foundC, serialC, gapC, livesC, placeC, readingC, shownC, membersC, eReadC, remediesC, christenedC, remedyC, wroteC, WrittenC, DeliveredC, ChristenedC, WroteC}
 
 -- ---- each result, of any answer
 
@@ -113,6 +116,16 @@ pub delivered-kept : (a : Answer Marshalled) (old : List ℕ) (r : DfMarshalled)
     → (r .refusal ≡ 0 → ⊥) → new ≡ old
 delivered-kept (gives m) old r new d h = absurd (h (ap (λ (o : DfMarshalled). o .refusal) (d .result)))
 delivered-kept (refused n at) old r new d h = d .octets
+
+pub christened-given : (a : Answer (List Vehicle)) (old : List ℕ) (r : DfChristened) (new : List ℕ) → ChristenedC a old r new → Numbered a
+    → (r .refusal ≡ 0) ↔ Given a
+christened-given a old r new d h =
+    rw (d .result) (laws.zero-given (λ x. christenedC (mapAnswer (length {A = Vehicle}) x) .refusal) (λ x. refl) (λ n at. refl) a h)
+
+pub christened-kept : (a : Answer (List Vehicle)) (old : List ℕ) (r : DfChristened) (new : List ℕ) → ChristenedC a old r new
+    → (r .refusal ≡ 0 → ⊥) → new ≡ old
+christened-kept (gives m) old r new d h = absurd (h (ap (λ (o : DfChristened). o .refusal) (d .result)))
+christened-kept (refused n at) old r new d h = d .octets
 
 pub wrote-given : (a : Answer WrittenRemedies) (old : List ℕ) (r : DfWrote) (new : List ℕ) → WroteC a old r new → Numbered a
     → (r .refusal ≡ 0) ↔ Given a
@@ -228,6 +241,13 @@ module _ (form : ℕ) (xs store : List ℕ) (now : ℕ) (bus : List ℕ) (r : Df
 
   pub marshal-kept : (r .refusal ≡ 0 → ⊥) → new ≡ bus
   marshal-kept = delivered-kept _ bus r new d
+
+module _ (area : List ℕ) (pairs : List Pair) (marks : List ℕ) (r : DfChristened) (new : List ℕ) (w : ChristenedC (christening area pairs) marks r new) where
+  pub christen-given : (r .refusal ≡ 0) ↔ Given (christening area pairs)
+  christen-given = christened-given _ marks r new w (laws.numbered-christening area pairs)
+
+  pub christen-kept : (r .refusal ≡ 0 → ⊥) → new ≡ marks
+  christen-kept = christened-kept _ marks r new w
 
 pub read-remedies-given : (telegram : List ℕ) → (remediesC (remedyReading telegram) .refusal ≡ 0) ↔ Given (remedyReading telegram)
 read-remedies-given telegram = remedies-given _ (laws.numbered-remedies telegram)

@@ -2,7 +2,8 @@
 use Prim.Native.Nat.{ℕ}
 use mathlib.Core.Path.{_≡_}
 use mathlib.Core.Bool.{Bool, true, false, cond}
-use mathlib.Core.List.{List}
+use mathlib.Core.List.{List, map}
+use lib.ListN.{length}
 use lib.Dec.{eqb}
 use lib.Ieee.{Float, binary32, ofBits}
 use Rattle.paper.specs.Answer.{Answer, gives, refused, after, forget, mapAnswer, Sought, found, nothing}
@@ -13,7 +14,10 @@ use Rattle.paper.specs.Comparing.{Changed, Range}
 use Rattle.paper.specs.Reading.{Reading}
 use Rattle.paper.specs.Marshalling.{Marshalled}
 use Rattle.paper.specs.Shown.{Kind, code, speed, percentage, signedPercentage, current, Shown, asCode, asSpeed, asPercentage, asCurrent, ShownReading}
-use Rattle.paper.specs.Train.{Members}
+use Rattle.paper.specs.Octets.{over}
+use Rattle.paper.specs.Train.{Vehicle, Members}
+use Rattle.train.specs.Marks.{octetOf}
+use Rattle.paper.specs.Christening.{Level, gateway, vehicle, Held}
 use Rattle.paper.specs.ETelegrams.{EReading}
 use Rattle.paper.specs.Remedies.{Remedies, Remedy, WrittenRemedies}
 use Rattle.dustferrule.specs.declared.DfOutcome.{DfOutcome}
@@ -30,6 +34,8 @@ use Rattle.dustferrule.specs.declared.DfPlace.{DfPlace}
 use Rattle.dustferrule.specs.declared.DfReading.{DfReading}
 use Rattle.dustferrule.specs.declared.DfShown.{DfShown}
 use Rattle.dustferrule.specs.declared.DfMembers.{DfMembers}
+use Rattle.dustferrule.specs.declared.DfProperty.{DfProperty}
+use Rattle.dustferrule.specs.declared.DfChristened.{DfChristened}
 use Rattle.dustferrule.specs.declared.DfERead.{DfERead}
 use Rattle.dustferrule.specs.declared.DfRemedies.{DfRemedies}
 use Rattle.dustferrule.specs.declared.DfRemedy.{DfRemedy}
@@ -152,6 +158,19 @@ abbrev pub membersC : Answer Members → DfMembers
 membersC (gives m) = record { refusal = 0; size = m .size; set = m .set }
 membersC (refused n at) = record { refusal = n; size = 0; set = 0 }
 
+abbrev pub levelC : Level → ℕ
+levelC gateway = 0
+levelC vehicle = 1
+
+abbrev pub propertyC : Sought Held → DfProperty
+propertyC (found h) =
+    record { found = 1; level = levelC (h .property .level); octet = h .property .octet; bit = h .property .bit; holds = yesNo (h .holds) }
+propertyC nothing = record { found = 0; level = 0; octet = 0; bit = 0; holds = 0 }
+
+abbrev pub christenedC : Answer ℕ → DfChristened
+christenedC (gives n) = record { refusal = 0; vehicles = n }
+christenedC (refused n at) = record { refusal = n; vehicles = 0 }
+
 abbrev pub eReadC : Answer EReading → DfERead
 eReadC (gives r) = record { refusal = 0; code = r .code; report = yesNo (r .report); status = r .status }
 eReadC (refused n at) = record { refusal = n; code = 0; report = 0; status = 0 }
@@ -181,3 +200,7 @@ pub record DeliveredC (answer : Answer Marshalled) (old : List ℕ) (r : DfMarsh
 pub record WroteC (answer : Answer WrittenRemedies) (old : List ℕ) (r : DfWrote) (new : List ℕ) : Type 0 where
   pub result : r ≡ wroteC (mapAnswer (λ w. w .size) answer)
   pub octets : new ≡ after old (mapAnswer (λ w. w .octets) answer)
+
+pub record ChristenedC (answer : Answer (List Vehicle)) (old : List ℕ) (r : DfChristened) (new : List ℕ) : Type 0 where
+  pub result : r ≡ christenedC (mapAnswer length answer)
+  pub octets : new ≡ after old (mapAnswer (λ train. over old 0 (map octetOf train)) answer)

@@ -18,6 +18,7 @@ ghost use Rattle.paper.specs.Composing.{composing};
 ghost use Rattle.paper.specs.Relaying.{relaying};
 ghost use Rattle.paper.specs.Shown.{showing};
 ghost use Rattle.paper.specs.Train.{resolving};
+ghost use Rattle.paper.specs.Christening.{christening, propertyOf};
 ghost use Rattle.paper.specs.ETelegrams.{eReading, answering};
 ghost use Rattle.paper.specs.Remedies.{areaBlocks, remedyReading, remedyBlock, remedyWriting};
 ghost use Rattle.refusals.specs.Refusal.{numberOf, carriedOf};
@@ -34,11 +35,13 @@ ghost use Rattle.grouping.specs.Place.{placeAnswer};
 ghost use Rattle.reading.specs.Reading.{readAnswer};
 ghost use Rattle.shown.specs.Show.{kindOf, shownOf, showingAnswer};
 ghost use Rattle.train.specs.Marks.{vehicleOf, resolvedAnswer};
+ghost use Rattle.records.specs.Records.{pairOf, heldAnswer, levelAs, christenedAnswer};
 ghost use Rattle.etelegrams.specs.Answers.{eReadAnswer};
 ghost use Rattle.texts.specs.Texts.{readAnswer as remediesAnswer, remedyAnswer};
 ghost use Rattle.textwriting.specs.Writing.{handedOf, wroteAnswer};
-ghost use Rattle.dustferrule.specs.Results.{yesNo, profileNumbered, changeRefused, changeC, rangeRefused, rangeC, kindNumbered, codeOf, unitOf, floatOf, outcomeC, judgedC, extendingC, entryC, foundC, serialC, gapC, livesC, placeC, readingC, shownC, membersC, eReadC, remediesC, remedyC, wroteC, WrittenC, DeliveredC, WroteC};
+ghost use Rattle.dustferrule.specs.Results.{yesNo, profileNumbered, changeRefused, changeC, rangeRefused, rangeC, kindNumbered, codeOf, unitOf, floatOf, outcomeC, judgedC, extendingC, entryC, foundC, serialC, gapC, livesC, placeC, readingC, shownC, membersC, levelC, propertyC, christenedC, eReadC, remediesC, remedyC, wroteC, WrittenC, DeliveredC, ChristenedC, WroteC};
 use gateway::Changes;
+use gateway::Christened;
 use gateway::ERead;
 use gateway::EntryOutcome;
 use gateway::ExtendsOutcome;
@@ -47,10 +50,12 @@ use gateway::Gained;
 use gateway::GapOutcome;
 use gateway::Judged;
 use gateway::Kind;
+use gateway::Level;
 use gateway::Marshalled;
 use gateway::Outcome;
 use gateway::Place;
 use gateway::Profile;
+use gateway::PropertyRead;
 use gateway::ReadOutcome;
 use gateway::Refusal;
 use gateway::RemediesRead;
@@ -183,6 +188,23 @@ pub struct DfMembers {
     pub refusal: u32,
     pub size: u32,
     pub set: u64,
+}
+
+// found: 1 a row of table E.1, 0 there is none of this number; level: 0 gateway, 1 vehicle; its place; holds: 1 the bit is set.
+#[repr(C)]
+pub struct DfProperty {
+    pub found: u32,
+    pub level: u32,
+    pub octet: u32,
+    pub bit: u32,
+    pub holds: u32,
+}
+
+// vehicles: how many marks were written.
+#[repr(C)]
+pub struct DfChristened {
+    pub refusal: u32,
+    pub vehicles: u64,
 }
 
 #[repr(C)]
@@ -621,6 +643,54 @@ fn yes_no(b: bool) -> u32
     if b { 1 } else { 0 }
 }
 
+fn level_c(l: Level) -> u32
+    ensures { λ r. ⌜ r ≡ levelC (levelAs l) ⌝ }
+{
+    match l {
+        Level::Gateway => 0,
+        Level::Vehicle => 1,
+    }
+}
+
+fn property_c(row: u32, o: PropertyRead) -> DfProperty
+    ensures { λ r. ⌜ r ≡ propertyC (heldAnswer row o) ⌝ }
+{
+    match o {
+        PropertyRead::Row(p) => {
+            let level = p.level;
+            DfProperty {
+                found: 1,
+                level: level_c(level),
+                octet: p.octet as u32,
+                bit: p.bit as u32,
+                holds: yes_no(p.holds),
+            }
+        }
+        PropertyRead::NoRow => DfProperty {
+            found: 0,
+            level: 0,
+            octet: 0,
+            bit: 0,
+            holds: 0,
+        },
+    }
+}
+
+fn christened_c(o: Christened) -> DfChristened
+    ensures { λ r. ⌜ r ≡ christenedC (christenedAnswer o) ⌝ }
+{
+    match o {
+        Christened::Vehicles(n) => DfChristened {
+            refusal: 0,
+            vehicles: n as u64,
+        },
+        Christened::Refused(f) => DfChristened {
+            refusal: number(f),
+            vehicles: 0,
+        },
+    }
+}
+
 fn e_read_c(o: ERead) -> DfERead
     ensures { λ r. ⌜ r ≡ eReadC (eReadAnswer o) ⌝ }
 {
@@ -897,6 +967,20 @@ pub extern "C" fn df_resolve(marks: &[u8], address: u64) -> DfMembers
     ensures { λ r. ⌜ r ≡ membersC (resolving (map vehicleOf (now (marks .entry))) address) ⌝ }
 {
     members_c(gateway::resolve(marks, address))
+}
+
+#[no_mangle]
+pub extern "C" fn df_property(octets: &[u8; 56], row: u32) -> DfProperty
+    ensures { λ r. ⌜ r ≡ propertyC (propertyOf (now (octets .entry)) row) ⌝ }
+{
+    property_c(row, gateway::property_of(octets, row))
+}
+
+#[no_mangle]
+pub extern "C" fn df_christen(records: &[u8], pairs: &[u8], marks: &mut [u8; 63]) -> DfChristened
+    ensures { λ r. ⌜ ChristenedC (christening (now (records .entry)) (map pairOf (now (pairs .entry)))) (now (marks .entry)) r (now (marks .exit)) ⌝ }
+{
+    christened_c(gateway::christen(records, pairs, marks))
 }
 
 #[no_mangle]

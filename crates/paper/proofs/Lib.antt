@@ -31,4 +31,5 @@ pub mod ProfileLaws
 pub mod RangeLaws
 pub mod ComparingLaws
 pub mod RemedyLaws
+pub mod ChristeningLaws
 pub mod TrueClock

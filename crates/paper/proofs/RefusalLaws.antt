@@ -24,6 +24,7 @@ use Rattle.paper.specs.Comparing.{nextSignal, nextRoute, nextGained, sig
 use Rattle.paper.specs.Profiles.{Profile, breachIn, unlessBreach, profiling}
 use Rattle.paper.specs.Shown.{Kind, showing}
 use Rattle.paper.specs.Train.{Vehicle, resolving}
+use Rattle.paper.specs.Christening.{Pair, christening}
 use Rattle.paper.specs.Remedies.{blockCount, start, blockFault, firstFault, refuseBy, remediesOf, remedyReading, remedyBlock, Handed, handedFault, writtenOf, remedyWriting}
 use Rattle.paper.specs.ETelegrams.{eReading, answering}
 use Rattle.paper.specs.Extends.{extends, extendsLists}
@@ -224,6 +225,11 @@ unfolding resolving
 numbered-resolving train a =
     numbered-if _ 17 _ _ (omega arith) (numbered-if _ 18 _ _ (omega arith)
     (numbered-if _ 19 _ _ (omega arith) (numbered-if _ 20 _ _ (omega arith) (numbered-gives _))))
+
+pub numbered-christening : (area : List ℕ) (pairs : List Pair) → Numbered (christening area pairs)
+unfolding christening
+numbered-christening area pairs =
+    numbered-if _ 31 _ _ (omega arith) (numbered-if _ 17 _ _ (omega arith) (numbered-if _ 18 _ _ (omega arith) (numbered-gives _)))
 
 pub numbered-e-reading : (telegram : List ℕ) → Numbered (eReading telegram)
 unfolding eReading

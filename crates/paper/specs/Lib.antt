@@ -17,6 +17,7 @@ pub mod Composing
 pub mod Widths
 pub mod Shown
 pub mod Train
+pub mod Christening
 pub mod ETelegrams
 pub mod Remedies
 pub mod Demands

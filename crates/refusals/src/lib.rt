@@ -72,6 +72,8 @@ impl Refusal {
 
     pub const KEY_TWICE: Refusal = Refusal(30, 0);
 
+    pub const RECORDS_MISFIT: Refusal = Refusal(31, 0);
+
     pub const SERIAL_SET: Refusal = Refusal(32, 0);
 
     pub const FORM_OUTPUT: Refusal = Refusal(33, 0);

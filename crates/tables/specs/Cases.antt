@@ -1,5 +1,5 @@
 -- Cases for computed tables: a question to any call, and its answer as numbers, with what a lent area holds afterwards.
-use Prim.Native.Nat.{ℕ, zero, suc, _+_}
+use Prim.Native.Nat.{ℕ, zero, suc, _+_, _*_}
 use mathlib.Core.Bool.{Bool, cond}
 use mathlib.Core.List.{List, [], _∷_, _++_, map}
 use lib.ListN.{length, getD, replicate}
@@ -21,6 +21,9 @@ use Rattle.paper.specs.Profiles.{Profile, breachOf, profiling}
 use Rattle.paper.specs.Comparing.{Changed, Range, signalChanges, routeChanges, codesGained}
 use Rattle.paper.specs.Shown.{Kind, Shown, ShownReading, asCode, asSpeed, asPercentage, asCurrent, showing}
 use Rattle.paper.specs.Train.{Vehicle, Members, resolving}
+use Rattle.paper.specs.Christening as E1
+use Rattle.paper.specs.Christening.{Level, christening, propertyOf}
+use Rattle.paper.specs.Christening.{Held as Row, Pair as MarkPair}
 use Rattle.paper.specs.ETelegrams.{EReading, eReading, answering}
 use Rattle.paper.specs.Remedies.{Remedies, remedyReading, Remedy, remedyBlock, remedyText, Blocks, blocksOf, areaBlocks, Handed, WrittenRemedies, remedyWriting}
 
@@ -118,6 +121,9 @@ pub data Question : Type 0 where
   showsIn : ℕ → List ℕ → List ℕ → ℕ → ℕ → ℕ → Kind → Question
   -- a consist and an address
   resolves : List Vehicle → ℕ → Question
+  -- christening records and pairs of marks; a record and a row of table E.1
+  christens : List ℕ → List MarkPair → Question
+  asksRow : List ℕ → ℕ → Question
   -- an E-telegram
   eReads : List ℕ → Question
   -- an E-telegram, a head, a status and an output
@@ -251,6 +257,18 @@ ofMembers m = m .set ∷ m .size ∷ []
 abbrev pub ofERead : EReading → List ℕ
 ofERead r = r .code ∷ yes-no (r .report) ∷ r .status ∷ []
 
+-- a vehicle's marks with the weights of a mark octet: 1 leading, 2 coach, 4 tractive, 8 led, 16 sleeping
+abbrev pub ofVehicle : Vehicle → ℕ
+ofVehicle v = yes-no (v .leading) + 2 * yes-no (v .coach) + 4 * yes-no (v .tractive) + 8 * yes-no (v .led) + 16 * yes-no (v .sleeping)
+
+-- row, level (0 gateway, 1 vehicle), octet, bit; whether it holds
+abbrev pub ofLevel : Level → ℕ
+ofLevel E1.gateway = 0
+ofLevel E1.vehicle = 1
+
+abbrev pub ofRow : Row → List ℕ
+ofRow h = h .property .row ∷ ofLevel (h .property .level) ∷ h .property .octet ∷ h .property .bit ∷ yes-no (h .holds) ∷ []
+
 abbrev pub ofRemedies : Remedies → List ℕ
 ofRemedies m = m .language ∷ m .ordered ∷ m .count ∷ []
 
@@ -306,6 +324,8 @@ ask (composesIn form xs type values marks out at) = wrote out (composing form xs
 ask (relaysIn form xs store now v out at) = wrote out (relaying form xs store now v (length out)) at
 ask (showsIn form xs store now v k kind) = said ofShownReading (showing form xs store now v k kind)
 ask (resolves train a) = said ofMembers (resolving train a)
+ask (christens area pairs) = said (map ofVehicle) (christening area pairs)
+ask (asksRow octets row) = gave (ofSought ofRow (propertyOf octets row))
 ask (eReads telegram) = said ofERead (eReading telegram)
 ask (eAnswers telegram head status out) = wroteAll out (answering telegram head status out)
 ask (remedyReads telegram) = said ofRemedies (remedyReading telegram)

@@ -5,4 +5,5 @@ pub mod Breaks
 pub mod RelayCases
 pub mod CompareCases
 pub mod RemedyCases
+pub mod RecordCases
 pub mod Wrong

@@ -44,7 +44,7 @@ pub record Case : Type 0 where
   pub asked : Question
   pub answered : List ℕ
 
-abbrev case : Question → List ℕ → Case
+abbrev pub case : Question → List ℕ → Case
 case q a = record { asked = q; answered = a }
 
 abbrev reads-as : List ℕ → List ℕ → Case

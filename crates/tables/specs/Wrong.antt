@@ -31,10 +31,12 @@ use Rattle.paper.specs.Shown.{Kind, speed, percentage, signedPercentage, showin
 use Rattle.paper.specs.Shown as Shown
 use Rattle.paper.specs.Train.{Vehicle, consistRule, meets, member, setTo, membersOf, resolving}
 use Rattle.paper.specs.ETelegrams.{requests, isRequest, isReport, eLimit, eReading, answerTo, answering}
+use Rattle.paper.specs.Christening.{properties, described, vehiclesOf, christening, rowIn, propertyOf}
 use Rattle.paper.specs.Remedies.{start, twice, blockFault, firstFault, remedyReading, remedyBlock, remedyText, areaTo, blockOctets, blocksTo, frontOctets, telegramOf, sizeTo, handedFault, remedyWriting}
 use Rattle.paper.specs.Bench.{listL, listL2, listV, telegram, silent}
 use Rattle.tables.specs.Marked.{heardAt, rawAt}
-use Rattle.tables.specs.Cases.{joined, made, made2, bits, signal, code, route, Question, judges, judgesIn, faults, faultsIn, profilesIn, profiles, breaches, extends, extendsIn, serialsIn, movesTo2, movesTo1, readsIn, signalEntries, routeEntries, finds, pairs, signalChangesIn, changes, reroutes, gains, places, takes, gaps, sweeps, holds, reads, marshals, composes, relays, shows, resolves, eReads, eAnswers, gave, refuses, ask, remedyReads, remedyBlocks, remedyWrites, textsWrites}
+use Rattle.tables.specs.Cases.{joined, made, made2, bits, signal, code, route, Question, judges, judgesIn, faults, faultsIn, profilesIn, profiles, breaches, extends, extendsIn, serialsIn, movesTo2, movesTo1, readsIn, signalEntries, routeEntries, finds, pairs, signalChangesIn, changes, reroutes, gains, places, takes, gaps, sweeps, holds, reads, marshals, composes, relays, shows, resolves, eReads, eAnswers, gave, refuses, ask, christens, asksRow, remedyReads, remedyBlocks, remedyWrites, textsWrites}
+use Rattle.tables.specs.RecordCases.{blank, only, unmarked, leads, follows, alone}
 use Rattle.tables.specs.RemedyCases.{front, twoTexts, but, long, write}
 
 -- ---- A wrong gateway
@@ -650,6 +652,30 @@ table =
     (resolves (tractive ∷ coach ∷ []) 67) (gave (4 ∷ 1 ∷ []))
     ∷ asked-as "last-vehicle-left-out" (resolves (coach ∷ coach ∷ []) 66) (gave (6 ∷ 2 ∷ [])) (resolves (coach ∷ []) 66) (gave (2 ∷ 1 ∷ []))
     ∷ asked-as "sixty-four-accepted" (resolves (replicate 64 coach) 1) (refuses 17 0) (resolves (replicate 63 coach) 1) (gave (2 ∷ 1 ∷ []))
+    -- christening records: the places, the pairs, 31 first; a property by its row
+    ∷ asked-as "record-bit-0-least" (alone (only 51 4)) (gave (18 ∷ [])) (alone (only 51 3)) (gave (2 ∷ []))
+    ∷ saying "special-coach-is-a-coach" (alone (only 51 5)) (gave (0 ∷ [])) (gave (2 ∷ []))
+    ∷ saying "sleeping-car-is-no-coach" (alone (only 51 4)) (gave (18 ∷ [])) (gave (16 ∷ []))
+    ∷ asked-as "second-traction-left-out" (alone (only 24 1)) (gave (4 ∷ [])) (alone blank) (gave (0 ∷ []))
+    ∷ asked-as "couchette-as-sleeping-car" (alone (only 51 3)) (gave (2 ∷ [])) (alone (only 51 4)) (gave (18 ∷ []))
+    ∷ asked-as "places-one-octet-on" (alone (only 50 3)) (gave (0 ∷ [])) (alone (only 51 3)) (gave (2 ∷ []))
+    ∷ asked-as "records-of-55" (christens (take 55 (only 51 4)) (unmarked ∷ [])) (refuses 31 0) (alone (only 51 4)) (gave (18 ∷ []))
+    ∷ asked-as "marks-of-the-neighbour"
+    (christens (only 24 0 ++ only 51 4) (unmarked ∷ unmarked ∷ [])) (gave (4 ∷ 18 ∷ []))
+    (christens (only 51 4 ++ only 24 0) (unmarked ∷ unmarked ∷ [])) (gave (18 ∷ 4 ∷ []))
+    ∷ asked-as "pairs-of-the-neighbour"
+    (christens (only 24 0 ++ only 24 0) (leads ∷ unmarked ∷ [])) (gave (5 ∷ 4 ∷ []))
+    (christens (only 24 0 ++ only 24 0) (unmarked ∷ leads ∷ [])) (gave (4 ∷ 5 ∷ []))
+    ∷ asked-as "leading-from-the-record" (alone (only 24 0)) (gave (4 ∷ [])) (christens (only 24 0) (leads ∷ [])) (gave (5 ∷ []))
+    ∷ asked-as "leading-and-led-exchanged"
+    (christens (only 24 0) (leads ∷ [])) (gave (5 ∷ []))
+    (christens (only 24 0) (follows ∷ [])) (gave (12 ∷ []))
+    ∷ saying "seventeen-before-31" (christens [] (unmarked ∷ [])) (refuses 31 0) (refuses 17 0)
+    ∷ saying "eighteen-before-31" (christens (only 24 0) (leads ∷ leads ∷ [])) (refuses 31 0) (refuses 18 0)
+    ∷ asked-as "record-too-many-left-out" (christens (only 51 4 ++ blank) (unmarked ∷ [])) (refuses 31 0) (alone (only 51 4)) (gave (18 ∷ []))
+    ∷ asked-as "property-of-the-next-row" (asksRow (only 50 0) 1) (gave (1 ∷ 1 ∷ 1 ∷ 50 ∷ 0 ∷ 1 ∷ [])) (asksRow (only 50 0) 2) (gave (1 ∷ 2 ∷ 1 ∷ 50 ∷ 1 ∷ 0 ∷ []))
+    ∷ saying "gateway-s-as-the-vehicle-s" (asksRow (only 22 0) 17) (gave (1 ∷ 17 ∷ 0 ∷ 22 ∷ 0 ∷ 1 ∷ [])) (gave (1 ∷ 17 ∷ 1 ∷ 22 ∷ 0 ∷ 1 ∷ []))
+    ∷ asked-as "rows-without-a-gap" (asksRow blank 133) (gave (0 ∷ [])) (asksRow blank 141) (gave (1 ∷ 141 ∷ 1 ∷ 54 ∷ 1 ∷ 0 ∷ []))
     -- E-telegrams: code, report or not, octet 9; the answer's octets
     ∷ asked-as "code-missing" (eReads (e-telegram 0x4047 9)) (gave (0x4047 ∷ 0 ∷ 9 ∷ [])) (eReads (e-telegram 0x4048 9)) (refuses 22 0)
     ∷ saying "octet-8-for-9" (eReads (e-telegram 0x1012 9)) (gave (0x1012 ∷ 0 ∷ 9 ∷ [])) (gave (0x1012 ∷ 0 ∷ 0x12 ∷ []))
@@ -745,5 +771,6 @@ unfolding table bits answered sameNumbers joined made made2 ask listL listL2 lis
     routeEntry signalFound finding has index nextPair pairing starts past changeAt codesCompared gained signalDiffers signalChange breaks routeDiffers routeChange nextSignal nextRoute nextGained signalChanges routeChanges codesGained slotOf taken taking age gap gapping stale sweptOne sweptTo sweeping heard heldIn holding markOf codeOf hindrances reasonOf readingOf
     readingAt reading routed marshalled live marshalling headed composed markFits valueFits composing relayType readLive under allLive vouched relayMark relayValue relaying underTable signalBroken routeBroken firstBreach breachIn breachOf profiling listed showing ofBits round toBits consistRule meets member
     setTo membersOf resolving requests isRequest isReport eLimit eReading answerTo answering
+    properties described vehiclesOf christening rowIn propertyOf
     twoTexts start twice blockFault firstFault remedyReading remedyBlock remedyText areaTo blockOctets blocksTo frontOctets telegramOf sizeTo handedFault remedyWriting
 wrong = refl

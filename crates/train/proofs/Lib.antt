@@ -1,3 +1,4 @@
 pub mod Sets
 pub mod Over
 pub mod Laws
+pub mod MarkOctets

@@ -1,6 +1,6 @@
 -- A vehicle of the paper as a plain mark octet, and which case of the code's enum stands for which of the paper's answers.
 use mathlib.Core.Path.{_≡_}
-use mathlib.Core.Bool.{Bool}
+use mathlib.Core.Bool.{Bool, cond}
 use mathlib.Core.List.{List, map}
 use Prim.Native.Nat.{ℕ, suc, _+_, _-_, _*_, _/_, _%_, _^_}
 use lib.Dec.{eqb}
@@ -18,6 +18,10 @@ marked w m = eqb (m / w % 2) 1
 
 abbrev pub vehicleOf : ℕ → paper.Vehicle
 vehicleOf m = record { leading = eqb (m % 2) 1; coach = marked 2 m; tractive = marked 4 m; led = marked 8 m; sleeping = marked 16 m }
+
+-- the octet of a vehicle's marks
+abbrev pub octetOf : paper.Vehicle → ℕ
+octetOf v = cond (v .leading) 1 0 + cond (v .coach) 2 0 + cond (v .tractive) 4 0 + cond (v .led) 8 0 + cond (v .sleeping) 16 0
 
 abbrev pub resolvedAnswer : Resolved → Answer paper.Members
 resolvedAnswer (R.Members m) = gives (record { set = m .set; size = m .size })

@@ -27,8 +27,8 @@ fn led_ok(marks: u8) -> bool
     !(marks / 8 % 2 == 1) | (marks / 4 % 2 == 1) & !(marks % 2 == 1)
 }
 
-// At most one is leading; led needs tractive and not leading. All marks are read, since a loop that does not leave early takes many at a time.
-fn consist_ok(marks: &[u8]) -> bool
+// Inner: at most one is leading; led needs tractive and not leading. All marks are read, since a loop that does not leave early takes many at a time.
+pub fn consist_ok(marks: &[u8]) -> bool
     requires { ⌜ length (now marks) ≤ 63 ⌝ }
     ensures { λ r. ⌜ r ≡ consistOk (now (marks .entry)) ⌝ }
 {

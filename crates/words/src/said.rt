@@ -127,6 +127,16 @@ fn say_taking_refusal(line: Line, number: u8) -> Line {
     }
 }
 
+// Of a train that christening records describe.
+fn say_train_refusal(line: Line, number: u8) -> Line {
+    match number {
+        17 => say(line, b"consist empty or above 63"),
+        18 => say(line, b"consist rule broken"),
+        31 => say(line, b"records not whole, or not as many pairs as records"),
+        _ => say(line, b"see the table of refusals"),
+    }
+}
+
 // Of telegram 8.8A, with remedy texts.
 fn say_remedy_refusal(line: Line, number: u8) -> Line {
     match number {
@@ -134,11 +144,11 @@ fn say_remedy_refusal(line: Line, number: u8) -> Line {
         28 => say(line, b"block runs past the end, or octets after the last"),
         29 => say(line, b"field out of its range or length that disagrees"),
         30 => say(line, b"key twice"),
-        _ => say(line, b"see the table of refusals"),
+        _ => say_train_refusal(line, number),
     }
 }
 
-// No program here meets another number from 17 to 31.
+// No program here meets 19, 20 or 22 to 27.
 fn say_other_refusal(line: Line, number: u8) -> Line {
     match number {
         11 => say(line, b"no such signal"),

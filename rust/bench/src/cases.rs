@@ -3,7 +3,7 @@
 use crate::lists::{self, Handed, NOW, STAMP};
 use crate::proved::{self, Said};
 use crate::rust;
-use reference::{Change, CodeRange, Form, Kind, Profile, Remedy, Shown, ShownReading};
+use reference::{Change, CodeRange, Form, Kind, Profile, Property, Remedy, Shown, ShownReading};
 use std::fmt::Debug;
 use std::hint::black_box;
 
@@ -549,6 +549,56 @@ fn e_read(name: &str, code: u16) -> Case {
     )
 }
 
+/// The marks that are written.
+fn marks(lent: &mut [u8]) -> &mut [u8; 63] {
+    lent.try_into().expect("63 octets are lent")
+}
+
+/// The longest train built from its records, and every row of table E.1 asked of one of them.
+fn christening() -> [Case; 2] {
+    let (records, pairs) = lists::records();
+    let mut written = [0xA5; 63];
+    let built = reference::christen(&records, &pairs, &mut written);
+    assert_eq!(built, Ok(63), "the train of the bench is built");
+    assert_eq!(written[..], lists::train(), "it is the train of the bench");
+    let (records, pairs) = (leak(records), leak(pairs));
+    let record: &[u8; 56] = records.last_chunk().expect("there is a record");
+    [
+        said(
+            "christen 63 vehicles",
+            vec![0xA5; 63],
+            move |to| proved::christen(black_box(records), black_box(pairs), marks(to)),
+            move |to| rust::christen(black_box(records), black_box(pairs), marks(to)),
+        ),
+        case(
+            "properties, all 144 rows of a record",
+            vec![],
+            (move |_: &mut [u8]| proved_rows(record), |sum| sum),
+            (move |_: &mut [u8]| rust_rows(record), |sum| sum),
+        ),
+    ]
+}
+
+fn proved_rows(record: &[u8; 56]) -> u64 {
+    all_rows(|row| proved::property(black_box(record), row).said())
+}
+
+fn rust_rows(record: &[u8; 56]) -> u64 {
+    all_rows(|row| rust::property(black_box(record), row))
+}
+
+/// Every row, each by a call, as one number.
+#[inline(always)]
+fn all_rows(property: impl Fn(u32) -> Option<Property>) -> u64 {
+    (1..=132)
+        .chain(141..=152)
+        .filter_map(property)
+        .fold(0, |sum: u64, row| {
+            let place = u64::from(row.octet) << 8 | u64::from(row.bit);
+            sum.rotate_left(7) ^ place << 8 ^ (row.level as u64) << 1 ^ u64::from(row.holds)
+        })
+}
+
 /// The longest telegram of remedy texts: read, each of its blocks asked for, and written.
 fn remedies() -> [Case; 3] {
     let handed: &Handed = Box::leak(Box::new(lists::remedies()));
@@ -700,6 +750,24 @@ pub fn refused_alike() {
         refused_alike_in(form, list);
     }
     remedies_refused_alike(&lists::remedies());
+    records_refused_alike();
+}
+
+/// Records that are cut, with as many pairs as there were; and rows that there are not.
+fn records_refused_alike() {
+    let (records, pairs) = lists::records();
+    for cut in 0..records.len() {
+        let (mut ours, mut theirs) = ([0xA5; 63], [0xA5; 63]);
+        let pairs = &pairs[..cut.div_ceil(56)];
+        let refused = reference::christen(&records[..cut], pairs, &mut theirs);
+        let proved = proved::christen(&records[..cut], pairs, &mut ours);
+        assert_eq!((proved.said(), ours), (refused, theirs));
+    }
+    let record: &[u8; 56] = records.last_chunk().expect("there is a record");
+    for row in 0..=200 {
+        let wanted = reference::property(record, row);
+        assert_eq!(proved::property(record, row).said(), wanted);
+    }
 }
 
 /// A telegram of remedy texts that is cut, and one that has no room.
@@ -835,6 +903,7 @@ pub fn all() -> Vec<Case> {
         resolve("resolve 63 vehicles, all", 66),
         check_place(583),
     ]);
+    cases.extend(christening());
     cases.extend(remedies());
     cases.extend(forms());
     cases.extend(wide());

@@ -1,4 +1,4 @@
-//! The lists, the store, the telegrams and the texts that are measured.
+//! The lists, the store, the telegrams, the records and the texts that are measured.
 //!
 //! The bits of a telegram are laid out in units of 14: a check, then signals of 2, 3, 3 and 4 bits that name it. The longest list has 64
 //! units, 21 of them in the octets that every type carries and 43 in those of R1, so that an R1 carries all its 256 signals.
@@ -241,6 +241,26 @@ pub fn train() -> Vec<u8> {
     marks[0] = 5;
     marks[62] = 12;
     marks
+}
+
+/// The christening record of a vehicle of these marks, and its pair: of the bits that say nothing of them, every third is set.
+pub fn record(mark: u8) -> ([u8; 56], u8) {
+    let mut record: [u8; 56] = std::array::from_fn(|at| [0x92, 0x49, 0x24][at % 3]);
+    record[23] &= 0x3F;
+    record[49] &= 0x3F;
+    record[50] &= 0x67;
+    for (of, octet, weight) in [(4, 23, 0x40), (2, 49, 0x80), (16, 50, 0x08)] {
+        if mark & of != 0 {
+            record[octet] |= weight;
+        }
+    }
+    (record, mark & 9)
+}
+
+/// The records and the pairs of [`train`].
+pub fn records() -> (Vec<u8>, Vec<u8>) {
+    let (records, pairs): (Vec<[u8; 56]>, Vec<u8>) = train().into_iter().map(record).unzip();
+    (records.concat(), pairs)
 }
 
 /// What a writer of remedy texts is handed.

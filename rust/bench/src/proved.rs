@@ -2,8 +2,8 @@
 //! x86-64 that is what C does with such an answer; on other machines it is not, so it is said here.
 
 use reference::{
-    Change, CodeRange, Counts, EReading, Extends, Form, Kind, Members, Profile, Reading, Refusal,
-    Refused, Remedies, Rule, Shown, ShownReading,
+    Change, CodeRange, Counts, EReading, Extends, Form, Kind, Level, Members, Profile, Property,
+    Reading, Refusal, Refused, Remedies, Rule, Shown, ShownReading,
 };
 use std::mem::MaybeUninit;
 
@@ -105,6 +105,21 @@ pub struct Gap {
 pub struct Placed {
     refusal: u32,
     place: u64,
+}
+
+#[repr(C)]
+pub struct PropertyRow {
+    found: u32,
+    level: u32,
+    octet: u32,
+    bit: u32,
+    holds: u32,
+}
+
+#[repr(C)]
+pub struct Christened {
+    refusal: u32,
+    vehicles: u64,
 }
 
 #[repr(C)]
@@ -266,6 +281,15 @@ extern "C" {
     fn df_sweep(store: *mut u8, store_len: usize, clock: u32) -> Outcome;
     fn df_check_place(bit: u64) -> Placed;
     fn df_resolve(marks: *const u8, marks_len: usize, address: u64) -> Resolved;
+    fn df_property(to: To<PropertyRow>, octets: *const [u8; 56], row: u32);
+    #[rustfmt::skip]
+    fn df_christen(
+        records: *const u8,
+        records_len: usize,
+        pairs: *const u8,
+        pairs_len: usize,
+        marks: *mut [u8; 63],
+    ) -> Christened;
     fn df_e_read(telegram: *const u8, telegram_len: usize) -> ERead;
     fn df_read_remedies(telegram: *const u8, telegram_len: usize) -> RemediesRead;
     #[rustfmt::skip]
@@ -492,6 +516,17 @@ pub fn resolve(marks: &[u8], address: u64) -> Resolved {
 }
 
 #[inline(always)]
+pub fn property(record: &[u8; 56], row: u32) -> PropertyRow {
+    answer(|to| unsafe { df_property(to, record, row) })
+}
+
+#[inline(always)]
+pub fn christen(records: &[u8], pairs: &[u8], marks: &mut [u8; 63]) -> Christened {
+    let (from, len) = (records.as_ptr(), records.len());
+    unsafe { df_christen(from, len, pairs.as_ptr(), pairs.len(), marks) }
+}
+
+#[inline(always)]
 pub fn e_read(telegram: &[u8]) -> ERead {
     unsafe { df_e_read(telegram.as_ptr(), telegram.len()) }
 }
@@ -694,6 +729,28 @@ impl Said for Placed {
     type As = Result<u64, Refusal>;
     fn said(self) -> Self::As {
         unless_refused(self.refusal, 0, self.place)
+    }
+}
+
+impl Said for PropertyRow {
+    type As = Option<Property>;
+    fn said(self) -> Self::As {
+        (self.found != 0).then_some(Property {
+            level: match self.level {
+                0 => Level::Gateway,
+                _ => Level::Vehicle,
+            },
+            octet: self.octet as u8,
+            bit: self.bit as u8,
+            holds: self.holds != 0,
+        })
+    }
+}
+
+impl Said for Christened {
+    type As = Result<usize, Refusal>;
+    fn said(self) -> Self::As {
+        unless_refused(self.refusal, 0, self.vehicles as usize)
     }
 }
 

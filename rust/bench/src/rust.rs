@@ -2,8 +2,8 @@
 
 use crate::lists::Handed;
 use reference::{
-    Change, CodeRange, Counts, EReading, Extends, Form, Kind, Members, Profile, Reading, Refusal,
-    Refused, Remedies, Remedy, ShownReading,
+    Change, CodeRange, Counts, EReading, Extends, Form, Kind, Members, Profile, Property, Reading,
+    Refusal, Refused, Remedies, Remedy, ShownReading,
 };
 
 #[inline(never)]
@@ -153,6 +153,16 @@ pub fn check_place(bit: u64) -> Result<u64, Refusal> {
 #[inline(never)]
 pub fn resolve(marks: &[u8], address: u64) -> Result<Members, Refusal> {
     reference::resolve(marks, address)
+}
+
+#[inline(never)]
+pub fn property(record: &[u8; 56], row: u32) -> Option<Property> {
+    reference::property(record, row)
+}
+
+#[inline(never)]
+pub fn christen(records: &[u8], pairs: &[u8], marks: &mut [u8; 63]) -> Result<usize, Refusal> {
+    reference::christen(records, pairs, marks)
 }
 
 #[inline(never)]

@@ -27,6 +27,8 @@ pub enum Call {
     Compose,
     Relay,
     Resolve,
+    Property,
+    Christen,
     ERead,
     EAnswer,
     ReadRemedies,
@@ -57,7 +59,7 @@ const fn takes(
 }
 
 impl Call {
-    pub const ALL: [Call; 26] = [
+    pub const ALL: [Call; 28] = [
         Call::Judge,
         Call::JudgeProfile,
         Call::Extends,
@@ -79,6 +81,8 @@ impl Call {
         Call::Compose,
         Call::Relay,
         Call::Resolve,
+        Call::Property,
+        Call::Christen,
         Call::ERead,
         Call::EAnswer,
         Call::ReadRemedies,
@@ -110,6 +114,8 @@ impl Call {
             Call::Compose => takes("compose", &["list", "marks", "out"], Some(2), &["form", "type"]),
             Call::Relay => takes("relay", &["list", "store", "out"], Some(2), &["form", "clock", "vehicle"]),
             Call::Resolve => takes("resolve", &["marks"], None, &["address"]),
+            Call::Property => takes("property", &["record"], None, &["row"]),
+            Call::Christen => takes("christen", &["records", "pairs", "63 marks"], Some(2), &[]),
             Call::ERead => takes("e_read", &["telegram"], None, &[]),
             Call::EAnswer => takes("e_answer", &["telegram", "head", "out"], Some(2), &["status"]),
             Call::ReadRemedies => takes("read_remedies", &["telegram"], None, &[]),
@@ -156,7 +162,7 @@ impl Case {
     /// Whether an area has a number of octets that it must have.
     pub fn is_fixed(&self, area: usize) -> bool {
         // A store of another length is only refused; the others are arrays.
-        let fixed = ["store", "octets 1-6", "octets 9-20"];
+        let fixed = ["store", "octets 1-6", "octets 9-20", "record", "63 marks"];
         fixed.contains(&self.call.parameters().areas[area])
     }
 

@@ -4,6 +4,7 @@ use std::ops::Range;
 
 use crate::case::{Call, Case, KINDS};
 use crate::changes::{self, compared};
+use crate::christenings;
 use crate::generate::REQUESTS;
 use crate::list::{Code, List, Route, Signal};
 use crate::profiles::{self, by_profiles};
@@ -34,6 +35,7 @@ pub fn large() -> impl Iterator<Item = u64> {
 pub fn each(mut try_one: impl FnMut(Case)) {
     check_places(&mut try_one);
     addresses(&mut try_one);
+    christenings::each(&mut try_one);
     e_telegrams(&mut try_one);
     remedies::each(&mut try_one);
     telegrams(&mut try_one);

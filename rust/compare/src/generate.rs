@@ -6,7 +6,7 @@ use crate::case::{is_scaled, Call, Case, KINDS, PROFILES};
 use crate::damage::{any_list, damaged, mostly_good, said_form};
 use crate::list::List;
 use crate::random::Random;
-use crate::{edited, make, narrow, pair, store, texts};
+use crate::{edited, make, narrow, pair, records, store, texts};
 use reference::{HEAD, SLOT, STORE, VEHICLES};
 
 /// The request codes of document 01.
@@ -17,7 +17,7 @@ pub const REQUESTS: [u16; 25] = [
 ];
 
 pub fn case(r: &Random) -> Case {
-    match r.below(223) {
+    match r.below(237) {
         0..=13 | 176..=179 | 216..=217 => {
             let (list, form) = any_list(r);
             Case::new(Call::Judge, vec![list], vec![form])
@@ -49,6 +49,8 @@ pub fn case(r: &Random) -> Case {
         188..=197 => texts::read(r),
         198..=203 => texts::block(r),
         204..=215 => texts::write(r),
+        223..=231 => records::christen(r),
+        232..=236 => records::property(r),
         _ => gap(r),
     }
 }

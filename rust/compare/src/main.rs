@@ -10,6 +10,8 @@
 mod case;
 mod changed;
 mod changes;
+mod christened;
+mod christenings;
 mod damage;
 mod edited;
 mod exact;
@@ -27,9 +29,11 @@ mod profiled;
 mod profiles;
 mod random;
 mod reached;
+mod records;
 mod relayed;
 mod remedied;
 mod remedies;
+mod resolved;
 mod returned;
 mod run;
 mod shrink;
@@ -91,6 +95,7 @@ struct Runs {
     passed_on: passed_on::Met,
     walked: walked::Met,
     returned: returned::Met,
+    resolved: resolved::Met,
 }
 
 impl Runs {
@@ -101,12 +106,14 @@ impl Runs {
         let passed_on = well("NOT PASSED ON", passed_on::all(cases / 40, seed));
         let walked = well("NOT AS COMPARED", walked::all(cases / 20, seed));
         let returned = well("NOT THERE AND BACK", returned::all(cases / 40, seed));
+        let resolved = well("NOT RESOLVED SO", resolved::all(cases / 40, seed));
         Some(Runs {
             exact: exact?,
             clocked: clocked?,
             passed_on: passed_on?,
             walked: walked?,
             returned: returned?,
+            resolved: resolved?,
         })
     }
 
@@ -116,6 +123,7 @@ impl Runs {
             self.passed_on.faults(),
             self.walked.faults(),
             self.returned.faults(),
+            self.resolved.faults(),
         ]
         .concat()
     }
@@ -123,12 +131,15 @@ impl Runs {
     fn said(&self) -> String {
         format!(
             "{} readings by the true clock; {} behind an old gateway; {} differences in {} pairs of lists; \
-             {} telegrams with remedy texts there and back; {} shown values exact",
+             {} telegrams with remedy texts there and back; {} addresses in {} trains from their records; \
+             {} shown values exact",
             self.clocked.readings(),
             self.passed_on.readings(),
             self.walked.differences,
             self.walked.pairs,
             self.returned.telegrams,
+            self.resolved.resolved,
+            self.resolved.trains,
             self.exact
         )
     }
@@ -158,7 +169,7 @@ fn compare(cases: u64, seed: u64, memory: Memory) -> bool {
         return false;
     };
     print!("{reached}{}{}", runs.clocked, runs.passed_on);
-    print!("{}{}", runs.walked, runs.returned);
+    print!("{}{}{}", runs.walked, runs.returned, runs.resolved);
     let faults = [reached.faults(), runs.faults()].concat();
     if !faults.is_empty() {
         println!("{}", faults.join("\n"));

@@ -5,6 +5,7 @@ use std::fmt;
 
 use crate::case::{is_scaled, Answer, Call, Case, KINDS};
 use crate::changed;
+use crate::christened;
 use crate::list::{longest, sizes, Route, Signal, MOST};
 use crate::profiled;
 use crate::relayed;
@@ -194,6 +195,8 @@ fn wanted(call: Call) -> Vec<Row> {
             refusals(&[17, 18, 19, 20]),
             vec![],
         ],
+        Call::Property => [christened::wanted(call), vec![], vec![]],
+        Call::Christen => [christened::wanted(call), refusals(&[17, 18, 31]), vec![]],
         Call::ERead => [
             vec![("request", 0), ("report", 0)],
             refusals(&[21, 22]),
@@ -262,8 +265,8 @@ fn rows(case: &Case, answer: &Answer) -> Vec<Row> {
         Call::Show => show_rows(case.numbers[4], answer),
         Call::Marshal => vec![(lives(case, first), 0)],
         Call::Compose => vec![("type", case.numbers[1])],
-        // What is told of these stands in `profiled`, in `relayed`, in `remedied` and in `changed`.
-        Call::JudgeProfile | Call::Relay => vec![],
+        // What is told of these stands in `profiled`, in `relayed`, in `christened`, in `remedied` and in `changed`.
+        Call::JudgeProfile | Call::Relay | Call::Property | Call::Christen => vec![],
         Call::ReadRemedies | Call::RemedyBlock | Call::WriteRemedies => vec![],
         Call::SignalChange | Call::RouteChange | Call::CodesGained => vec![],
         Call::Resolve => vec![("address", case.numbers[0])],
@@ -610,6 +613,7 @@ impl Reached {
             scaled_rows,
             profiled::rows,
             relayed::rows,
+            christened::rows,
             remedied::rows,
             changed::rows,
         ];
@@ -654,6 +658,9 @@ fn named((what, number): Row) -> String {
             "found, block",
             "text octets",
             "octet 23 is",
+            "mark",
+            "set, bit",
+            "no row",
         ]
         .iter()
         .any(|end| what.ends_with(end)) =>

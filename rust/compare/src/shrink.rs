@@ -3,6 +3,7 @@
 use std::ops::Range;
 
 use crate::case::{Call, Case};
+use crate::records::RECORD;
 
 /// How many cases are tried before the smallest so far has to do.
 const TRIES: usize = 30_000;
@@ -17,6 +18,8 @@ enum Step {
     Length(usize, u16),
     /// A block to be written goes, with its key, its length and its text.
     Block(usize),
+    /// A vehicle goes, with its record and its pair.
+    Vehicle(usize),
     /// A run of octets of an area is left out, or set to 0.
     Without(usize, Range<usize>),
     Zeroed(usize, Range<usize>),
@@ -73,6 +76,9 @@ fn steps(case: &Case) -> Vec<Step> {
         steps.push(Step::Block(i));
         steps.extend([0, n / 2, n.saturating_sub(1)].map(|to| Step::Length(i, to)));
     }
+    if case.call == Call::Christen {
+        steps.extend((0..case.areas[1].len()).rev().map(Step::Vehicle));
+    }
     (0..case.areas.len()).for_each(|i| steps.extend(area_steps(case, i)));
     steps
 }
@@ -108,6 +114,7 @@ fn taken(case: &Case, step: &Step) -> Case {
         &Step::Value(i, to) => case.values[i] = to,
         &Step::Length(i, to) => case.lengths[i] = to,
         &Step::Block(at) => without_block(&mut case, at),
+        &Step::Vehicle(at) => without_vehicle(&mut case, at),
         Step::Without(i, run) => drop(case.areas[*i].drain(run.clone())),
         Step::Zeroed(i, run) => case.areas[*i][run.clone()].fill(0),
         &Step::Cleared(i, at, bit) => case.areas[i][at] &= !bit,
@@ -152,6 +159,14 @@ fn without_block(case: &mut Case, at: usize) {
     }
     let end = texts.len().min(before + len);
     texts.drain(before.min(end)..end);
+}
+
+/// One vehicle less, as far as its record is there.
+fn without_vehicle(case: &mut Case, at: usize) {
+    let records = &mut case.areas[0];
+    let [from, end] = [at, at + 1].map(|record| (RECORD * record).min(records.len()));
+    records.drain(from..end);
+    case.areas[1].remove(at);
 }
 
 #[cfg(test)]

@@ -23,6 +23,11 @@ fn array<const N: usize>(call: Call, area: &[u8]) -> &[u8; N] {
     area.try_into().unwrap_or_else(|_| misfit(call))
 }
 
+/// An area that is an array, to be written.
+fn array_mut<const N: usize>(call: Call, area: &mut [u8]) -> &mut [u8; N] {
+    area.try_into().unwrap_or_else(|_| misfit(call))
+}
+
 /// Where in the telegram a text starts: it is a part of it, and no copy.
 fn start_in(telegram: &[u8], text: &[u8]) -> u64 {
     let [first, start] = [telegram, text].map(|octets| octets.as_ptr().addr());
@@ -173,6 +178,17 @@ macro_rules! side {
                 }
                 (Call::Resolve, [marks], &[address]) => $library::resolve(marks, address)
                     .map(|members| Answer::gives([members.set, members.size.into()])),
+                (Call::Property, [record], &[row]) => {
+                    let found = $library::property(array(call, record), row as u32);
+                    Ok(found.map_or(Answer::default(), |p| {
+                        let (level, holds) = (p.level as u64, p.holds.into());
+                        Answer::gives([1, level, p.octet.into(), p.bit.into(), holds])
+                    }))
+                }
+                (Call::Christen, [records, pairs, marks], []) => {
+                    $library::christen(records, pairs, array_mut(call, marks))
+                        .map(|vehicles| Answer::gives([vehicles as u64]))
+                }
                 (Call::ERead, [telegram], []) => $library::e_read(telegram)
                     .map(|r| Answer::gives([r.code.into(), r.report.into(), r.status.into()])),
                 (Call::EAnswer, [telegram, head, out], &[status]) => {
@@ -360,6 +376,16 @@ pub fn by_header(call: Call, mut lent: Lent) -> Answer {
         (Call::Resolve, [marks], &[address]) => {
             let r = unsafe { raw::df_resolve(marks.as_ptr(), marks.len(), address) };
             Answer::with(r.refusal, 0, [r.set, r.size.into()])
+        }
+        (Call::Property, [record], &[row]) => {
+            let r = unsafe { raw::df_property(array(call, record), row as u32) };
+            let gives = [r.found, r.level, r.octet, r.bit, r.holds];
+            Answer::with(0, 0, gives.map(u64::from))
+        }
+        (Call::Christen, [records, pairs, marks], []) => {
+            let (from, len, marks) = (records.as_ptr(), records.len(), array_mut(call, marks));
+            let r = unsafe { raw::df_christen(from, len, pairs.as_ptr(), pairs.len(), marks) };
+            Answer::with(r.refusal, 0, [r.vehicles])
         }
         (Call::ERead, [telegram], []) => {
             let r = unsafe { raw::df_e_read(telegram.as_ptr(), telegram.len()) };

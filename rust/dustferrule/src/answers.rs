@@ -184,6 +184,29 @@ pub struct Members {
     pub size: u32,
 }
 
+/// Whose properties a row of table E.1 gives.
+#[derive(Debug, Clone, Copy, PartialEq, Eq, Hash)]
+#[repr(u8)]
+pub enum Level {
+    /// The gateway's.
+    Gateway = 0,
+    /// The vehicle's.
+    Vehicle = 1,
+}
+
+/// A row of table E.1, in a christening record.
+#[derive(Debug, Clone, Copy, PartialEq, Eq)]
+pub struct Property {
+    /// Whose it is.
+    pub level: Level,
+    /// The octet of its place, from 1.
+    pub octet: u8,
+    /// The bit of its place; 0 is the most significant.
+    pub bit: u8,
+    /// Whether that bit is set.
+    pub holds: bool,
+}
+
 /// What an E-telegram says.
 #[derive(Debug, Clone, Copy, PartialEq, Eq)]
 pub struct EReading {

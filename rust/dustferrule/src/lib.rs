@@ -12,8 +12,8 @@ mod numbers;
 pub mod raw;
 
 pub use answers::{
-    Change, CodeRange, Counts, EReading, Entry, Extends, Form, Kind, Members, Profile, Reading,
-    Remedies, Remedy, Rule, Shown, ShownReading,
+    Change, CodeRange, Counts, EReading, Entry, Extends, Form, Kind, Level, Members, Profile,
+    Property, Reading, Remedies, Remedy, Rule, Shown, ShownReading,
 };
 pub use numbers::{Error, Reason, Refusal, Refused};
 
@@ -413,6 +413,39 @@ pub fn resolve(marks: &[u8], address: u64) -> Result<Members, Error> {
         size: r.size,
     };
     unless_refused(r.refusal, 0, members)
+}
+
+/// A row of source document 002, table E.1, by its number: its level and its place, and whether its bit is set in this christening record;
+/// nothing where the table has no such row. Rows 1 to 132 and 141 to 152 are there. Never refused.
+pub fn property(record: &[u8; 56], row: u32) -> Option<Property> {
+    let r = unsafe { raw::df_property(record, row) };
+    // A row that is found has its place in the record.
+    (r.found != 0).then_some(Property {
+        level: match r.level {
+            0 => Level::Gateway,
+            _ => Level::Vehicle,
+        },
+        octet: r.octet as u8,
+        bit: r.bit as u8,
+        holds: r.holds != 0,
+    })
+}
+
+/// Builds the consist from christening records, 56 octets for each vehicle, vehicle 1 first, and gives the number of vehicles. Of each pair of
+/// marks, 1 is leading and 8 led; its other bits are not read. Writes a mark octet for each vehicle, as [`resolve`] takes them, into the first
+/// octets of `marks`; the others stay. Sleeping is 51/4; tractive 24/0 or 24/1; a coach has any of 50/0, 50/1, 51/0, 51/3 and 51/4. Refusals 31,
+/// then 17 and 18.
+pub fn christen(records: &[u8], pairs: &[u8], marks: &mut [u8; 63]) -> Result<usize, Error> {
+    let r = unsafe {
+        raw::df_christen(
+            records.as_ptr(),
+            records.len(),
+            pairs.as_ptr(),
+            pairs.len(),
+            marks,
+        )
+    };
+    unless_refused(r.refusal, 0, r.vehicles as usize)
 }
 
 /// Reads an E-telegram's code, request or report, and octet 9. It has 9 to 1,024 octets, with the code 8A08 up to 2,110. Refusals 21, 22.

@@ -80,6 +80,7 @@ numbered! {
         BlockPast = 28, "block runs past the end, or octets after the last";
         RemedyField = 29, "field out of its range or length that disagrees";
         KeyTwice = 30, "key twice";
+        RecordsMisfit = 31, "record area not a whole number of records, or not as many pairs of marks as records";
         SerialSet = 32, "serial number set";
         FormOutput = 33, "output not of the needed length";
         Profile = 34, "profile rule broken";

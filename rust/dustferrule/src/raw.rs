@@ -147,6 +147,24 @@ pub struct df_members {
     pub set: u64,
 }
 
+/// `found`: 1 a row of table E.1, 0 no row of this number has a bit; `level`: 0 gateway, 1 vehicle; `holds`: 1 its bit is set.
+#[repr(C)]
+#[derive(Debug, Clone, Copy)]
+pub struct df_property_row {
+    pub found: u32,
+    pub level: u32,
+    pub octet: u32,
+    pub bit: u32,
+    pub holds: u32,
+}
+
+#[repr(C)]
+#[derive(Debug, Clone, Copy)]
+pub struct df_christened {
+    pub refusal: u32,
+    pub vehicles: u64,
+}
+
 /// `report`: 1 a report, 0 a request.
 #[repr(C)]
 #[derive(Debug, Clone, Copy)]
@@ -330,6 +348,16 @@ extern "C" {
     ) -> df_outcome;
 
     pub fn df_resolve(marks: *const u8, marks_len: usize, address: u64) -> df_members;
+
+    pub fn df_property(octets: *const [u8; 56], row: u32) -> df_property_row;
+
+    pub fn df_christen(
+        records: *const u8,
+        records_len: usize,
+        pairs: *const u8,
+        pairs_len: usize,
+        marks: *mut [u8; 63],
+    ) -> df_christened;
 
     pub fn df_e_read(telegram: *const u8, telegram_len: usize) -> df_e_reading;
 

@@ -1,9 +1,9 @@
 //! Refusals and reasons by number and in words, and the refusals of calls as errors.
 
 use dustferrule::{
-    codes_gained, compose, find_signal, judge, judge_profile, read, read_remedies, route_change,
-    show, signal_change, write_remedies, Error, Form, Kind, Profile, Reason, Refusal, Refused,
-    Rule, STORE_OCTETS,
+    christen, codes_gained, compose, find_signal, judge, judge_profile, property, read,
+    read_remedies, route_change, show, signal_change, write_remedies, Error, Form, Kind, Level,
+    Profile, Property, Reason, Refusal, Refused, Rule, STORE_OCTETS,
 };
 
 /// The list L of document 01.
@@ -18,7 +18,7 @@ fn each_number_is_there_once() {
         .iter()
         .map(|refusal| refusal.number())
         .collect();
-    assert_eq!(refusals, (1..=30).chain(32..=34).collect::<Vec<u8>>());
+    assert_eq!(refusals, (1..=34).collect::<Vec<u8>>());
     let reasons: Vec<u8> = Reason::ALL.iter().map(|reason| reason.number()).collect();
     assert_eq!(reasons, (0..=8).collect::<Vec<u8>>());
     for &refusal in Refusal::ALL {
@@ -28,7 +28,7 @@ fn each_number_is_there_once() {
         assert_eq!(Reason::of(reason.number().into()), Some(reason));
         assert_eq!(reason.is_live(), reason.number() < 2);
     }
-    for none in [0, 31, 35] {
+    for none in [0, 35] {
         assert_eq!(Refusal::of(none), None);
     }
     assert_eq!(Reason::of(9), None);
@@ -101,6 +101,46 @@ fn errors_of_remedy_texts() {
         read_remedies(&telegram).map_err(said),
         Err((Refusal::KeyTwice, 0, "refused 30: key twice".to_string()))
     );
+}
+
+/// Two vehicles of which both lead: an octet of their records is missing, or all is there; and no vehicle.
+#[test]
+fn errors_of_christening() {
+    let mut marks = [0xEE; 63];
+    let said = |error: Error| (error.refusal, error.carried, error.to_string());
+    let misfit = "refused 31: record area not a whole number of records, or not as many pairs of marks as records";
+    assert_eq!(
+        christen(&[0; 111], &[1, 1], &mut marks).map_err(said),
+        Err((Refusal::RecordsMisfit, 0, misfit.to_string()))
+    );
+    let refusal = |error: Error| error.refusal;
+    let rule = christen(&[0; 112], &[1, 1], &mut marks);
+    assert_eq!(rule.map_err(refusal), Err(Refusal::ConsistRule));
+    let none = christen(&[], &[], &mut marks);
+    assert_eq!(none.map_err(refusal), Err(Refusal::ConsistLength));
+    assert_eq!(marks, [0xEE; 63]);
+    assert_eq!(christen(&[0xFF; 112], &[1, 8], &mut marks), Ok(2));
+    assert_eq!(marks[..3], [23, 30, 0xEE]);
+}
+
+/// Each level by its number in the header.
+#[test]
+fn properties_of_both_levels() {
+    let mut record = [0; 56];
+    record[50] = 8;
+    let property = |row| property(&record, row);
+    let of = |level, octet, bit, holds| {
+        Some(Property {
+            level,
+            octet,
+            bit,
+            holds,
+        })
+    };
+    assert_eq!(property(13), of(Level::Vehicle, 51, 4, true));
+    assert_eq!(property(142), of(Level::Gateway, 23, 7, false));
+    assert_eq!([property(133), property(u32::MAX)], [None, None]);
+    assert_eq!([Level::Gateway as u8, Level::Vehicle as u8], [0, 1]);
 }
 
 #[test]

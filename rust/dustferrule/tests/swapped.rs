@@ -8,8 +8,8 @@ extern crate self as reference;
 
 use dustferrule::Error;
 pub use dustferrule::{
-    Change, CodeRange, Counts, EReading, Entry, Form, Kind, Members, Profile, Remedies, Remedy,
-    Rule, Shown,
+    property, Change, CodeRange, Counts, EReading, Entry, Form, Kind, Level, Members, Profile,
+    Property, Remedies, Remedy, Rule, Shown,
 };
 
 #[derive(Debug, Clone, Copy, PartialEq, Eq)]
@@ -89,6 +89,7 @@ calls! { Refusal, plain:
     compose(list: &[u8], form: Form, kind: u64, values: &[u64], marks: &[u8], out: &mut [u8]) -> ();
     relay(list: &[u8], form: Form, store: &[u8], now: u32, vehicle: u64, out: &mut [u8]) -> ();
     resolve(marks: &[u8], address: u64) -> Members;
+    christen(records: &[u8], pairs: &[u8], marks: &mut [u8; 63]) -> usize;
     e_read(telegram: &[u8]) -> EReading;
     e_answer(telegram: &[u8], head: &[u8], status: u8, out: &mut [u8]) -> ();
     read_remedies(telegram: &[u8]) -> Remedies;
@@ -138,6 +139,8 @@ pub fn show(
 
 #[path = "../../reference/tests/bench.rs"]
 mod bench;
+#[path = "../../reference/tests/christening.rs"]
+mod christening;
 #[path = "../../reference/tests/comparing.rs"]
 mod comparing;
 #[path = "../../reference/tests/compose.rs"]

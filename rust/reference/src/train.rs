@@ -3,11 +3,11 @@
 
 use crate::refusal::Refusal;
 
-const LEADING: u8 = 1;
-const COACH: u8 = 2;
-const TRACTIVE: u8 = 4;
-const LED: u8 = 8;
-const SLEEPING: u8 = 16;
+pub(crate) const LEADING: u8 = 1;
+pub(crate) const COACH: u8 = 2;
+pub(crate) const TRACTIVE: u8 = 4;
+pub(crate) const LED: u8 = 8;
+pub(crate) const SLEEPING: u8 = 16;
 
 /// "The answer is the set and the number of vehicles in the set."
 #[derive(Debug, Clone, Copy, PartialEq, Eq)]
@@ -24,15 +24,7 @@ pub fn resolve(marks: &[u8], address: u64) -> Result<Members, Refusal> {
     if !(1..=63).contains(&marks.len()) {
         return Err(Refusal::plain(17));
     }
-    // "At most one is leading; led needs tractive and not leading."
-    let leading: u8 = marks.iter().map(|mark| mark & LEADING).sum();
-    let broken: u8 = marks
-        .iter()
-        .map(|mark| u8::from(mark & LED != 0 && mark & (TRACTIVE | LEADING) != TRACTIVE))
-        .sum();
-    if leading > 1 || broken > 0 {
-        return Err(Refusal::plain(18));
-    }
+    judge_rule(marks)?;
     // "Addresses: 1-63 that vehicle, 64 leading, 65 led, 66 all, 67 coaches, 70 tractive, 92 sleeping cars"
     let everyone = (u64::MAX >> (63 - marks.len())) & !1;
     let with = |wanted: u8| {
@@ -58,4 +50,18 @@ pub fn resolve(marks: &[u8], address: u64) -> Result<Members, Refusal> {
         set,
         size: set.count_ones(),
     })
+}
+
+/// "At most one is leading; led needs tractive and not leading": of 63 vehicles at most. Refusal 18.
+#[inline]
+pub(crate) fn judge_rule(marks: &[u8]) -> Result<(), Refusal> {
+    let leading: u8 = marks.iter().map(|mark| mark & LEADING).sum();
+    let broken: u8 = marks
+        .iter()
+        .map(|mark| u8::from(mark & LED != 0 && mark & (TRACTIVE | LEADING) != TRACTIVE))
+        .sum();
+    if leading > 1 || broken > 0 {
+        return Err(Refusal::plain(18));
+    }
+    Ok(())
 }

@@ -1,7 +1,7 @@
 //! Document 01 in its plainest form.
 
 use super::{HEAD, HEARD, SIGNAL_SIZE, SLOT, STAMP};
-use reference::{Counts, Reading, Refusal};
+use reference::{Counts, Level, Reading, Refusal};
 
 pub fn bit(octets: &[u8], address: usize) -> bool {
     octets[address / 8] & (0x80 >> (address % 8)) != 0
@@ -668,4 +668,77 @@ fn remedy_faults(t: &[u8], at: usize, before: &[Block]) -> Vec<u8> {
     ];
     let wrong = wrong.into_iter().filter(|&(_, is)| is);
     wrong.map(|(fault, _)| fault).collect()
+}
+
+/// C-14: table E.1 by octets, with the row of each bit, 0 for none.
+#[rustfmt::skip]
+pub const ROWS: [(Level, u8, [u32; 8]); 19] = [
+    (Level::Gateway, 22, [17, 19, 21, 22, 23, 24, 29, 30]),
+    (Level::Gateway, 23, [31, 32, 33, 34, 35, 36, 37, 142]),
+    (Level::Gateway, 24, [38, 39, 40, 41, 44, 45, 46, 47]),
+    (Level::Gateway, 25, [48, 49, 50, 51, 52, 53, 54, 55]),
+    (Level::Gateway, 26, [56, 57, 58, 59, 60, 61, 62, 63]),
+    (Level::Gateway, 27, [64, 65, 66, 67, 68, 69, 70, 71]),
+    (Level::Gateway, 28, [72, 73, 74, 75, 76, 77, 78, 79]),
+    (Level::Gateway, 29, [80, 81, 82, 83, 84, 85, 86, 87]),
+    (Level::Gateway, 30, [88, 89, 90, 91, 92, 93, 94, 95]),
+    (Level::Gateway, 31, [96, 97, 98, 99, 100, 101, 102, 103]),
+    (Level::Gateway, 32, [104, 106, 107, 110, 111, 112, 113, 114]),
+    (Level::Gateway, 33, [115, 116, 117, 119, 120, 121, 123, 124]),
+    (Level::Gateway, 34, [126, 128, 131, 132, 143, 144, 145, 146]),
+    (Level::Gateway, 35, [147, 148, 149, 150, 151, 152, 0, 0]),
+    (Level::Vehicle, 50, [1, 2, 3, 4, 5, 6, 7, 8]),
+    (Level::Vehicle, 51, [9, 10, 11, 12, 13, 14, 15, 16]),
+    (Level::Vehicle, 52, [18, 20, 25, 26, 27, 28, 42, 43]),
+    (Level::Vehicle, 53, [105, 108, 109, 118, 122, 125, 127, 129]),
+    (Level::Vehicle, 54, [130, 141, 0, 0, 0, 0, 0, 0]),
+];
+
+/// The level, octet and bit of a row.
+pub fn row(number: u32) -> Option<(Level, u8, u8)> {
+    let places = ROWS.into_iter().flat_map(|(level, octet, rows)| {
+        (0..8)
+            .zip(rows)
+            .map(move |(bit, row)| (row, (level, octet, bit)))
+    });
+    let mut found = places.filter(|&(row, _)| row != 0 && row == number);
+    let place = found.next().map(|(_, place)| place);
+    assert_eq!(found.next(), None);
+    place
+}
+
+/// The bit at a place of a record, octets from 1.
+pub fn at(record: &[u8], octet: u8, at: u8) -> bool {
+    bit(record, 8 * (usize::from(octet) - 1) + usize::from(at))
+}
+
+/// What a vehicle is, by its record and its pair of marks: leading, coach, tractive, led, sleeping.
+pub fn described(record: &[u8], pair: u8) -> [bool; 5] {
+    let coach = [(50, 0), (50, 1), (51, 0), (51, 3), (51, 4)];
+    [
+        pair % 2 == 1,
+        coach.iter().any(|&(octet, bit)| at(record, octet, bit)),
+        at(record, 24, 0) || at(record, 24, 1),
+        pair / 8 % 2 == 1,
+        at(record, 51, 4),
+    ]
+}
+
+/// C-14: the vehicles of a train, or the number by which it is refused.
+pub fn christened(records: &[u8], pairs: &[u8]) -> Result<Vec<[bool; 5]>, u8> {
+    if records.len() != 56 * pairs.len() {
+        return Err(31);
+    }
+    if pairs.is_empty() || pairs.len() > 63 {
+        return Err(17);
+    }
+    let train: Vec<[bool; 5]> = (records.chunks(56).zip(pairs))
+        .map(|(record, &pair)| described(record, pair))
+        .collect();
+    let leads = train.iter().filter(|vehicle| vehicle[0]).count();
+    let wrong = |&[leading, _, tractive, led, _]: &[bool; 5]| led && (leading || !tractive);
+    match leads > 1 || train.iter().any(wrong) {
+        true => Err(18),
+        false => Ok(train),
+    }
 }
