@@ -1,5 +1,6 @@
 #!/usr/bin/env python3
-"""Writes the telegrams and the store of scene/, a short train at work, packed from signals.csv alone. scene/README.md says what they are for.
+"""Writes the telegrams and the stores of scene/, a short train at work and one at a platform, packed from signals.csv alone. scene/README.md says what they
+are for.
 
     data/scene.py            writes them, and for the first the values file that `compose` makes it from and what an old gateway passes on of it
     data/scene.py --check    only says whether they are as they would be written
@@ -11,7 +12,7 @@ import sys
 from files import HERE, settle
 from slots import slot, store
 
-ERROR, OK, FORCED = 0, 1, 2
+ERROR, OK, FORCED, UNDEFINED = 0, 1, 2, 3
 LENGTHS = {"R1": 128, "R2": 128, "R3": 40}
 HEADS = {"R1": 0x11, "R2": 0x12, "R3": 0x13}
 # every check place printed in Appendix B
@@ -36,6 +37,13 @@ LED = {
 }
 # vehicle 3, a coach that was last heard long ago; its right doors are not locked
 COACH = {"R3": {**COMMON, 157: 0, 72: 1, 73: 1}}
+
+# a train at a platform, that of data/train.records with its engine led: tractive and led, coach, coach and sleeping, coach, leading and coach; and what every
+# vehicle of it says, the same at 0 km/h and not towards vehicle 01
+CONSIST = bytes([4 + 8, 2, 2 + 16, 2, 1 + 2])
+STANDING = {**COMMON, 79: 0, 80: 0}
+# the check over octet 20, the doors
+DOORS = 28
 
 
 def added():
@@ -123,6 +131,14 @@ def values_file(kind, values):
     return ("\n".join(lines) + "\n").encode()
 
 
+def platform():
+    """The engine has no doors and says so by the mark; the right doors of vehicle 2 are open; vehicle 4 was last heard when it stopped."""
+    engine = telegram("R2", 2, {"R3": {**STANDING, 69: 1, 156: 0, 157: 0}}, {DOORS: UNDEFINED})
+    trailer = telegram("R1", 2, {"R3": {**STANDING, 65: 1, 66: 1}})
+    locked, opened = (telegram("R3", 2, {"R3": {**STANDING, 157: bit}}) for bit in (1, 0))
+    return store(slot(5800, engine), slot(5900, opened), slot(5500, locked), slot(1000, locked), slot(6000, trailer))
+
+
 def main():
     r1 = telegram("R1", 3, LEADING, {326: FORCED}, True)
     r2 = telegram("R2", 2, LED, {324: FORCED, 330: ERROR})
@@ -134,6 +150,8 @@ def main():
         "scene/2-R2.telegram": r2,
         "scene/3-R3.telegram": r3,
         "scene/train.store": store(slot(6000, r1), slot(7500, r2), slot(1000, r3)),
+        "scene/platform.consist": CONSIST,
+        "scene/platform.store": platform(),
     }, "scene.py")
 
 

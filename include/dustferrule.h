@@ -12,8 +12,8 @@
  *  - with length 0 the pointer is never read or written, but it must not be NULL: pass any non-null pointer.
  *
  * Results: `refusal` is 0, or a number of DF_REFUSALS below; every field that an answer does not use is 0. A refused call changes no
- * octet it was lent. Of the numbers that a call can meet, 1-4 come first, as judging the list meets them, then the lowest; df_christen
- * and the calls on remedy texts say their own order.
+ * octet it was lent. Of the numbers that a call can meet, 1-4 come first, as judging the list meets them, then the lowest; df_christen,
+ * df_doors and the calls on remedy texts say their own order.
  *
  * `form`, behind each list, says how its signal entries are laid out: DF_FORM_1, 16 octets, or DF_FORM_2, 18 octets, of which the last two
  * are a serial number, 0 for none. Any number of 8 bits but 2 is form 1. A list in form 2 answers as the same list without its serial numbers
@@ -57,6 +57,9 @@ enum df_unit { DF_NO_UNIT = 0, DF_KM_PER_HOUR = 1, DF_PERCENT = 2, DF_AMPERE = 3
 /* The levels of table E.1. */
 enum df_level { DF_GATEWAY = 0, DF_VEHICLE = 1 };
 
+/* What is said of the doors of a side: locked, open, or not known. */
+enum df_state { DF_LOCKED = 0, DF_OPEN = 1, DF_UNKNOWN = 2 };
+
 /* The refusals, in the words of document 01 or, as 5, 25, 26 and those from 28 on, after document 02: X(name, number, text). A new one is a line. */
 #define DF_REFUSALS(X) \
     X(LIST_ENDS, 1, "list ends inside a count or a section") \
@@ -92,7 +95,8 @@ enum df_level { DF_GATEWAY = 0, DF_VEHICLE = 1 };
     X(RECORDS_MISFIT, 31, "record area not a whole number of records, or not as many pairs of marks as records") \
     X(SERIAL_SET, 32, "serial number set") \
     X(FORM_OUTPUT, 33, "output not of the needed length") \
-    X(PROFILE, 34, "profile rule broken")
+    X(PROFILE, 34, "profile rule broken") \
+    X(DOOR_MISSING, 35, "door signal missing from the list")
 
 /* The reasons of a reading, likewise. */
 #define DF_REASONS(X) \
@@ -177,6 +181,12 @@ typedef struct { uint32_t found, level, octet, bit, holds; } df_property_row;
 
 /* vehicles: how many marks were written */
 typedef struct { uint32_t refusal; uint64_t vehicles; } df_christened;
+
+/* left, right: a number of df_state; left_set, right_set: the vehicles that kept the side from locked, as of df_members; left_size, right_size: how
+ * many they are */
+typedef struct {
+    uint32_t refusal; uint32_t left; uint64_t carried; uint64_t left_set; uint32_t left_size; uint32_t right; uint64_t right_set; uint32_t right_size;
+} df_doors_summary;
 
 /* report: 1 a report, 0 a request; status: octet 9 */
 typedef struct { uint32_t refusal; uint32_t code; uint32_t report; uint32_t status; } df_e_reading;
@@ -285,6 +295,12 @@ df_property_row df_property(const uint8_t octets[56], uint32_t row);
  * bits are not read. Writes a mark octet for each vehicle, as df_resolve takes them, into the first octets of marks; the others stay. Sleeping is
  * 51/4; tractive 24/0 or 24/1; a coach has any of 50/0, 50/1, 51/0, 51/3 and 51/4. Refusals 31, then 17 and 18. */
 df_christened df_christen(const uint8_t *records, size_t records_len, const uint8_t *pairs, size_t pairs_len, uint8_t marks[63]);
+
+/* What a driver's desk shows of the doors, by octet 20 bits 4, left, and 5, right, of each vehicle that meets an address, 66 for all; marks and
+ * address as of df_resolve. A side is locked exactly if every such vehicle's bit is live and 1, open if any such vehicle's is live and 0, else not known.
+ * The list must have both bits as common signals of width 1. Refusals 1-4, then 5, then 35, then 17-20. */
+df_doors_summary df_doors(const uint8_t *list, size_t list_len, uint8_t form, const uint8_t *store, size_t store_len, uint32_t clock,
+                          const uint8_t *marks, size_t marks_len, uint64_t address);
 
 /* Reads an E-telegram's code, request or report, and octet 9. It has 9 to 1,024 octets, with the code 8A08 up to 2,110. Refusals 21, 22. */
 df_e_reading df_e_read(const uint8_t *telegram, size_t telegram_len);

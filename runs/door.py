@@ -1,6 +1,7 @@
 #!/usr/bin/env python3
 """Holds the crates above the door to it: code that depends on `gateway` calls the library through `gateway` alone, and nothing that
-`gateway` offers has a `requires`. (crates.txt also lists the crates that declare the types at hand, which the language asks for.)"""
+`gateway` offers has a `requires`. A product above it is proved from what its calls promise: it uses no law but of the definitions'
+crate and of `bools`. (crates.txt also lists the crates that declare the types at hand, which the language asks for.)"""
 import glob
 import os
 import re
@@ -8,6 +9,8 @@ import sys
 
 ROOT = os.path.dirname(os.path.dirname(os.path.abspath(__file__)))
 DOOR = "gateway"
+# products above the door that are proved from its promises alone, and whose laws they may use
+PRODUCTS = {"doors": {"paper", "bools"}}
 
 
 def crates():
@@ -38,10 +41,31 @@ def code(text):
     return [(n, line) for n, line in enumerate(text.splitlines(), 1) if not re.match(r"\s*(//|ghost |requires |ensures )", line)]
 
 
+def logic(crate):
+    """What a crate says and proves: its definitions and proofs, and the ghost lines of its code."""
+    for part in ("specs", "proofs"):
+        for path in sorted(glob.glob(os.path.join(ROOT, "crates", crate, part, "**", "*.antt"), recursive=True)):
+            with open(path, encoding="utf-8") as f:
+                yield os.path.relpath(path, ROOT), f.read()
+    yield from sources(crate)
+
+
+def past_promises(product, allowed):
+    """Each law of another crate that a product uses."""
+    for path, text in logic(product):
+        for n, line in enumerate(text.splitlines(), 1):
+            for crate in re.findall(r"\buse Rattle·(\w+)\.proofs\b", line):
+                if crate not in allowed:
+                    yield f"{path}:{n}: {product} uses a law of {crate}"
+
+
 def main():
     listed, bad = crates(), []
+    for product, allowed in PRODUCTS.items():
+        bad += past_promises(product, allowed)
+        bad += [] if DOOR in listed.get(product, []) else [f"crates.txt: {product} does not stand above {DOOR}"]
     library = below(listed, DOOR)
-    above = [name for name, deps in listed.items() if DOOR in deps]
+    above = [name for name, deps in listed.items() if DOOR in deps or name in PRODUCTS]
     for crate in above:
         for path, text in sources(crate):
             for n, line in code(text):

@@ -16,7 +16,7 @@ import time
 import printed
 
 ROOT = printed.ROOT
-PROGRAMS = ("judge", "extends", "compare", "convert", "take", "sweep", "believe", "differ", "marshal", "compose", "relay", "remedies", "write_remedies", "christening")
+PROGRAMS = ("judge", "extends", "compare", "convert", "take", "sweep", "believe", "differ", "marshal", "compose", "relay", "remedies", "write_remedies", "christening", "desk")
 TOOLS = ("sh", "awk", "readlink", "uname")  # what an installed program needs beside itself
 BUILT = ("bin", "stamp")  # of target/: what a run goes by that finds all proved
 OTHER = os.uname().machine != "x86_64"
@@ -24,6 +24,7 @@ COACH, NEXT, WRONG, STORE = "data/coach.list", "data/coach-next.list", "data/coa
 COACH_2, PLAIN, OFF = "data/coach-2.list", "data/plain-coach.list", "data/coach-off.list"
 DOOR, DOOR_OFF, TEXTS = "data/door.telegram", "data/door-off.telegram", "data/door.texts"
 RECORDS = "data/train.records"
+PLATFORM, CONSIST = "data/scene/platform.store", "data/scene/platform.consist"
 OK = "list ok checks=48 signals=165 codes=41 routes=14 version=2\n"
 OK_PLAIN = "list ok profile=plain-coach checks=11 signals=64 codes=3 routes=14 version=2\n"
 OFF_PAGE = "! changed  R1 octet 54 bits 0-3  check octet 41 bits 2-3 -> octet 41 bits 4-5  breaks extending: check place\nextends: no\n"
@@ -128,6 +129,13 @@ def statuses(how, start, env=None):
     end(1, ["christening", RECORDS, "led", "2"], err="refused 18: ")
     end(2, ["christening", RECORDS, "led", "6"], err="error: vehicle '6': ")
     end(2, ["christening", "data/none"], err="error: RECORDS 'data/none': ")
+    with open(os.path.join(ROOT, "crates", "desk", "stdout"), encoding="utf-8") as f:
+        end(0, ["desk", COACH, PLATFORM, "7000", CONSIST], f.read())
+    end(0, ["desk", COACH_2, PLATFORM, "6000", CONSIST, "92", "form2"], "LEFT   LOCKED\nRIGHT  LOCKED\n")
+    end(1, ["desk", "data/L.list", PLATFORM, "7000", CONSIST], err="refused 35: ")
+    end(1, ["desk", COACH, PLATFORM, "7000", CONSIST, "63"], err="refused 20: ")
+    end(2, ["desk", COACH, PLATFORM, "7000", CONSIST, "coaches"], err="error: ADDRESS 'coaches': ")
+    end(2, ["desk", COACH, PLATFORM, "7000", "data/none"], err="error: CONSIST 'data/none': ")
     end(2, ["differ", COACH, STORE, STORE, "9000"], err="refused ")
     end(2, ["differ", COACH, "data/none", STORE, "9000"], err="error: ")
     for name in PROGRAMS:
@@ -220,6 +228,12 @@ def standard_input():
         with open(os.path.join(ROOT, "crates", "christening", "stdout"), encoding="utf-8") as f:
             ends("christening of -", given(RECORDS, "christening", "-", "led", "1", "leading", "5"), 0, f.read())
         ends("christening of a vehicle -", given(RECORDS, "christening", RECORDS, "led", "-"), 2, err="error: '-' ")
+        with open(os.path.join(ROOT, "crates", "desk", "stdout"), encoding="utf-8") as f:
+            page = f.read()
+        for k, file in enumerate((COACH, PLATFORM, None, CONSIST)):
+            words = [COACH, PLATFORM, "7000", CONSIST]
+            words[k] = "-"
+            ends(f"desk of -, word {k + 1}", given(file or COACH, "desk", *words), *((0, page) if file else (2, None, "error: '-' ")))
         ends("write_remedies of -", given(TEXTS, "write_remedies", "-", "door", folder=folder), 0, "written in de: 4 texts, 470 octets\n")
         ends("relay of -", given(STORE, "relay", "coach.list", "-", "7000", "1", "passed", folder=folder), 0, "relayed R1 version 2 octets 128, live 128 of 129 signals\n")
 

@@ -3,7 +3,7 @@
 need python3 python3
 need git git
 jobs=()
-for table in judge extends comparing programs remedies christening driven writers; do
+for table in judge extends comparing programs remedies christening desk driven writers; do
     python3 "runs/$table.py" &
     jobs+=($!)
 done

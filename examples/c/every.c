@@ -458,6 +458,80 @@ static void christened(void)
     expect("df_property, no row", property(0, 0, 0, 0, 0, 0) && property(133, 0, 0, 0, 0, 0) && property(UINT32_MAX, 0, 0, 0, 0, 0));
 }
 
+/* octet 20 bits 4 and 5, the left door under octet 3 bits 0-1, the right under bits 2-3, each for 5,000 ms */
+static const uint8_t D[44] = {0, 2, 0, 16, 0, 18, 0, 2, 0, 156, 1, 0, 1, 1, 0, 0, 0x13, 0x88, 0, 0, 0, 0, 0, 0,
+                              0, 157, 1, 0, 2, 1, 0, 0, 0x13, 0x88, 0, 0, 0, 0, 0, 0, 0, 0, 0, 0};
+
+/* every field is looked at */
+static int desk(df_doors_summary d, uint32_t left, uint64_t left_set, uint32_t left_size, uint32_t right, uint64_t right_set, uint32_t right_size)
+{
+    return !d.refusal && !d.carried && d.left == left && d.left_set == left_set && d.left_size == left_size && d.right == right &&
+           d.right_set == right_set && d.right_size == right_size;
+}
+
+static int no_desk(df_doors_summary d, uint32_t refusal, uint64_t carried)
+{
+    return d.refusal == refusal && d.carried == carried && !d.left && !d.left_set && !d.left_size && !d.right && !d.right_set && !d.right_size;
+}
+
+/* a vehicle heard at 1000 with these octets 3 and 20 */
+static void door_says(uint8_t *store, uint64_t vehicle, uint8_t octet_3, uint8_t octet_20)
+{
+    uint8_t r3[40] = {0x13, 1, octet_3};
+    r3[19] = octet_20;
+    expect("df_take, of doors", !df_take(store, DF_STORE_OCTETS, vehicle, 1000, r3, sizeof r3).refusal);
+}
+
+static df_doors_summary at_desk(const uint8_t *store, uint32_t clock, const char *marks, size_t len, uint64_t address)
+{
+    return df_doors(D, sizeof D, DF_FORM_1, store, DF_STORE_OCTETS, clock, (const uint8_t *)marks, len, address);
+}
+
+/* an engine, a coach and a sleeping car */
+static const char three[3] = {1 | 4, 2, 2 | 16};
+
+static void doors(void)
+{
+    static uint8_t store[DF_STORE_OCTETS];
+    uint8_t many[63] = {0}, wide[sizeof D + 4];
+    expect("df_doors, never heard", desk(at_desk(store, 6000, three, 3, 66), DF_UNKNOWN, 14, 3, DF_UNKNOWN, 14, 3));
+    df_doors_summary d = df_doors(D, sizeof D, DF_FORM_1, store, sizeof store, 6000, many, sizeof many, 66);
+    expect("df_doors, 63 vehicles", desk(d, DF_UNKNOWN, UINT64_MAX - 1, 63, DF_UNKNOWN, UINT64_MAX - 1, 63));
+    door_says(store, 1, 0x50, 0x0C), door_says(store, 2, 0xA0, 0x0C), door_says(store, 3, 0x50, 0x0C);
+    expect("df_doors, locked", desk(at_desk(store, 6000, three, 3, 66), DF_LOCKED, 0, 0, DF_LOCKED, 0, 0));
+    expect("df_doors, too old", desk(at_desk(store, 6001, three, 3, 66), DF_UNKNOWN, 14, 3, DF_UNKNOWN, 14, 3));
+    door_says(store, 3, 0x50, 0x08);
+    expect("df_doors, open", desk(at_desk(store, 6000, three, 3, 66), DF_LOCKED, 0, 0, DF_OPEN, 8, 1));
+    expect("df_doors, without it", desk(at_desk(store, 6000, three, 2, 66), DF_LOCKED, 0, 0, DF_LOCKED, 0, 0));
+    /* error on the left, forced open on the right */
+    door_says(store, 1, 0x20, 0x08);
+    expect("df_doors, both", desk(at_desk(store, 6000, three, 3, 66), DF_UNKNOWN, 2, 1, DF_OPEN, 2 | 8, 2));
+    expect("df_doors, one never heard", desk(at_desk(store, 6000, "\5\2\22\2", 4, 66), DF_UNKNOWN, 2 | 16, 2, DF_OPEN, 2 | 8 | 16, 3));
+    expect("df_doors, the coaches", desk(at_desk(store, 6000, three, 3, 67), DF_LOCKED, 0, 0, DF_OPEN, 8, 1));
+    expect("df_doors, vehicle 2", desk(at_desk(store, 6000, three, 3, 2), DF_LOCKED, 0, 0, DF_LOCKED, 0, 0));
+    df_outcome o = df_to_form_2(D, sizeof D, wide, sizeof wide);
+    wide[24] = 1;
+    d = df_doors(wide, sizeof wide, DF_FORM_2, store, sizeof store, 6000, (const uint8_t *)three, 3, 66);
+    expect("df_doors, form 2", !o.refusal && desk(d, DF_UNKNOWN, 2, 1, DF_OPEN, 2 | 8, 2));
+}
+
+/* each refusal before all that come behind it */
+static void no_doors(void)
+{
+    static uint8_t store[DF_STORE_OCTETS];
+    static const uint8_t none[1] = {0};
+    expect("df_doors, nobody", no_desk(at_desk(store, 6000, "", 0, 68), DF_REFUSAL_CONSIST_LENGTH, 0));
+    expect("df_doors, two lead", no_desk(at_desk(store, 6000, "\1\1", 2, 68), DF_REFUSAL_CONSIST_RULE, 0));
+    expect("df_doors, address 68", no_desk(at_desk(store, 6000, three, 3, 68), DF_REFUSAL_ADDRESS_UNLISTED, 0));
+    expect("df_doors, nobody led", no_desk(at_desk(store, 6000, three, 3, 65), DF_REFUSAL_NOBODY_MEETS, 0));
+    df_doors_summary d = df_doors(L, sizeof L, DF_FORM_1, store, sizeof store, 6000, none, 0, 68);
+    expect("df_doors, no door", no_desk(d, DF_REFUSAL_DOOR_MISSING, 0));
+    d = df_doors(L, sizeof L, DF_FORM_1, store, sizeof store - 1, 6000, none, 0, 68);
+    expect("df_doors, no store", no_desk(d, DF_REFUSAL_STORE_LENGTH, 0));
+    d = df_doors(L, sizeof L - 1, DF_FORM_1, store, sizeof store - 1, 6000, none, 0, 68);
+    expect("df_doors, list refused", no_desk(d, DF_REFUSAL_LIST_ENDS, 36));
+}
+
 /* octets 1-6 and 9-20, and two texts: "test" under F3, and an empty one under F8 */
 static const uint8_t front[6] = {1, 2, 3, 4, 5, 6}, behind[12] = {9, 10, 11, 12, 13, 14, 15, 16, 17, 18, 19, 20}, keys[3] = {3, 8, 8};
 static const uint16_t lengths[3] = {4, 0, 0};
@@ -536,6 +610,7 @@ static void texts(void)
     expect("df_refusal_text", !strncmp(df_refusal_text(31), "record area not a whole number of records", 41) && DF_REFUSAL_RECORDS_MISFIT == 31);
     expect("df_refusal_text", !strcmp(df_refusal_text(33), "output not of the needed length") && DF_REFUSAL_FORM_OUTPUT == 33);
     expect("df_refusal_text", !strcmp(df_refusal_text(34), "profile rule broken") && DF_REFUSAL_PROFILE == 34);
+    expect("df_refusal_text", !strcmp(df_refusal_text(35), "door signal missing from the list") && DF_REFUSAL_DOOR_MISSING == 35);
     expect("df_refusal_text", !strcmp(df_refusal_text(DF_NOT_REFUSED), "not refused") && df_refusal_text(UINT32_MAX));
     expect("df_reason_text", !strcmp(df_reason_text(DF_REASON_LIVE_OK), "live ok") && df_reason_text(UINT32_MAX));
     expect("df_reason_text", !strcmp(df_reason_text(8), "code not known") && DF_REASON_CODE_NOT_KNOWN == 8);
@@ -556,6 +631,8 @@ int main(void)
     passed_on();
     train();
     christened();
+    doors();
+    no_doors();
     remedies();
     written();
     texts();

@@ -23,13 +23,14 @@ use Rattle.paper.specs.Shown.{Kind, ShownReading, showing}
 use Rattle.paper.specs.Train.{Vehicle, Members, resolving}
 use Rattle.paper.specs.ETelegrams.{EReading, eReading, answering}
 use Rattle.paper.specs.Christening.{Pair, christening}
+use Rattle.paper.specs.Doors.{Doors, doors}
 use Rattle.paper.specs.Remedies.{Remedies, remedyReading, Remedy, remedyBlock, Handed, WrittenRemedies, remedyWriting}
 use Rattle.paper.proofs.RefusalLaws as laws
 use Rattle.dustferrule.specs.declared.DfOutcome.{DfOutcome}
 use Rattle.dustferrule.specs.declared.DfMarshalled.{DfMarshalled}
 use Rattle.dustferrule.specs.declared.DfChristened.{DfChristened}
 use Rattle.dustferrule.specs.declared.DfWrote.{DfWrote}
-use Rattle.dustferrule.specs.Results.{outcomeC, judgedC, extendingC, changeC, rangeC, entryC, foundC, serialC, gapC, livesC, placeC, readingC, shownC, membersC, eReadC, remediesC, christenedC, remedyC, wroteC, WrittenC, DeliveredC, ChristenedC, WroteC}
+use Rattle.dustferrule.specs.Results.{outcomeC, judgedC, extendingC, changeC, rangeC, entryC, foundC, serialC, gapC, livesC, placeC, readingC, shownC, membersC, eReadC, remediesC, christenedC, doorsC, remedyC, wroteC, WrittenC, DeliveredC, ChristenedC, WroteC}
 
 -- ---- each result, of any answer
 
@@ -82,6 +83,9 @@ shown-given = laws.zero-given (λ a. shownC a .refusal) (λ a. refl) (λ n at. r
 
 pub members-given : (a : Answer Members) → Numbered a → (membersC a .refusal ≡ 0) ↔ Given a
 members-given = laws.zero-given (λ a. membersC a .refusal) (λ a. refl) (λ n at. refl)
+
+pub summary-given : (a : Answer Doors) → Numbered a → (doorsC a .refusal ≡ 0) ↔ Given a
+summary-given = laws.zero-given (λ a. doorsC a .refusal) (λ a. refl) (λ n at. refl)
 
 pub e-reading-given : (a : Answer EReading) → Numbered a → (eReadC a .refusal ≡ 0) ↔ Given a
 e-reading-given = laws.zero-given (λ a. eReadC a .refusal) (λ a. refl) (λ n at. refl)
@@ -195,6 +199,10 @@ show-given form xs store now v k kind = shown-given _ (laws.numbered-showing for
 
 pub resolve-given : (train : List Vehicle) (a : ℕ) → (membersC (resolving train a) .refusal ≡ 0) ↔ Given (resolving train a)
 resolve-given train a = members-given _ (laws.numbered-resolving train a)
+
+pub doors-given : (form : ℕ) (xs store : List ℕ) (now : ℕ) (train : List Vehicle) (a : ℕ)
+    → (doorsC (doors form xs store now train a) .refusal ≡ 0) ↔ Given (doors form xs store now train a)
+doors-given form xs store now train a = summary-given _ (laws.numbered-doors form xs store now train a)
 
 pub e-read-given : (telegram : List ℕ) → (eReadC (eReading telegram) .refusal ≡ 0) ↔ Given (eReading telegram)
 e-read-given telegram = e-reading-given _ (laws.numbered-e-reading telegram)

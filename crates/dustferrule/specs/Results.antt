@@ -18,6 +18,7 @@ use Rattle.paper.specs.Octets.{over}
 use Rattle.paper.specs.Train.{Vehicle, Members}
 use Rattle.train.specs.Marks.{octetOf}
 use Rattle.paper.specs.Christening.{Level, gateway, vehicle, Held}
+use Rattle.paper.specs.Doors.{State, locked, opened, unknown, Doors}
 use Rattle.paper.specs.ETelegrams.{EReading}
 use Rattle.paper.specs.Remedies.{Remedies, Remedy, WrittenRemedies}
 use Rattle.dustferrule.specs.declared.DfOutcome.{DfOutcome}
@@ -36,6 +37,7 @@ use Rattle.dustferrule.specs.declared.DfShown.{DfShown}
 use Rattle.dustferrule.specs.declared.DfMembers.{DfMembers}
 use Rattle.dustferrule.specs.declared.DfProperty.{DfProperty}
 use Rattle.dustferrule.specs.declared.DfChristened.{DfChristened}
+use Rattle.dustferrule.specs.declared.DfDoors.{DfDoors}
 use Rattle.dustferrule.specs.declared.DfERead.{DfERead}
 use Rattle.dustferrule.specs.declared.DfRemedies.{DfRemedies}
 use Rattle.dustferrule.specs.declared.DfRemedy.{DfRemedy}
@@ -170,6 +172,26 @@ propertyC nothing = record { found = 0; level = 0; octet = 0; bit = 0; holds = 0
 abbrev pub christenedC : Answer ℕ → DfChristened
 christenedC (gives n) = record { refusal = 0; vehicles = n }
 christenedC (refused n at) = record { refusal = n; vehicles = 0 }
+
+abbrev pub stateC : State → ℕ
+stateC locked = 0
+stateC opened = 1
+stateC unknown = 2
+
+abbrev pub doorsC : Answer Doors → DfDoors
+doorsC (gives d) =
+    record {
+      refusal = 0;
+      left = stateC (d .left .state);
+      carried = 0;
+      «left_set» = d .left .kept .set;
+      «left_size» = d .left .kept .size;
+      right = stateC (d .right .state);
+      «right_set» = d .right .kept .set;
+      «right_size» = d .right .kept .size;
+    }
+doorsC (refused n at) =
+    record { refusal = n; left = 0; carried = at; «left_set» = 0; «left_size» = 0; right = 0; «right_set» = 0; «right_size» = 0 }
 
 abbrev pub eReadC : Answer EReading → DfERead
 eReadC (gives r) = record { refusal = 0; code = r .code; report = yesNo (r .report); status = r .status }

@@ -19,6 +19,7 @@ ghost use Rattle.paper.specs.Relaying.{relaying};
 ghost use Rattle.paper.specs.Shown.{showing};
 ghost use Rattle.paper.specs.Train.{resolving};
 ghost use Rattle.paper.specs.Christening.{christening, propertyOf};
+ghost use Rattle.paper.specs.Doors.{doors};
 ghost use Rattle.paper.specs.ETelegrams.{eReading, answering};
 ghost use Rattle.paper.specs.Remedies.{areaBlocks, remedyReading, remedyBlock, remedyWriting};
 ghost use Rattle.refusals.specs.Refusal.{numberOf, carriedOf};
@@ -36,10 +37,13 @@ ghost use Rattle.reading.specs.Reading.{readAnswer};
 ghost use Rattle.shown.specs.Show.{kindOf, shownOf, showingAnswer};
 ghost use Rattle.train.specs.Marks.{vehicleOf, resolvedAnswer};
 ghost use Rattle.records.specs.Records.{pairOf, heldAnswer, levelAs, christenedAnswer};
+ghost use Rattle.doors.specs.Doors.{stateAs, summaryAnswer};
 ghost use Rattle.etelegrams.specs.Answers.{eReadAnswer};
 ghost use Rattle.texts.specs.Texts.{readAnswer as remediesAnswer, remedyAnswer};
 ghost use Rattle.textwriting.specs.Writing.{handedOf, wroteAnswer};
-ghost use Rattle.dustferrule.specs.Results.{yesNo, profileNumbered, changeRefused, changeC, rangeRefused, rangeC, kindNumbered, codeOf, unitOf, floatOf, outcomeC, judgedC, extendingC, entryC, foundC, serialC, gapC, livesC, placeC, readingC, shownC, membersC, levelC, propertyC, christenedC, eReadC, remediesC, remedyC, wroteC, WrittenC, DeliveredC, ChristenedC, WroteC};
+ghost use Rattle.dustferrule.specs.Results.{yesNo, profileNumbered, changeRefused, changeC, rangeRefused, rangeC, kindNumbered, codeOf, unitOf, floatOf, outcomeC, judgedC, extendingC, entryC, foundC, serialC, gapC, livesC, placeC, readingC, shownC, membersC, levelC, propertyC, christenedC, stateC, doorsC, eReadC, remediesC, remedyC, wroteC, WrittenC, DeliveredC, ChristenedC, WroteC};
+use doors::State;
+use doors::SummaryOutcome;
 use gateway::Changes;
 use gateway::Christened;
 use gateway::ERead;
@@ -205,6 +209,19 @@ pub struct DfProperty {
 pub struct DfChristened {
     pub refusal: u32,
     pub vehicles: u64,
+}
+
+// left, right: 0 locked, 1 open, 2 not known; the vehicles that kept the side from locked, as in DfMembers.
+#[repr(C)]
+pub struct DfDoors {
+    pub refusal: u32,
+    pub left: u32,
+    pub carried: u64,
+    pub left_set: u64,
+    pub left_size: u32,
+    pub right: u32,
+    pub right_set: u64,
+    pub right_size: u32,
 }
 
 #[repr(C)]
@@ -691,6 +708,49 @@ fn christened_c(o: Christened) -> DfChristened
     }
 }
 
+fn state_c(s: State) -> u32
+    ensures { λ r. ⌜ r ≡ stateC (stateAs s) ⌝ }
+{
+    match s {
+        State::Locked => 0,
+        State::Open => 1,
+        State::Unknown => 2,
+    }
+}
+
+fn doors_c(o: SummaryOutcome) -> DfDoors
+    ensures { λ r. ⌜ r ≡ doorsC (summaryAnswer o) ⌝ }
+{
+    match o {
+        SummaryOutcome::Doors(d) => {
+            let left = d.left;
+            let right = d.right;
+            let left_state = left.state;
+            let right_state = right.state;
+            DfDoors {
+                refusal: 0,
+                left: state_c(left_state),
+                carried: 0,
+                left_set: left.kept,
+                left_size: left.size,
+                right: state_c(right_state),
+                right_set: right.kept,
+                right_size: right.size,
+            }
+        }
+        SummaryOutcome::Refused(f) => DfDoors {
+            refusal: number(f),
+            left: 0,
+            carried: carried(f),
+            left_set: 0,
+            left_size: 0,
+            right: 0,
+            right_set: 0,
+            right_size: 0,
+        },
+    }
+}
+
 fn e_read_c(o: ERead) -> DfERead
     ensures { λ r. ⌜ r ≡ eReadC (eReadAnswer o) ⌝ }
 {
@@ -981,6 +1041,20 @@ pub extern "C" fn df_christen(records: &[u8], pairs: &[u8], marks: &mut [u8; 63]
     ensures { λ r. ⌜ ChristenedC (christening (now (records .entry)) (map pairOf (now (pairs .entry)))) (now (marks .entry)) r (now (marks .exit)) ⌝ }
 {
     christened_c(gateway::christen(records, pairs, marks))
+}
+
+#[no_mangle]
+pub extern "C" fn df_doors(
+    list: &[u8],
+    form: u8,
+    store: &[u8],
+    clock: u32,
+    marks: &[u8],
+    address: u64,
+) -> DfDoors
+    ensures { λ r. ⌜ r ≡ doorsC (doors form (now (list .entry)) (now (store .entry)) clock (map vehicleOf (now (marks .entry))) address) ⌝ }
+{
+    doors_c(doors::summary(list, form, store, clock, marks, address))
 }
 
 #[no_mangle]

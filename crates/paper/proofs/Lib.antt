@@ -32,4 +32,6 @@ pub mod RangeLaws
 pub mod ComparingLaws
 pub mod RemedyLaws
 pub mod ChristeningLaws
+pub mod SetLaws
+pub mod DoorsLaws
 pub mod TrueClock

@@ -25,6 +25,7 @@ use Rattle.paper.specs.Profiles.{Profile, breachIn, unlessBreach, profil
 use Rattle.paper.specs.Shown.{Kind, showing}
 use Rattle.paper.specs.Train.{Vehicle, resolving}
 use Rattle.paper.specs.Christening.{Pair, christening}
+use Rattle.paper.specs.Doors.{doors}
 use Rattle.paper.specs.Remedies.{blockCount, start, blockFault, firstFault, refuseBy, remediesOf, remedyReading, remedyBlock, Handed, handedFault, writtenOf, remedyWriting}
 use Rattle.paper.specs.ETelegrams.{eReading, answering}
 use Rattle.paper.specs.Extends.{extends, extendsLists}
@@ -230,6 +231,12 @@ pub numbered-christening : (area : List ℕ) (pairs : List Pair) → Numbered (c
 unfolding christening
 numbered-christening area pairs =
     numbered-if _ 31 _ _ (omega arith) (numbered-if _ 17 _ _ (omega arith) (numbered-if _ 18 _ _ (omega arith) (numbered-gives _)))
+
+pub numbered-doors : (form : ℕ) (xs store : List ℕ) (now : ℕ) (train : List Vehicle) (a : ℕ) → Numbered (doors form xs store now train a)
+unfolding doors
+numbered-doors form xs store now train a =
+    numbered-under form xs _ (λ n.
+    numbered-if _ 5 _ _ (omega arith) (numbered-if _ 35 _ _ (omega arith) (numbered-map _ _ (numbered-resolving train a))))
 
 pub numbered-e-reading : (telegram : List ℕ) → Numbered (eReading telegram)
 unfolding eReading

@@ -18,6 +18,7 @@ pub mod Widths
 pub mod Shown
 pub mod Train
 pub mod Christening
+pub mod Doors
 pub mod ETelegrams
 pub mod Remedies
 pub mod Demands

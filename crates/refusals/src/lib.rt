@@ -77,6 +77,8 @@ impl Refusal {
     pub const SERIAL_SET: Refusal = Refusal(32, 0);
 
     pub const FORM_OUTPUT: Refusal = Refusal(33, 0);
+
+    pub const DOOR_MISSING: Refusal = Refusal(35, 0);
 }
 
 // The paper's number.

@@ -24,6 +24,7 @@ use Rattle.paper.specs.Train.{Vehicle, Members, resolving}
 use Rattle.paper.specs.Christening as E1
 use Rattle.paper.specs.Christening.{Level, christening, propertyOf}
 use Rattle.paper.specs.Christening.{Held as Row, Pair as MarkPair}
+use Rattle.paper.specs.Doors.{State, locked, opened, unknown, Side, Doors, doors}
 use Rattle.paper.specs.ETelegrams.{EReading, eReading, answering}
 use Rattle.paper.specs.Remedies.{Remedies, remedyReading, Remedy, remedyBlock, remedyText, Blocks, blocksOf, areaBlocks, Handed, WrittenRemedies, remedyWriting}
 
@@ -124,6 +125,8 @@ pub data Question : Type 0 where
   -- christening records and pairs of marks; a record and a row of table E.1
   christens : List ℕ → List MarkPair → Question
   asksRow : List ℕ → ℕ → Question
+  -- a list, a store, the clock, a consist and an address, of which the doors are asked for
+  asksDoors : List ℕ → List ℕ → ℕ → List Vehicle → ℕ → Question
   -- an E-telegram
   eReads : List ℕ → Question
   -- an E-telegram, a head, a status and an output
@@ -269,6 +272,18 @@ ofLevel E1.vehicle = 1
 abbrev pub ofRow : Row → List ℕ
 ofRow h = h .property .row ∷ ofLevel (h .property .level) ∷ h .property .octet ∷ h .property .bit ∷ yes-no (h .holds) ∷ []
 
+-- state (0 locked, 1 open, 2 not known), the set that kept it from locked and its size
+abbrev pub ofState : State → ℕ
+ofState locked = 0
+ofState opened = 1
+ofState unknown = 2
+
+abbrev pub ofSide : Side → List ℕ
+ofSide s = ofState (s .state) ∷ ofMembers (s .kept)
+
+abbrev pub ofDoors : Doors → List ℕ
+ofDoors d = ofSide (d .left) ++ ofSide (d .right)
+
 abbrev pub ofRemedies : Remedies → List ℕ
 ofRemedies m = m .language ∷ m .ordered ∷ m .count ∷ []
 
@@ -326,6 +341,7 @@ ask (showsIn form xs store now v k kind) = said ofShownReading (showing form xs 
 ask (resolves train a) = said ofMembers (resolving train a)
 ask (christens area pairs) = said (map ofVehicle) (christening area pairs)
 ask (asksRow octets row) = gave (ofSought ofRow (propertyOf octets row))
+ask (asksDoors xs store now train a) = said ofDoors (doors 1 xs store now train a)
 ask (eReads telegram) = said ofERead (eReading telegram)
 ask (eAnswers telegram head status out) = wroteAll out (answering telegram head status out)
 ask (remedyReads telegram) = said ofRemedies (remedyReading telegram)

@@ -6,4 +6,5 @@ pub mod RelayCases
 pub mod CompareCases
 pub mod RemedyCases
 pub mod RecordCases
+pub mod DoorCases
 pub mod Wrong

@@ -31,11 +31,13 @@ use Rattle.paper.specs.Shown.{Kind, speed, percentage, signedPercentage, showin
 use Rattle.paper.specs.Shown as Shown
 use Rattle.paper.specs.Train.{Vehicle, consistRule, meets, member, setTo, membersOf, resolving}
 use Rattle.paper.specs.ETelegrams.{requests, isRequest, isReport, eLimit, eReading, answerTo, answering}
+use Rattle.paper.specs.Doors.{stateOf, sideOf, doorsOf, doors}
 use Rattle.paper.specs.Christening.{properties, described, vehiclesOf, christening, rowIn, propertyOf}
 use Rattle.paper.specs.Remedies.{start, twice, blockFault, firstFault, remedyReading, remedyBlock, remedyText, areaTo, blockOctets, blocksTo, frontOctets, telegramOf, sizeTo, handedFault, remedyWriting}
 use Rattle.paper.specs.Bench.{listL, listL2, listV, telegram, silent}
 use Rattle.tables.specs.Marked.{heardAt, rawAt}
-use Rattle.tables.specs.Cases.{joined, made, made2, bits, signal, code, route, Question, judges, judgesIn, faults, faultsIn, profilesIn, profiles, breaches, extends, extendsIn, serialsIn, movesTo2, movesTo1, readsIn, signalEntries, routeEntries, finds, pairs, signalChangesIn, changes, reroutes, gains, places, takes, gaps, sweeps, holds, reads, marshals, composes, relays, shows, resolves, eReads, eAnswers, gave, refuses, ask, christens, asksRow, remedyReads, remedyBlocks, remedyWrites, textsWrites}
+use Rattle.tables.specs.Cases.{joined, made, made2, bits, signal, code, route, Question, judges, judgesIn, faults, faultsIn, profilesIn, profiles, breaches, extends, extendsIn, serialsIn, movesTo2, movesTo1, readsIn, signalEntries, routeEntries, finds, pairs, signalChangesIn, changes, reroutes, gains, places, takes, gaps, sweeps, holds, reads, marshals, composes, relays, shows, resolves, eReads, eAnswers, gave, refuses, ask, christens, asksRow, asksDoors, remedyReads, remedyBlocks, remedyWrites, textsWrites}
+use Rattle.tables.specs.DoorCases.{doorList, threeBits, otherList, checkedList, doorBit, saidBy, markedBy, aCoach, anEngine, summary, coaches, bothSides}
 use Rattle.tables.specs.RecordCases.{blank, only, unmarked, leads, follows, alone}
 use Rattle.tables.specs.RemedyCases.{front, twoTexts, but, long, write}
 
@@ -676,6 +678,22 @@ table =
     ∷ asked-as "property-of-the-next-row" (asksRow (only 50 0) 1) (gave (1 ∷ 1 ∷ 1 ∷ 50 ∷ 0 ∷ 1 ∷ [])) (asksRow (only 50 0) 2) (gave (1 ∷ 2 ∷ 1 ∷ 50 ∷ 1 ∷ 0 ∷ []))
     ∷ saying "gateway-s-as-the-vehicle-s" (asksRow (only 22 0) 17) (gave (1 ∷ 17 ∷ 0 ∷ 22 ∷ 0 ∷ 1 ∷ [])) (gave (1 ∷ 17 ∷ 1 ∷ 22 ∷ 0 ∷ 1 ∷ []))
     ∷ asked-as "rows-without-a-gap" (asksRow blank 133) (gave (0 ∷ [])) (asksRow blank 141) (gave (1 ∷ 141 ∷ 1 ∷ 54 ∷ 1 ∷ 0 ∷ []))
+    -- the doors: who is asked, what a side says, who kept it from locked; 35 behind 5 and before 17
+    ∷ saying "unheard-vehicle-skipped" (summary (saidBy 1 0x0C silent) coaches 66) (bothSides 2 4 1 2 4 1) (bothSides 0 0 0 0 0 0)
+    ∷ saying "locked-of-nobody" (summary silent coaches 64) (refuses 20 0) (bothSides 0 0 0 0 0 0)
+    ∷ saying "open-hidden-by-not-known" (summary (saidBy 1 0 silent) coaches 66) (bothSides 1 6 2 1 6 2) (bothSides 2 6 2 2 6 2)
+    ∷ saying "sides-exchanged" (summary (saidBy 1 0x04 silent) (aCoach ∷ []) 66) (bothSides 1 2 1 0 0 0) (bothSides 0 0 0 1 2 1)
+    ∷ saying "bits-5-and-6-read" (asksDoors threeBits (saidBy 1 0x0C silent) 5000 (aCoach ∷ []) 66) (bothSides 0 0 0 0 0 0) (bothSides 0 0 0 1 2 1)
+    ∷ saying "set-of-the-fine" (summary (saidBy 1 0x0C (saidBy 2 0x04 silent)) coaches 66) (bothSides 1 4 1 0 0 0) (bothSides 1 2 1 0 6 2)
+    ∷ saying "forced-holds-up" (asksDoors checkedList (markedBy 0x08) 5000 (aCoach ∷ []) 66) (bothSides 0 0 0 0 0 0) (bothSides 2 2 1 2 2 1)
+    ∷ saying "not-live-is-open" (summary silent (aCoach ∷ []) 66) (bothSides 2 2 1 2 2 1) (bothSides 1 2 1 1 2 1)
+    ∷ asked-as "all-asked-at-an-address"
+    (summary (saidBy 2 0x0C silent) (anEngine ∷ aCoach ∷ []) 67) (bothSides 0 0 0 0 0 0)
+    (summary (saidBy 2 0x0C silent) (anEngine ∷ aCoach ∷ []) 66) (bothSides 2 2 1 2 2 1)
+    ∷ saying "vehicle-outside-the-train" (summary (saidBy 1 0x0C (saidBy 2 0 silent)) (aCoach ∷ []) 66) (bothSides 0 0 0 0 0 0) (bothSides 1 4 1 1 4 1)
+    ∷ saying "seventeen-before-a-door" (asksDoors (otherList (doorBit 156 1) (doorBit 158 1)) silent 0 [] 66) (refuses 35 0) (refuses 17 0)
+    ∷ saying "thirty-five-before-5" (asksDoors (otherList (doorBit 156 1) (doorBit 158 1)) [] 0 coaches 66) (refuses 5 0) (refuses 35 0)
+    ∷ saying "door-of-two-bits" (asksDoors (otherList (doorBit 156 1) (doorBit 157 2)) silent 0 coaches 66) (refuses 35 0) (bothSides 2 6 2 2 6 2)
     -- E-telegrams: code, report or not, octet 9; the answer's octets
     ∷ asked-as "code-missing" (eReads (e-telegram 0x4047 9)) (gave (0x4047 ∷ 0 ∷ 9 ∷ [])) (eReads (e-telegram 0x4048 9)) (refuses 22 0)
     ∷ saying "octet-8-for-9" (eReads (e-telegram 0x1012 9)) (gave (0x1012 ∷ 0 ∷ 9 ∷ [])) (gave (0x1012 ∷ 0 ∷ 0x12 ∷ []))
@@ -771,6 +789,7 @@ unfolding table bits answered sameNumbers joined made made2 ask listL listL2 lis
     routeEntry signalFound finding has index nextPair pairing starts past changeAt codesCompared gained signalDiffers signalChange breaks routeDiffers routeChange nextSignal nextRoute nextGained signalChanges routeChanges codesGained slotOf taken taking age gap gapping stale sweptOne sweptTo sweeping heard heldIn holding markOf codeOf hindrances reasonOf readingOf
     readingAt reading routed marshalled live marshalling headed composed markFits valueFits composing relayType readLive under allLive vouched relayMark relayValue relaying underTable signalBroken routeBroken firstBreach breachIn breachOf profiling listed showing ofBits round toBits consistRule meets member
     setTo membersOf resolving requests isRequest isReport eLimit eReading answerTo answering
+    doorList threeBits otherList checkedList stateOf sideOf doorsOf doors
     properties described vehiclesOf christening rowIn propertyOf
     twoTexts start twice blockFault firstFault remedyReading remedyBlock remedyText areaTo blockOctets blocksTo frontOctets telegramOf sizeTo handedFault remedyWriting
 wrong = refl

@@ -19,7 +19,7 @@ use Rattle.refusals.proofs.Laws.{numbered, numbered-of}
 use Rattle.train.specs.declared.Resolved.{Resolved}
 use Rattle.train.specs.declared.Resolved.the-variants as R
 use Rattle.train.specs.Marks.{resolvedAnswer}
-use Rattle.train.proofs.Sets.{set-lt, bits, even}
+use Rattle.paper.proofs.SetLaws.{set-lt, bits, even}
 
 -- bit v of the set is 1 exactly if vehicle v is in the train and meets the address
 pub set-bits : (train : List Vehicle) (a v : ℕ) → membersOf train a .set / 2 ^ v % 2 ≡ cond (leb 1 v && leb v (length train) && member train a v) 1 0

@@ -15,7 +15,8 @@ use Rattle.paper.specs.First.{firstBad, all, count}
 use Rattle.paper.proofs.FirstLaws.{all-true, all-false, all-at, not-all, first-fails}
 use Rattle.paper.specs.Train.{noVehicle, meets, member, setTo}
 use Rattle.train.specs.Marks.{vehicleOf, meetsOf, withMark, above, setOf}
-use Rattle.train.proofs.Sets.{above-one, set-same}
+use Rattle.paper.proofs.SetLaws.{set-same}
+use Rattle.train.proofs.Sets.{above-one}
 
 pub map-length : (marks : List ℕ) → length (map vehicleOf marks) ≡ length marks
 map-length marks = length-map marks vehicleOf

@@ -127,12 +127,15 @@ fn say_taking_refusal(line: Line, number: u8) -> Line {
     }
 }
 
-// Of a train that christening records describe.
+// Of a train: its consist, an address in it, the records that describe it, and its doors.
 fn say_train_refusal(line: Line, number: u8) -> Line {
     match number {
         17 => say(line, b"consist empty or above 63"),
         18 => say(line, b"consist rule broken"),
+        19 => say(line, b"address not listed"),
+        20 => say(line, b"nobody meets it"),
         31 => say(line, b"records not whole, or not as many pairs as records"),
+        35 => say(line, b"door signal missing from the list"),
         _ => say(line, b"see the table of refusals"),
     }
 }
@@ -148,7 +151,7 @@ fn say_remedy_refusal(line: Line, number: u8) -> Line {
     }
 }
 
-// No program here meets 19, 20 or 22 to 27.
+// No program here meets 22 to 27.
 fn say_other_refusal(line: Line, number: u8) -> Line {
     match number {
         11 => say(line, b"no such signal"),

@@ -3,7 +3,9 @@
 use crate::lists::{self, Handed, NOW, STAMP};
 use crate::proved::{self, Said};
 use crate::rust;
-use reference::{Change, CodeRange, Form, Kind, Profile, Property, Remedy, Shown, ShownReading};
+use reference::{
+    Change, CodeRange, Form, Kind, Profile, Property, Remedy, Shown, ShownReading, State,
+};
 use std::fmt::Debug;
 use std::hint::black_box;
 
@@ -599,6 +601,40 @@ fn all_rows(property: impl Fn(u32) -> Option<Property>) -> u64 {
         })
 }
 
+/// The first so many vehicles of the train, all asked, under a real list: both sides are locked.
+fn doors(vehicles: usize) -> Case {
+    let list = lists::COACH;
+    let store = leak(lists::store(lists::COACH_R1));
+    let marks = &leak(lists::train())[..vehicles];
+    let shown = reference::doors(list, Form::One, store, NOW, marks, 66);
+    let states = shown.map(|doors| [doors.left.state, doors.right.state]);
+    assert_eq!(states, Ok([State::Locked; 2]), "the train is locked");
+    said(
+        &format!("doors of {vehicles} vehicles, data/coach.list"),
+        vec![],
+        move |_| {
+            proved::doors(
+                black_box(list),
+                one(),
+                black_box(store),
+                black_box(NOW),
+                black_box(marks),
+                black_box(66),
+            )
+        },
+        move |_| {
+            rust::doors(
+                black_box(list),
+                one(),
+                black_box(store),
+                black_box(NOW),
+                black_box(marks),
+                black_box(66),
+            )
+        },
+    )
+}
+
 /// The longest telegram of remedy texts: read, each of its blocks asked for, and written.
 fn remedies() -> [Case; 3] {
     let handed: &Handed = Box::leak(Box::new(lists::remedies()));
@@ -751,6 +787,28 @@ pub fn refused_alike() {
     }
     remedies_refused_alike(&lists::remedies());
     records_refused_alike();
+    doors_refused_alike();
+}
+
+/// Trains, some of which are refused, at every address, under a list with doors and one without; some vehicles are not locked.
+fn doors_refused_alike() {
+    let mut store = lists::store(lists::COACH_R1);
+    for slot in store.chunks_mut(reference::SLOT).step_by(7) {
+        slot[reference::HEAD + 19] ^= 0x08;
+    }
+    for slot in store.chunks_mut(reference::SLOT).skip(30).step_by(5) {
+        slot[reference::HEARD] = 0;
+    }
+    let trains = [&[][..], &lists::train(), &[2; 64], &[1, 1]].map(<[u8]>::to_vec);
+    for list in [lists::COACH, &lists::list(8, 5_000)] {
+        for (marks, address) in trains.iter().flat_map(|m| (0..=100).map(move |a| (m, a))) {
+            for store in [&store, &store[1..]] {
+                let wanted = reference::doors(list, Form::One, store, NOW, marks, address);
+                let proved = proved::doors(list, Form::One, store, NOW, marks, address);
+                assert_eq!(proved.said(), wanted);
+            }
+        }
+    }
 }
 
 /// Records that are cut, with as many pairs as there were; and rows that there are not.
@@ -829,6 +887,10 @@ fn refused_alike_in(form: Form, list: Vec<u8>) {
             reference::relay(short, form, &[], 0, 0, &mut [])
         );
         assert_eq!(
+            proved::doors(short, form, &[], 0, &[], 0).said(),
+            reference::doors(short, form, &[], 0, &[], 0)
+        );
+        assert_eq!(
             proved::serial(short, form, 0).said(),
             reference::serial(short, form, 0)
         );
@@ -903,7 +965,7 @@ pub fn all() -> Vec<Case> {
         resolve("resolve 63 vehicles, all", 66),
         check_place(583),
     ]);
-    cases.extend(christening());
+    cases.extend(christening().into_iter().chain([10, 63].map(doors)));
     cases.extend(remedies());
     cases.extend(forms());
     cases.extend(wide());

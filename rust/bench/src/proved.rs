@@ -2,8 +2,8 @@
 //! x86-64 that is what C does with such an answer; on other machines it is not, so it is said here.
 
 use reference::{
-    Change, CodeRange, Counts, EReading, Extends, Form, Kind, Level, Members, Profile, Property,
-    Reading, Refusal, Refused, Remedies, Rule, Shown, ShownReading,
+    Change, CodeRange, Counts, Doors, EReading, Extends, Form, Kind, Level, Members, Profile,
+    Property, Reading, Refusal, Refused, Remedies, Rule, Shown, ShownReading, Side, State,
 };
 use std::mem::MaybeUninit;
 
@@ -120,6 +120,18 @@ pub struct PropertyRow {
 pub struct Christened {
     refusal: u32,
     vehicles: u64,
+}
+
+#[repr(C)]
+pub struct DoorsShown {
+    refusal: u32,
+    left: u32,
+    carried: u64,
+    left_set: u64,
+    left_size: u32,
+    right: u32,
+    right_set: u64,
+    right_size: u32,
 }
 
 #[repr(C)]
@@ -290,6 +302,19 @@ extern "C" {
         pairs_len: usize,
         marks: *mut [u8; 63],
     ) -> Christened;
+    #[rustfmt::skip]
+    fn df_doors(
+        to: To<DoorsShown>,
+        list: *const u8,
+        list_len: usize,
+        form: u8,
+        store: *const u8,
+        store_len: usize,
+        clock: u32,
+        marks: *const u8,
+        marks_len: usize,
+        address: u64,
+    );
     fn df_e_read(telegram: *const u8, telegram_len: usize) -> ERead;
     fn df_read_remedies(telegram: *const u8, telegram_len: usize) -> RemediesRead;
     #[rustfmt::skip]
@@ -527,6 +552,32 @@ pub fn christen(records: &[u8], pairs: &[u8], marks: &mut [u8; 63]) -> Christene
 }
 
 #[inline(always)]
+pub fn doors(
+    list: &[u8],
+    form: Form,
+    store: &[u8],
+    now: u32,
+    marks: &[u8],
+    address: u64,
+) -> DoorsShown {
+    let (octets, slots, train) = (list.as_ptr(), store.as_ptr(), marks.as_ptr());
+    answer(|to| unsafe {
+        df_doors(
+            to,
+            octets,
+            list.len(),
+            form as u8,
+            slots,
+            store.len(),
+            now,
+            train,
+            marks.len(),
+            address,
+        )
+    })
+}
+
+#[inline(always)]
 pub fn e_read(telegram: &[u8]) -> ERead {
     unsafe { df_e_read(telegram.as_ptr(), telegram.len()) }
 }
@@ -751,6 +802,25 @@ impl Said for Christened {
     type As = Result<usize, Refusal>;
     fn said(self) -> Self::As {
         unless_refused(self.refusal, 0, self.vehicles as usize)
+    }
+}
+
+impl Said for DoorsShown {
+    type As = Result<Doors, Refusal>;
+    fn said(self) -> Self::As {
+        let side = |state: u32, set, size| Side {
+            state: match state {
+                0 => State::Locked,
+                1 => State::Open,
+                _ => State::Unknown,
+            },
+            kept: Members { set, size },
+        };
+        let doors = Doors {
+            left: side(self.left, self.left_set, self.left_size),
+            right: side(self.right, self.right_set, self.right_size),
+        };
+        unless_refused(self.refusal, self.carried, doors)
     }
 }
 

@@ -2,8 +2,8 @@
 
 use crate::lists::Handed;
 use reference::{
-    Change, CodeRange, Counts, EReading, Extends, Form, Kind, Members, Profile, Property, Reading,
-    Refusal, Refused, Remedies, Remedy, ShownReading,
+    Change, CodeRange, Counts, Doors, EReading, Extends, Form, Kind, Members, Profile, Property,
+    Reading, Refusal, Refused, Remedies, Remedy, ShownReading,
 };
 
 #[inline(never)]
@@ -163,6 +163,18 @@ pub fn property(record: &[u8; 56], row: u32) -> Option<Property> {
 #[inline(never)]
 pub fn christen(records: &[u8], pairs: &[u8], marks: &mut [u8; 63]) -> Result<usize, Refusal> {
     reference::christen(records, pairs, marks)
+}
+
+#[inline(never)]
+pub fn doors(
+    list: &[u8],
+    form: Form,
+    store: &[u8],
+    now: u32,
+    marks: &[u8],
+    address: u64,
+) -> Result<Doors, Refusal> {
+    reference::doors(list, form, store, now, marks, address)
 }
 
 #[inline(never)]

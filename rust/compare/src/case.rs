@@ -29,6 +29,7 @@ pub enum Call {
     Resolve,
     Property,
     Christen,
+    Doors,
     ERead,
     EAnswer,
     ReadRemedies,
@@ -59,7 +60,7 @@ const fn takes(
 }
 
 impl Call {
-    pub const ALL: [Call; 28] = [
+    pub const ALL: [Call; 29] = [
         Call::Judge,
         Call::JudgeProfile,
         Call::Extends,
@@ -83,6 +84,7 @@ impl Call {
         Call::Resolve,
         Call::Property,
         Call::Christen,
+        Call::Doors,
         Call::ERead,
         Call::EAnswer,
         Call::ReadRemedies,
@@ -116,6 +118,7 @@ impl Call {
             Call::Resolve => takes("resolve", &["marks"], None, &["address"]),
             Call::Property => takes("property", &["record"], None, &["row"]),
             Call::Christen => takes("christen", &["records", "pairs", "63 marks"], Some(2), &[]),
+            Call::Doors => takes("doors", &["list", "store", "marks"], None, &["form", "clock", "address"]),
             Call::ERead => takes("e_read", &["telegram"], None, &[]),
             Call::EAnswer => takes("e_answer", &["telegram", "head", "out"], Some(2), &["status"]),
             Call::ReadRemedies => takes("read_remedies", &["telegram"], None, &[]),

@@ -10,6 +10,7 @@ use crate::list::{Code, List, Route, Signal};
 use crate::profiles::{self, by_profiles};
 use crate::remedies;
 use crate::store::{plant, OLD_STORE};
+use crate::summaries;
 use reference::{write_field, PREVIOUS, SLOT, STORE, TELEGRAM, VEHICLES};
 
 /// The list L of the bench examples.
@@ -36,6 +37,7 @@ pub fn each(mut try_one: impl FnMut(Case)) {
     check_places(&mut try_one);
     addresses(&mut try_one);
     christenings::each(&mut try_one);
+    summaries::each(&mut try_one);
     e_telegrams(&mut try_one);
     remedies::each(&mut try_one);
     telegrams(&mut try_one);
@@ -189,6 +191,7 @@ fn forms(try_one: &mut impl FnMut(Case)) {
             ask(Call::Show, vec![store.clone()], &[0, 1, 0, 1]);
             ask(Call::Marshal, vec![store, vec![0xAB]], &[0]);
             ask(Call::Compose, vec![vec![1], vec![0xEE; TELEGRAM]], &[1]);
+            ask(Call::Doors, vec![vec![0; STORE], vec![2]], &[0, 66]);
             let heard = l_heard(1, [(1, 0x11), (2, 1), (41, 0x10), (54, 0x40)]);
             ask(Call::Relay, vec![heard, vec![0xEE; TELEGRAM]], &[0, 1]);
             let areas = vec![L.to_vec(), list.clone()];
@@ -562,7 +565,7 @@ fn refused_relays(try_one: &mut impl FnMut(Case)) {
 }
 
 /// The lengths of no store, that of before C-16 among them.
-fn other_lengths() -> [usize; 8] {
+pub fn other_lengths() -> [usize; 8] {
     let around = [STORE - SLOT, STORE - 1, STORE + 1, STORE + SLOT];
     let [a, b, c, d] = around;
     [0, 1, SLOT, OLD_STORE, a, b, c, d]

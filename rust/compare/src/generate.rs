@@ -6,7 +6,7 @@ use crate::case::{is_scaled, Call, Case, KINDS, PROFILES};
 use crate::damage::{any_list, damaged, mostly_good, said_form};
 use crate::list::List;
 use crate::random::Random;
-use crate::{edited, make, narrow, pair, records, store, texts};
+use crate::{doors, edited, make, narrow, pair, records, store, texts};
 use reference::{HEAD, SLOT, STORE, VEHICLES};
 
 /// The request codes of document 01.
@@ -17,7 +17,7 @@ pub const REQUESTS: [u16; 25] = [
 ];
 
 pub fn case(r: &Random) -> Case {
-    match r.below(237) {
+    match r.below(253) {
         0..=13 | 176..=179 | 216..=217 => {
             let (list, form) = any_list(r);
             Case::new(Call::Judge, vec![list], vec![form])
@@ -51,6 +51,7 @@ pub fn case(r: &Random) -> Case {
         204..=215 => texts::write(r),
         223..=231 => records::christen(r),
         232..=236 => records::property(r),
+        237..=252 => doors::doors(r),
         _ => gap(r),
     }
 }
@@ -237,7 +238,7 @@ fn resized(r: &Random, mut octets: Vec<u8>, len: usize) -> Vec<u8> {
 }
 
 /// A store, at times of another length.
-fn any_store(r: &Random, store: Vec<u8>) -> Vec<u8> {
+pub fn any_store(r: &Random, store: Vec<u8>) -> Vec<u8> {
     match r.below(24) {
         0 => no_store(r, store),
         _ => store,
@@ -245,7 +246,7 @@ fn any_store(r: &Random, store: Vec<u8>) -> Vec<u8> {
 }
 
 /// A store, of another length.
-fn no_store(r: &Random, store: Vec<u8>) -> Vec<u8> {
+pub fn no_store(r: &Random, store: Vec<u8>) -> Vec<u8> {
     let len = r.of(&[
         STORE - 1,
         STORE + 1,
@@ -452,7 +453,7 @@ fn worsen(r: &Random, list: List, case: &mut Case) {
 }
 
 /// A consist: one leading vehicle or none, led ones among the tractive; at times a rule is broken.
-fn consist(r: &Random, len: usize) -> Vec<u8> {
+pub fn consist(r: &Random, len: usize) -> Vec<u8> {
     let sparse = r.one_in(3);
     let mut marks: Vec<u8> = (0..len)
         .map(|_| match sparse {

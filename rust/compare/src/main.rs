@@ -13,6 +13,8 @@ mod changes;
 mod christened;
 mod christenings;
 mod damage;
+mod desk;
+mod doors;
 mod edited;
 mod exact;
 mod exhaustive;
@@ -39,6 +41,8 @@ mod run;
 mod shrink;
 mod sides;
 mod store;
+mod summaries;
+mod summed_up;
 mod texts;
 mod true_clock;
 mod walked;
@@ -96,6 +100,7 @@ struct Runs {
     walked: walked::Met,
     returned: returned::Met,
     resolved: resolved::Met,
+    desk: desk::Met,
 }
 
 impl Runs {
@@ -107,6 +112,7 @@ impl Runs {
         let walked = well("NOT AS COMPARED", walked::all(cases / 20, seed));
         let returned = well("NOT THERE AND BACK", returned::all(cases / 40, seed));
         let resolved = well("NOT RESOLVED SO", resolved::all(cases / 40, seed));
+        let desk = well("NOT SHOWN SO", desk::all(cases / 100, seed));
         Some(Runs {
             exact: exact?,
             clocked: clocked?,
@@ -114,6 +120,7 @@ impl Runs {
             walked: walked?,
             returned: returned?,
             resolved: resolved?,
+            desk: desk?,
         })
     }
 
@@ -124,6 +131,7 @@ impl Runs {
             self.walked.faults(),
             self.returned.faults(),
             self.resolved.faults(),
+            self.desk.faults(),
         ]
         .concat()
     }
@@ -132,7 +140,7 @@ impl Runs {
         format!(
             "{} readings by the true clock; {} behind an old gateway; {} differences in {} pairs of lists; \
              {} telegrams with remedy texts there and back; {} addresses in {} trains from their records; \
-             {} shown values exact",
+             {} summaries of the doors of {} trains; {} shown values exact",
             self.clocked.readings(),
             self.passed_on.readings(),
             self.walked.differences,
@@ -140,6 +148,8 @@ impl Runs {
             self.returned.telegrams,
             self.resolved.resolved,
             self.resolved.trains,
+            self.desk.summaries,
+            self.desk.trains,
             self.exact
         )
     }
@@ -169,7 +179,8 @@ fn compare(cases: u64, seed: u64, memory: Memory) -> bool {
         return false;
     };
     print!("{reached}{}{}", runs.clocked, runs.passed_on);
-    print!("{}{}{}", runs.walked, runs.returned, runs.resolved);
+    print!("{}{}", runs.walked, runs.returned);
+    print!("{}{}", runs.resolved, runs.desk);
     let faults = [reached.faults(), runs.faults()].concat();
     if !faults.is_empty() {
         println!("{}", faults.join("\n"));

@@ -73,7 +73,7 @@ fn done(side: Side, case: &Case) -> Result<After, String> {
 }
 
 /// The area that a call wrote.
-fn written(side: Side, case: &Case) -> Result<Vec<u8>, String> {
+pub fn written(side: Side, case: &Case) -> Result<Vec<u8>, String> {
     let at = case.call.parameters().written.unwrap_or(0);
     Ok(done(side, case)?.areas.swap_remove(at))
 }

@@ -11,6 +11,7 @@ use crate::profiled;
 use crate::relayed;
 use crate::remedied;
 use crate::store::{stamp_at, OLD_STORE};
+use crate::summed_up;
 use reference::{Form, HEAD, HEARD, PREVIOUS, SIGNAL_SIZE, SLOT, STAMP, VEHICLES};
 
 /// What an answer shows, with a number where there are several.
@@ -197,6 +198,11 @@ fn wanted(call: Call) -> Vec<Row> {
         ],
         Call::Property => [christened::wanted(call), vec![], vec![]],
         Call::Christen => [christened::wanted(call), refusals(&[17, 18, 31]), vec![]],
+        Call::Doors => [
+            summed_up::wanted(),
+            refusals(&[1, 2, 3, 4, 5, 17, 18, 19, 20, 35]),
+            in_forms,
+        ],
         Call::ERead => [
             vec![("request", 0), ("report", 0)],
             refusals(&[21, 22]),
@@ -265,8 +271,9 @@ fn rows(case: &Case, answer: &Answer) -> Vec<Row> {
         Call::Show => show_rows(case.numbers[4], answer),
         Call::Marshal => vec![(lives(case, first), 0)],
         Call::Compose => vec![("type", case.numbers[1])],
-        // What is told of these stands in `profiled`, in `relayed`, in `christened`, in `remedied` and in `changed`.
+        // What is told of these stands in `profiled`, in `relayed`, in `christened`, in `summed_up`, in `remedied` and in `changed`.
         Call::JudgeProfile | Call::Relay | Call::Property | Call::Christen => vec![],
+        Call::Doors => vec![],
         Call::ReadRemedies | Call::RemedyBlock | Call::WriteRemedies => vec![],
         Call::SignalChange | Call::RouteChange | Call::CodesGained => vec![],
         Call::Resolve => vec![("address", case.numbers[0])],
@@ -614,6 +621,7 @@ impl Reached {
             profiled::rows,
             relayed::rows,
             christened::rows,
+            summed_up::rows,
             remedied::rows,
             changed::rows,
         ];
@@ -661,6 +669,9 @@ fn named((what, number): Row) -> String {
             "mark",
             "set, bit",
             "no row",
+            "size",
+            "checks",
+            "vehicles",
         ]
         .iter()
         .any(|end| what.ends_with(end)) =>

@@ -4,6 +4,7 @@ use std::ops::Range;
 
 use crate::case::{Call, Case};
 use crate::records::RECORD;
+use reference::{SLOT, STORE};
 
 /// How many cases are tried before the smallest so far has to do.
 const TRIES: usize = 30_000;
@@ -18,7 +19,7 @@ enum Step {
     Length(usize, u16),
     /// A block to be written goes, with its key, its length and its text.
     Block(usize),
-    /// A vehicle goes, with its record and its pair.
+    /// A vehicle goes, with its record and its pair, or with its mark and its slot.
     Vehicle(usize),
     /// A run of octets of an area is left out, or set to 0.
     Without(usize, Range<usize>),
@@ -76,9 +77,12 @@ fn steps(case: &Case) -> Vec<Step> {
         steps.push(Step::Block(i));
         steps.extend([0, n / 2, n.saturating_sub(1)].map(|to| Step::Length(i, to)));
     }
-    if case.call == Call::Christen {
-        steps.extend((0..case.areas[1].len()).rev().map(Step::Vehicle));
-    }
+    let vehicles = match case.call {
+        Call::Christen => case.areas[1].len(),
+        Call::Doors => case.areas[2].len(),
+        _ => 0,
+    };
+    steps.extend((0..vehicles).rev().map(Step::Vehicle));
     (0..case.areas.len()).for_each(|i| steps.extend(area_steps(case, i)));
     steps
 }
@@ -114,6 +118,7 @@ fn taken(case: &Case, step: &Step) -> Case {
         &Step::Value(i, to) => case.values[i] = to,
         &Step::Length(i, to) => case.lengths[i] = to,
         &Step::Block(at) => without_block(&mut case, at),
+        &Step::Vehicle(at) if case.call == Call::Doors => without_slot(&mut case, at),
         &Step::Vehicle(at) => without_vehicle(&mut case, at),
         Step::Without(i, run) => drop(case.areas[*i].drain(run.clone())),
         Step::Zeroed(i, run) => case.areas[*i][run.clone()].fill(0),
@@ -169,12 +174,28 @@ fn without_vehicle(case: &mut Case, at: usize) {
     case.areas[1].remove(at);
 }
 
+/// One vehicle less; the slots of those behind it move up, if the store has any, and who was asked for by a number is asked for by the next lower.
+fn without_slot(case: &mut Case, at: usize) {
+    let (store, address) = (&mut case.areas[1], &mut case.numbers[2]);
+    let slot = SLOT * at;
+    if store.len() == STORE && slot < STORE {
+        store.copy_within(slot + SLOT.., slot);
+        store[STORE - SLOT..].fill(0);
+    }
+    if (at as u64 + 2..=63).contains(address) {
+        *address -= 1;
+    }
+    case.areas[2].remove(at);
+}
+
 #[cfg(test)]
 mod tests {
     use super::*;
     use crate::list::List;
+    use crate::memory::on_heap;
     use crate::random::Random;
-    use crate::{generate, make};
+    use crate::sides::by_reference;
+    use crate::{doors, generate, make};
     use reference::{Form, SIGNAL_SIZE};
 
     #[test]
@@ -189,6 +210,21 @@ mod tests {
                 // An array keeps its octets.
                 octets.retain(|&octet| octet != 0);
                 assert_eq!(octets, [7]);
+            }
+        }
+    }
+
+    /// Of those that hold a side up, one is left, and both doors of the list.
+    #[test]
+    fn a_train_loses_its_vehicles() {
+        let open = |case: &Case| on_heap(by_reference, case).answer.gives[0] == 1;
+        for number in 0..40 {
+            let case = doors::doors(&Random::of_case(7, number));
+            if case.numbers[2] == 66 && open(&case) {
+                let small = shrunk(&case, open);
+                assert_eq!(small.areas[2].len(), 1);
+                let size = Form::of(small.numbers[0]).signal_size();
+                assert_eq!(small.areas[0].len(), 4 * 2 + 2 * size);
             }
         }
     }

@@ -189,6 +189,17 @@ macro_rules! side {
                     $library::christen(records, pairs, array_mut(call, marks))
                         .map(|vehicles| Answer::gives([vehicles as u64]))
                 }
+                (Call::Doors, [list, store, marks], &[said, clock, address]) => {
+                    $library::doors(list, form(said), store, clock as u32, marks, address).map(
+                        |doors| {
+                            let [left, right] = [doors.left, doors.right].map(|side| {
+                                let kept = side.kept;
+                                [side.state as u64, kept.set, kept.size.into()]
+                            });
+                            Answer::gives([left[0], left[1], left[2], right[0], right[1], right[2]])
+                        },
+                    )
+                }
                 (Call::ERead, [telegram], []) => $library::e_read(telegram)
                     .map(|r| Answer::gives([r.code.into(), r.report.into(), r.status.into()])),
                 (Call::EAnswer, [telegram, head, out], &[status]) => {
@@ -386,6 +397,20 @@ pub fn by_header(call: Call, mut lent: Lent) -> Answer {
             let (from, len, marks) = (records.as_ptr(), records.len(), array_mut(call, marks));
             let r = unsafe { raw::df_christen(from, len, pairs.as_ptr(), pairs.len(), marks) };
             Answer::with(r.refusal, 0, [r.vehicles])
+        }
+        (Call::Doors, [list, store, marks], &[form, clock, address]) => {
+            let (list, len, form) = (list.as_ptr(), list.len(), form as u8);
+            let (from, from_len, clock) = (store.as_ptr(), store.len(), clock as u32);
+            let (train, vehicles) = (marks.as_ptr(), marks.len());
+            let r = unsafe {
+                raw::df_doors(
+                    list, len, form, from, from_len, clock, train, vehicles, address,
+                )
+            };
+            let left = [r.left.into(), r.left_set, r.left_size.into()];
+            let right = [r.right.into(), r.right_set, r.right_size.into()];
+            let gives = [left[0], left[1], left[2], right[0], right[1], right[2]];
+            Answer::with(r.refusal, r.carried, gives)
         }
         (Call::ERead, [telegram], []) => {
             let r = unsafe { raw::df_e_read(telegram.as_ptr(), telegram.len()) };

@@ -175,7 +175,7 @@ pub struct ShownReading {
     pub reason: Reason,
 }
 
-/// The vehicles that meet an address.
+/// The vehicles that meet an address, or that kept a side from locked.
 #[derive(Debug, Clone, Copy, PartialEq, Eq)]
 pub struct Members {
     /// Vehicle v is bit v, worth 2^v; bit 0 is never set.
@@ -205,6 +205,48 @@ pub struct Property {
     pub bit: u8,
     /// Whether that bit is set.
     pub holds: bool,
+}
+
+/// What is said of the doors of a side.
+#[derive(Debug, Clone, Copy, PartialEq, Eq, Hash)]
+#[repr(u8)]
+pub enum State {
+    /// Every vehicle's are locked.
+    Locked = 0,
+    /// Some vehicle's are open.
+    Open = 1,
+    /// Not known: none is open, and not every vehicle's bit is live.
+    Unknown = 2,
+}
+
+impl State {
+    /// The state that has this number.
+    pub(crate) const fn of(number: u32) -> Option<State> {
+        match number {
+            0 => Some(State::Locked),
+            1 => Some(State::Open),
+            2 => Some(State::Unknown),
+            _ => None,
+        }
+    }
+}
+
+/// One side of a train.
+#[derive(Debug, Clone, Copy, PartialEq, Eq)]
+pub struct Side {
+    /// What its doors are.
+    pub state: State,
+    /// The vehicles that kept it from locked: those that are open, and those of which it is not known.
+    pub kept: Members,
+}
+
+/// Both sides of a train.
+#[derive(Debug, Clone, Copy, PartialEq, Eq)]
+pub struct Doors {
+    /// The left side, by octet 20 bit 4.
+    pub left: Side,
+    /// The right side, by octet 20 bit 5.
+    pub right: Side,
 }
 
 /// What an E-telegram says.

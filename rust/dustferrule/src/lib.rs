@@ -12,8 +12,8 @@ mod numbers;
 pub mod raw;
 
 pub use answers::{
-    Change, CodeRange, Counts, EReading, Entry, Extends, Form, Kind, Level, Members, Profile,
-    Property, Reading, Remedies, Remedy, Rule, Shown, ShownReading,
+    Change, CodeRange, Counts, Doors, EReading, Entry, Extends, Form, Kind, Level, Members,
+    Profile, Property, Reading, Remedies, Remedy, Rule, Shown, ShownReading, Side, State,
 };
 pub use numbers::{Error, Reason, Refusal, Refused};
 
@@ -446,6 +446,45 @@ pub fn christen(records: &[u8], pairs: &[u8], marks: &mut [u8; 63]) -> Result<us
         )
     };
     unless_refused(r.refusal, 0, r.vehicles as usize)
+}
+
+/// One side, by the numbers that say it.
+fn side(state: u32, set: u64, size: u32) -> Side {
+    Side {
+        state: State::of(state).unwrap_or_else(|| newer_library("state", state)),
+        kept: Members { set, size },
+    }
+}
+
+/// What a driver's desk shows of the doors, by octet 20 bits 4, left, and 5, right, of each vehicle that meets an address, 66 for all; marks and
+/// address as of [`resolve`]. A side is locked exactly if every such vehicle's bit is live and 1, open if any such vehicle's is live and 0, else not
+/// known. The list must have both bits as common signals of width 1. Refusals 1 to 4, then 5, then 35, then 17 to 20.
+pub fn doors(
+    list: &[u8],
+    form: Form,
+    store: &[u8],
+    now: u32,
+    marks: &[u8],
+    address: u64,
+) -> Result<Doors, Error> {
+    let r = unsafe {
+        raw::df_doors(
+            list.as_ptr(),
+            list.len(),
+            form as u8,
+            store.as_ptr(),
+            store.len(),
+            now,
+            marks.as_ptr(),
+            marks.len(),
+            address,
+        )
+    };
+    let doors = Doors {
+        left: side(r.left, r.left_set, r.left_size),
+        right: side(r.right, r.right_set, r.right_size),
+    };
+    unless_refused(r.refusal, r.carried, doors)
 }
 
 /// Reads an E-telegram's code, request or report, and octet 9. It has 9 to 1,024 octets, with the code 8A08 up to 2,110. Refusals 21, 22.

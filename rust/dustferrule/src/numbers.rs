@@ -84,6 +84,7 @@ numbered! {
         SerialSet = 32, "serial number set";
         FormOutput = 33, "output not of the needed length";
         Profile = 34, "profile rule broken";
+        DoorMissing = 35, "door signal missing from the list";
     }
 }
 

@@ -1,6 +1,6 @@
 //! `include/dustferrule.h`, line for line: what the proved library exports. (Its lists of refusals and reasons are [`crate::Refusal`] and
 //! [`crate::Reason`], its forms are [`crate::Form`], its profiles [`crate::Profile`], what a difference breaks is a [`crate::Rule`], its kinds
-//! are [`crate::Kind`], and its units are those of [`crate::Shown`].)
+//! are [`crate::Kind`], its units are those of [`crate::Shown`], its levels [`crate::Level`], and what it says of doors is a [`crate::State`].)
 //!
 //! What the caller owes: each pointer, with its length where it has one, names memory that can be read (and written, where it is `*mut`), no
 //! longer than isize::MAX octets and aligned; an area that is written overlaps no other area of the same call; and no pointer is null, also
@@ -163,6 +163,20 @@ pub struct df_property_row {
 pub struct df_christened {
     pub refusal: u32,
     pub vehicles: u64,
+}
+
+/// `left`, `right`: 0 locked, 1 open, 2 not known; the vehicles that kept the side from locked, as of [`df_members`].
+#[repr(C)]
+#[derive(Debug, Clone, Copy)]
+pub struct df_doors_summary {
+    pub refusal: u32,
+    pub left: u32,
+    pub carried: u64,
+    pub left_set: u64,
+    pub left_size: u32,
+    pub right: u32,
+    pub right_set: u64,
+    pub right_size: u32,
 }
 
 /// `report`: 1 a report, 0 a request.
@@ -358,6 +372,18 @@ extern "C" {
         pairs_len: usize,
         marks: *mut [u8; 63],
     ) -> df_christened;
+
+    pub fn df_doors(
+        list: *const u8,
+        list_len: usize,
+        form: u8,
+        store: *const u8,
+        store_len: usize,
+        clock: u32,
+        marks: *const u8,
+        marks_len: usize,
+        address: u64,
+    ) -> df_doors_summary;
 
     pub fn df_e_read(telegram: *const u8, telegram_len: usize) -> df_e_reading;
 

@@ -1,9 +1,10 @@
 //! Refusals and reasons by number and in words, and the refusals of calls as errors.
 
 use dustferrule::{
-    christen, codes_gained, compose, find_signal, judge, judge_profile, property, read,
-    read_remedies, route_change, show, signal_change, write_remedies, Error, Form, Kind, Level,
-    Profile, Property, Reason, Refusal, Refused, Rule, STORE_OCTETS,
+    christen, codes_gained, compose, doors, find_signal, judge, judge_profile, property, read,
+    read_remedies, route_change, show, signal_change, take, write_remedies, Doors, Error, Form,
+    Kind, Level, Members, Profile, Property, Reason, Refusal, Refused, Rule, Side, State,
+    STORE_OCTETS,
 };
 
 /// The list L of document 01.
@@ -18,7 +19,7 @@ fn each_number_is_there_once() {
         .iter()
         .map(|refusal| refusal.number())
         .collect();
-    assert_eq!(refusals, (1..=34).collect::<Vec<u8>>());
+    assert_eq!(refusals, (1..=35).collect::<Vec<u8>>());
     let reasons: Vec<u8> = Reason::ALL.iter().map(|reason| reason.number()).collect();
     assert_eq!(reasons, (0..=8).collect::<Vec<u8>>());
     for &refusal in Refusal::ALL {
@@ -28,7 +29,7 @@ fn each_number_is_there_once() {
         assert_eq!(Reason::of(reason.number().into()), Some(reason));
         assert_eq!(reason.is_live(), reason.number() < 2);
     }
-    for none in [0, 35] {
+    for none in [0, 36] {
         assert_eq!(Refusal::of(none), None);
     }
     assert_eq!(Reason::of(9), None);
@@ -141,6 +142,63 @@ fn properties_of_both_levels() {
     assert_eq!(property(142), of(Level::Gateway, 23, 7, false));
     assert_eq!([property(133), property(u32::MAX)], [None, None]);
     assert_eq!([Level::Gateway as u8, Level::Vehicle as u8], [0, 1]);
+}
+
+/// Octet 20 bits 4 and 5, with no check and no time limit.
+const DOORS: [u8; 40] = [
+    0, 0, 0, 2, 0, 156, 1, 0, 0, 1, 0, 0, 0, 0, 0, 0, 0, 0, 0, 0, 0, 157, 1, 0, 0, 1, 0, 0, 0, 0,
+    0, 0, 0, 0, 0, 0, 0, 0, 0, 0,
+];
+
+/// A list without doors, and with them an empty train, an address that is none, and one that nobody meets.
+#[test]
+fn errors_of_doors() {
+    let store = [0; STORE_OCTETS];
+    let show = |list: &[u8], marks: &[u8], address| {
+        let shown = doors(list, Form::One, &store, 0, marks, address);
+        shown.map_err(|error| (error.refusal, error.carried, error.to_string()))
+    };
+    let missing = "refused 35: door signal missing from the list".to_string();
+    let refused = Err((Refusal::DoorMissing, 0, missing));
+    assert_eq!(show(&L, &[], 0), refused);
+    let refusal = |marks: &[u8], address| show(&DOORS, marks, address).map_err(|of| of.0);
+    assert_eq!(refusal(&[], 66), Err(Refusal::ConsistLength));
+    assert_eq!(refusal(&[1, 1], 66), Err(Refusal::ConsistRule));
+    assert_eq!(refusal(&[2], 68), Err(Refusal::AddressUnlisted));
+    assert_eq!(refusal(&[2], 64), Err(Refusal::NobodyMeets));
+    let short = doors(&L, Form::One, &store[1..], 0, &[], 0);
+    assert_eq!(short.map_err(|e| e.refusal), Err(Refusal::StoreLength));
+    let cut = "refused 1 at 38: list ends inside a count or a section".to_string();
+    let refused = Err((Refusal::ListEnds, 38, cut));
+    assert_eq!(show(&DOORS[..39], &[], 0), refused);
+}
+
+/// Each state by its number in the header: vehicle 1 is locked, vehicle 2 open on the right, vehicle 3 never heard.
+#[test]
+fn doors_in_each_state() {
+    let mut store = [0; STORE_OCTETS];
+    let mut telegram = [0; 40];
+    telegram[0] = 0x13;
+    for (vehicle, octet_20) in [(1, 0x0C), (2, 0x08)] {
+        telegram[19] = octet_20;
+        assert_eq!(take(&mut store, vehicle, 0, &telegram), Ok(()));
+    }
+    let show = |marks: &[u8]| doors(&DOORS, Form::One, &store, 0, marks, 66);
+    let side = |state, set: u64| Side {
+        state,
+        kept: Members {
+            set,
+            size: set.count_ones(),
+        },
+    };
+    let both = |left, right| Ok(Doors { left, right });
+    let locked = side(State::Locked, 0);
+    assert_eq!(show(&[2]), both(locked, locked));
+    assert_eq!(show(&[2; 2]), both(locked, side(State::Open, 4)));
+    let (unknown, open) = (side(State::Unknown, 8), side(State::Open, 4 | 8));
+    assert_eq!(show(&[2; 3]), both(unknown, open));
+    let states = [State::Locked, State::Open, State::Unknown];
+    assert_eq!(states.map(|state| state as u8), [0, 1, 2]);
 }
 
 #[test]

@@ -8,8 +8,8 @@ extern crate self as reference;
 
 use dustferrule::Error;
 pub use dustferrule::{
-    property, Change, CodeRange, Counts, EReading, Entry, Form, Kind, Level, Members, Profile,
-    Property, Remedies, Remedy, Rule, Shown,
+    property, Change, CodeRange, Counts, Doors, EReading, Entry, Form, Kind, Level, Members,
+    Profile, Property, Remedies, Remedy, Rule, Shown, Side, State,
 };
 
 #[derive(Debug, Clone, Copy, PartialEq, Eq)]
@@ -90,6 +90,7 @@ calls! { Refusal, plain:
     relay(list: &[u8], form: Form, store: &[u8], now: u32, vehicle: u64, out: &mut [u8]) -> ();
     resolve(marks: &[u8], address: u64) -> Members;
     christen(records: &[u8], pairs: &[u8], marks: &mut [u8; 63]) -> usize;
+    doors(list: &[u8], form: Form, store: &[u8], now: u32, marks: &[u8], address: u64) -> Doors;
     e_read(telegram: &[u8]) -> EReading;
     e_answer(telegram: &[u8], head: &[u8], status: u8, out: &mut [u8]) -> ();
     read_remedies(telegram: &[u8]) -> Remedies;
@@ -145,6 +146,8 @@ mod christening;
 mod comparing;
 #[path = "../../reference/tests/compose.rs"]
 mod compose;
+#[path = "../../reference/tests/doors.rs"]
+mod doors;
 #[path = "../../reference/tests/entry.rs"]
 mod entry;
 #[path = "../../reference/tests/etelegram.rs"]

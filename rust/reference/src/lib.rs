@@ -1,7 +1,8 @@
 //! The gateway library of document 01, written a second time and independently: taking R-telegrams into
 //! a store, the gap between two of them, sweeping it, reading, showing and marshalling signals, composing R-telegrams, also anew from
 //! what was taken, judging signal lists, also by a profile, comparing two of them and moving them from one form to the other, building the
-//! consist from christening records, resolving addresses, reading and answering E-telegrams, and reading and writing those with remedy texts.
+//! consist from christening records, resolving addresses, summing up the doors of a train, reading and answering E-telegrams, and reading and
+//! writing those with remedy texts.
 //!
 //! Every function is total: it answers or refuses for every input and never panics. Every public call
 //! tests its own input, and a refusal changes no lent octet.
@@ -12,6 +13,7 @@
 mod christening;
 mod comparing;
 mod compose;
+mod doors;
 mod entry;
 mod etelegram;
 mod extends;
@@ -33,6 +35,7 @@ mod train;
 pub use christening::{christen, property, Level, Property};
 pub use comparing::{codes_gained, route_change, signal_change, Change, CodeRange, Refused, Rule};
 pub use compose::compose;
+pub use doors::{doors, Doors, Side, State};
 pub use entry::{find_signal, signal_entry, Entry};
 pub use etelegram::{e_answer, e_read, EReading};
 pub use extends::{extends, Extends};

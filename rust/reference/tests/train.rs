@@ -1,40 +1,11 @@
 mod support;
 
-use reference::{resolve, Members, Refusal};
-use support::{refusal, Random};
-
-/// Refusal numbers and vehicles, told plainly.
-fn plain(marks: &[u8], address: u64) -> Result<Vec<u64>, Refusal> {
-    let is = |vehicle: u64, weight: u8| marks[vehicle as usize - 1] / weight % 2 == 1;
-    let train = || 1..=marks.len() as u64;
-    let refuse = |number| Err(refusal(number, 0));
-    if marks.is_empty() || marks.len() > 63 {
-        return refuse(17);
-    }
-    if train().filter(|&v| is(v, 1)).count() > 1
-        || train().any(|v| is(v, 8) && (!is(v, 4) || is(v, 1)))
-    {
-        return refuse(18);
-    }
-    let met: Vec<u64> = match address {
-        1..=63 => train().filter(|&v| v == address).collect(),
-        64 => train().filter(|&v| is(v, 1)).collect(),
-        65 => train().filter(|&v| is(v, 8)).collect(),
-        66 => train().collect(),
-        67 => train().filter(|&v| is(v, 2)).collect(),
-        70 => train().filter(|&v| is(v, 4)).collect(),
-        92 => train().filter(|&v| is(v, 16)).collect(),
-        _ => return refuse(19),
-    };
-    if met.is_empty() {
-        return refuse(20);
-    }
-    Ok(met)
-}
+use reference::{resolve, Members};
+use support::{plain, refusal, Random};
 
 fn check(marks: &[u8], address: u64) -> u8 {
     let ours = resolve(marks, address);
-    let expected = plain(marks, address).map(|met| Members {
+    let expected = plain::resolved(marks, address).map(|met| Members {
         set: met.iter().map(|v| 1 << v).sum(),
         size: met.len() as u32,
     });

@@ -6,7 +6,7 @@ use native.Mathlib.Omega.{arith}
 use borrow.Author.Needs.{needs}
 use lib.Dec.{lit<}
 use lib.Pow.{shl-exact, pow-pos, pow-mono}
-use Rattle.train.proofs.Sets.{set-all}
+use Rattle.paper.proofs.SetLaws.{set-all}
 use Rattle.train.proofs.all.Statement.{statement}
 use Rattle.train.proofs.all.Tie as tie
 

@@ -13,7 +13,7 @@ use Rattle.paper.specs.Answer.{Answer, gives, refuseIf}
 use Rattle.paper.specs.Train.{Vehicle, Members, consistRule, isAddress, membersOf, resolving}
 use Rattle.paper.proofs.AnswerLaws.{refuses, goes-past}
 use Rattle.train.specs.Marks.{vehicleOf}
-use Rattle.train.proofs.Sets.{ones-count}
+use Rattle.paper.proofs.SetLaws.{ones-count}
 use Rattle.train.proofs.Over.{map-length}
 use Rattle.train.proofs.resolve.Statement.{statement}
 use Rattle.train.proofs.resolve.Tie as tie

@@ -9,7 +9,7 @@ use lib.Dec.{eqb}
 use lib.ListN.{length}
 use denote.Ref.{now}
 use Rattle.paper.specs.Train.{meets}
-use Rattle.train.proofs.Sets.{set-none}
+use Rattle.paper.proofs.SetLaws.{set-none}
 use Rattle.train.proofs.Over.{set-meets, set-marked}
 use Rattle.train.proofs.set_of.Statement.{statement}
 use Rattle.train.proofs.set_of.Tie as tie

@@ -7,7 +7,7 @@ use borrow.Author.Needs.{needs}
 use borrow.Author.Tests.{ne-eqb}
 use lib.Dec.{lit<, eqb}
 use lib.Pow.{shl-exact}
-use Rattle.train.proofs.Sets.{set-none, set-alone}
+use Rattle.paper.proofs.SetLaws.{set-none, set-alone}
 use Rattle.train.proofs.vehicle.Statement.{statement}
 use Rattle.train.proofs.vehicle.Tie as tie
 

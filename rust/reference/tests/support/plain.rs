@@ -1,6 +1,6 @@
 //! Document 01 in its plainest form.
 
-use super::{HEAD, HEARD, SIGNAL_SIZE, SLOT, STAMP};
+use super::{HEAD, HEARD, SIGNAL_SIZE, SLOT, STAMP, STORE};
 use reference::{Counts, Level, Reading, Refusal};
 
 pub fn bit(octets: &[u8], address: usize) -> bool {
@@ -741,4 +741,78 @@ pub fn christened(records: &[u8], pairs: &[u8]) -> Result<Vec<[bool; 5]>, u8> {
         true => Err(18),
         false => Ok(train),
     }
+}
+
+/// The vehicles of a consist of these marks that meet an address.
+pub fn resolved(marks: &[u8], address: u64) -> Result<Vec<u64>, Refusal> {
+    let is = |vehicle: u64, weight: u8| marks[vehicle as usize - 1] / weight % 2 == 1;
+    let train = || 1..=marks.len() as u64;
+    let refuse = |number| Err(Refusal { number, carried: 0 });
+    if marks.is_empty() || marks.len() > 63 {
+        return refuse(17);
+    }
+    if train().filter(|&v| is(v, 1)).count() > 1
+        || train().any(|v| is(v, 8) && (!is(v, 4) || is(v, 1)))
+    {
+        return refuse(18);
+    }
+    let met: Vec<u64> = match address {
+        1..=63 => train().filter(|&v| v == address).collect(),
+        64 => train().filter(|&v| is(v, 1)).collect(),
+        65 => train().filter(|&v| is(v, 8)).collect(),
+        66 => train().collect(),
+        67 => train().filter(|&v| is(v, 2)).collect(),
+        70 => train().filter(|&v| is(v, 4)).collect(),
+        92 => train().filter(|&v| is(v, 16)).collect(),
+        _ => return refuse(19),
+    };
+    if met.is_empty() {
+        return refuse(20);
+    }
+    Ok(met)
+}
+
+/// C-20: what a side shows, 0 locked, 1 open, 2 not known, and the vehicles that kept it from locked.
+pub type Side = (u8, Vec<u64>);
+
+/// "Locked exactly if every vehicle's bit is live and 1; open if any vehicle's is live and 0; not known otherwise."
+fn side(list: &List, store: &[u8], now: u32, asked: &[u64], signal: u64) -> Side {
+    let live = |vehicle: u64| {
+        let reading = read(list, store, now, vehicle, signal);
+        (reading.reason < 2).then_some(reading.value)
+    };
+    let state = if asked.iter().all(|&v| live(v) == Some(1)) {
+        0
+    } else if asked.iter().any(|&v| live(v) == Some(0)) {
+        1
+    } else {
+        2
+    };
+    let kept = asked.iter().copied().filter(|&v| live(v) != Some(1));
+    (state, kept.collect())
+}
+
+/// C-20: the left side and the right side, with signal entries of so many octets. "35 .. after 1-5 and before 17-20".
+pub fn doors(
+    list: &[u8],
+    size: usize,
+    store: &[u8],
+    now: u32,
+    marks: &[u8],
+    address: u64,
+) -> Result<[Side; 2], Refusal> {
+    let list = List::judged_of(list, size)?;
+    let refuse = |number| Err(Refusal { number, carried: 0 });
+    if store.len() != STORE {
+        return refuse(5);
+    }
+    let bit = |bit: u64| {
+        let door = |s: &Signal| s.kind == 0 && s.start == 8 * (20 - 1) + bit && s.width == 1;
+        list.signals.iter().position(door)
+    };
+    let (Some(left), Some(right)) = (bit(4), bit(5)) else {
+        return refuse(35);
+    };
+    let asked = resolved(marks, address)?;
+    Ok([left, right].map(|signal| side(&list, store, now, &asked, signal as u64)))
 }
