@@ -57,8 +57,8 @@ enum df_unit { DF_NO_UNIT = 0, DF_KM_PER_HOUR = 1, DF_PERCENT = 2, DF_AMPERE = 3
 /* The levels of table E.1. */
 enum df_level { DF_GATEWAY = 0, DF_VEHICLE = 1 };
 
-/* What is said of the doors of a side: locked, open, or not known. */
-enum df_state { DF_LOCKED = 0, DF_OPEN = 1, DF_UNKNOWN = 2 };
+/* What is said of the doors of a side: not known (as a refusal leaves it), locked, or open. */
+enum df_state { DF_UNKNOWN = 0, DF_LOCKED = 1, DF_OPEN = 2 };
 
 /* The refusals, in the words of document 01 or, as 5, 25, 26 and those from 28 on, after document 02: X(name, number, text). A new one is a line. */
 #define DF_REFUSALS(X) \

@@ -173,10 +173,11 @@ abbrev pub christenedC : Answer ℕ → DfChristened
 christenedC (gives n) = record { refusal = 0; vehicles = n }
 christenedC (refused n at) = record { refusal = n; vehicles = 0 }
 
+-- 0 is what a refusal leaves in every field, so it is never locked.
 abbrev pub stateC : State → ℕ
-stateC locked = 0
-stateC opened = 1
-stateC unknown = 2
+stateC unknown = 0
+stateC locked = 1
+stateC opened = 2
 
 abbrev pub doorsC : Answer Doors → DfDoors
 doorsC (gives d) =

@@ -211,7 +211,7 @@ pub struct DfChristened {
     pub vehicles: u64,
 }
 
-// left, right: 0 locked, 1 open, 2 not known; the vehicles that kept the side from locked, as in DfMembers.
+// left, right: 0 not known, 1 locked, 2 open; the vehicles that kept the side from locked, as in DfMembers.
 #[repr(C)]
 pub struct DfDoors {
     pub refusal: u32,
@@ -712,9 +712,9 @@ fn state_c(s: State) -> u32
     ensures { λ r. ⌜ r ≡ stateC (stateAs s) ⌝ }
 {
     match s {
-        State::Locked => 0,
-        State::Open => 1,
-        State::Unknown => 2,
+        State::Unknown => 0,
+        State::Locked => 1,
+        State::Open => 2,
     }
 }
 

@@ -810,8 +810,8 @@ impl Said for DoorsShown {
     fn said(self) -> Self::As {
         let side = |state: u32, set, size| Side {
             state: match state {
-                0 => State::Locked,
-                1 => State::Open,
+                1 => State::Locked,
+                2 => State::Open,
                 _ => State::Unknown,
             },
             kept: Members { set, size },

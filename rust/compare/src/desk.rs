@@ -4,7 +4,7 @@ use std::collections::BTreeMap;
 use std::fmt;
 
 use crate::case::{Answer, Call, Case};
-use crate::doors::{sides, Says, LEFT, RIGHT};
+use crate::doors::{sides, Says, LEFT, LOCKED, NOT_KNOWN, OPEN, RIGHT};
 use crate::list::{List, Signal};
 use crate::memory::on_heap;
 use crate::passed_on::written;
@@ -188,9 +188,9 @@ impl Train {
             };
             let (open, lost) = (of(Says::Open), of(Says::Nothing));
             let state = match (open, lost) {
-                (0, 0) => 0,
-                (0, _) => 2,
-                _ => 1,
+                (0, 0) => LOCKED,
+                (0, _) => NOT_KNOWN,
+                _ => OPEN,
             };
             [state, open | lost, (open | lost).count_ones().into()]
         });
@@ -233,9 +233,9 @@ impl Met {
         let met = [
             len == 1,
             len == 63,
-            state(0),
-            state(1),
-            state(2),
+            state(LOCKED),
+            state(OPEN),
+            state(NOT_KNOWN),
             vehicles.iter().any(one_open) && vehicles.iter().any(one_lost),
             marked(2),
             marked(0),

@@ -24,6 +24,11 @@ pub enum Says {
     Nothing,
 }
 
+/// What is said of a side, by its number in C.
+pub const NOT_KNOWN: u64 = 0;
+pub const LOCKED: u64 = 1;
+pub const OPEN: u64 = 2;
+
 /// The numbers of the door signals, left and right, as far as the list has them.
 pub fn doors_of(list: &List) -> [Option<usize>; 2] {
     [LEFT, RIGHT].map(|start| {

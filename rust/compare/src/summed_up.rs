@@ -2,20 +2,20 @@
 //! door is missing, and which of several faults is told.
 
 use crate::case::{Answer, Call, Case};
-use crate::doors::{doors_of, LEFT, RIGHT};
+use crate::doors::{self, doors_of, LEFT, RIGHT};
 use crate::list::{List, Signal};
 use crate::reached::{each, slot_of, Row};
 use reference::{Form, Reading, HEAD, HEARD, STORE, VEHICLES};
 
 /// What is said of the left side and of the right, by their numbers.
 const BOTH: [[&str; 3]; 3] = [
-    ["locked, locked", "locked, open", "locked, not known"],
-    ["open, locked", "open, open", "open, not known"],
     [
+        "not known, not known",
         "not known, locked",
         "not known, open",
-        "not known, not known",
     ],
+    ["locked, not known", "locked, locked", "locked, open"],
+    ["open, not known", "open, locked", "open, open"],
 ];
 
 /// Of each side: its size, and the reason of a vehicle that is locked, that is open, and of which it is not known.
@@ -187,7 +187,10 @@ impl Side {
         let alone = |vehicle: Option<&u64>| several && vehicle.is_some_and(|v| self.set == 1 << v);
         let all_open = asked.iter().all(|&v| self.says(v, 0));
         met(&[
-            ("open, though not known of others", self.state == 1 && lost),
+            (
+                "open, though not known of others",
+                self.state == doors::OPEN && lost,
+            ),
             ("open, all of several", several && all_open),
             ("the first alone of several", alone(asked.first())),
             ("the last alone of several", alone(asked.last())),
@@ -197,7 +200,7 @@ impl Side {
             ),
             (
                 "not open, though replaced by 0",
-                self.state == 2 && self.replacement == 0,
+                self.state == doors::NOT_KNOWN && self.replacement == 0,
             ),
         ])
     }
@@ -214,7 +217,7 @@ impl Side {
                 .iter()
                 .any(|&v| self.of(v).reason == 8 && bit(v) == value)
         };
-        let (locked, kept) = (self.state == 0, self.state != 0);
+        let (locked, kept) = (self.state == doors::LOCKED, self.state != doors::LOCKED);
         let expired = |&v: &u64| slot(v)[HEARD] == 2 && self.says(v, 1);
         met(&[
             ("locked, though expired", asked.iter().any(expired)),

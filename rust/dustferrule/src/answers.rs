@@ -212,20 +212,20 @@ pub struct Property {
 #[repr(u8)]
 pub enum State {
     /// Every vehicle's are locked.
-    Locked = 0,
+    Locked = 1,
     /// Some vehicle's are open.
-    Open = 1,
+    Open = 2,
     /// Not known: none is open, and not every vehicle's bit is live.
-    Unknown = 2,
+    Unknown = 0,
 }
 
 impl State {
     /// The state that has this number.
     pub(crate) const fn of(number: u32) -> Option<State> {
         match number {
-            0 => Some(State::Locked),
-            1 => Some(State::Open),
-            2 => Some(State::Unknown),
+            0 => Some(State::Unknown),
+            1 => Some(State::Locked),
+            2 => Some(State::Open),
             _ => None,
         }
     }

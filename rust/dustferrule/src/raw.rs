@@ -165,7 +165,7 @@ pub struct df_christened {
     pub vehicles: u64,
 }
 
-/// `left`, `right`: 0 locked, 1 open, 2 not known; the vehicles that kept the side from locked, as of [`df_members`].
+/// `left`, `right`: 0 not known, 1 locked, 2 open; the vehicles that kept the side from locked, as of [`df_members`].
 #[repr(C)]
 #[derive(Debug, Clone, Copy)]
 pub struct df_doors_summary {

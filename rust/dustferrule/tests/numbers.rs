@@ -197,7 +197,7 @@ fn doors_in_each_state() {
     assert_eq!(show(&[2; 2]), both(locked, side(State::Open, 4)));
     let (unknown, open) = (side(State::Unknown, 8), side(State::Open, 4 | 8));
     assert_eq!(show(&[2; 3]), both(unknown, open));
-    let states = [State::Locked, State::Open, State::Unknown];
+    let states = [State::Unknown, State::Locked, State::Open];
     assert_eq!(states.map(|state| state as u8), [0, 1, 2]);
 }
 

@@ -12,11 +12,11 @@ use crate::train::{resolve, Members};
 #[derive(Debug, Clone, Copy, PartialEq, Eq)]
 pub enum State {
     /// "Locked exactly if every vehicle's bit is live and 1".
-    Locked = 0,
+    Locked = 1,
     /// "open if any vehicle's is live and 0".
-    Open = 1,
+    Open = 2,
     /// "not known otherwise".
-    Unknown = 2,
+    Unknown = 0,
 }
 
 /// What is shown of one side.

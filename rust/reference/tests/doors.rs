@@ -2,7 +2,7 @@
 
 mod support;
 
-use reference::{doors, resolve, Doors, Form, Refusal, Side};
+use reference::{doors, resolve, Doors, Form, Refusal, Side, State};
 use support::plain::{self, Code, List, Signal};
 use support::{
     make, plant, refusal, widened, Random, EASE, HEAD, HEARD, SIGNAL_SIZE, SLOT, STAMP, STORE,
@@ -80,7 +80,12 @@ fn all_locked() -> Vec<u8> {
 fn told(side: Side) -> plain::Side {
     let kept: Vec<u64> = (0..64).filter(|v| side.kept.set >> v & 1 == 1).collect();
     assert_eq!(side.kept.size as usize, kept.len());
-    (side.state as u8, kept)
+    let state = match side.state {
+        State::Locked => 0,
+        State::Open => 1,
+        State::Unknown => 2,
+    };
+    (state, kept)
 }
 
 /// Holds the summary, in both forms of the list, to what is told in the plainest way. Gives both sides, or the refusal.
