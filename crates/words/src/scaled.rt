@@ -15,7 +15,7 @@ pub fn not_scaled() -> Shown {
     Shown::Code(0)
 }
 
-// Signal k of a list, which is s there, as it is read and shown in its unit, a replacement too.
+// Signal k of a list, which is s there, as it is read and shown in its unit, a replacement too. Inner: for the programs alone.
 pub fn shown_at(
     list: &[u8],
     form: u8,
