@@ -1,19 +1,25 @@
 #!/usr/bin/env python3
-"""Writes the signal lists of this folder from signals.csv, a telegram with remedy texts, and christening records of a train. data/README.md says what is
-the sources' and what is a choice.
+"""Writes the signal lists of this folder from signals.csv, a telegram with remedy texts, christening records of a train, and recordings of marshalling.
+data/README.md says what is the sources' and what is a choice.
 
     data/make.py            writes coach.list, coach-2.list, coach-next.list, coach-wrong.list, coach-off.list, plain-coach.list,
-                            driving-trailer.list, counters.list and L.list; door.texts, door.telegram and door-off.telegram; train.records
+                            driving-trailer.list, counters.list and L.list; door.texts, door.telegram and door-off.telegram; train.records;
+                            train.rec and train-off.rec, from the telegrams of scene/
     data/make.py --check    only says whether they are as they would be written, whether the programs' table of kinds is the column `kind`, and
                             whether `christening` has the names of properties.csv
 """
 import csv
+import io
 import os
 import re
 import sys
 
 from files import HERE, settle
 from serials import pack as pack_serial
+from slots import store, taken
+
+sys.path.append(os.path.join(HERE, "..", "examples", "python"))
+import recorder  # from examples/python/
 
 TYPES = {"R3": 0, "R1": 1, "R2": 2}
 # every check place printed in Appendix B: octets 3-8, and octets 41-46
@@ -193,6 +199,33 @@ def record(rows):
     return bytes(out)
 
 
+# The coach's marshalling as the train of scene/ is heard, a vehicle at a time: its number, the clock and the telegram; and the clock of each step, with
+# the data after it. Octets 8, 19 and 20 are in no route. What vehicle 3 said is too old from the second step on
+HEARD = [(3, 1000, "3-R3"), (1, 6000, "1-R1"), (2, 7500, "2-R2")]
+STEPS = [
+    (5000, "01 00 00 00 00 00 05 a5 00 00 00 00 6a a8 fb 00 00 00 a5 a5"),
+    (7000, "c1 34 20 00 28 00 05 a5 00 00 00 00 00 00 00 00 00 00 a5 a5"),
+    (9000, "f1 34 20 00 28 00 35 a5 1b 58 28 00 00 00 00 00 00 00 a5 a5"),
+]
+
+
+def recording(data):
+    """The recording of these data, by the stores as they were filled; the first are marshalled into octets A5."""
+    file, held, before = io.BytesIO(), store(), b"\xa5" * 20
+    recorder.start(file, 1, pack(list(read_signals()), ROUTES))
+    for (vehicle, stamp, name), (clock, after) in zip(HEARD, data):
+        held = taken(held, vehicle, stamp, recorder.octets_of(os.path.join(HERE, "scene", name + ".telegram")))
+        recorder.add_step(file, clock, held, before, after)
+        before = after
+    return file.getvalue()
+
+
+def too_late(data):
+    """The data of a gateway that does not look at the age: octets 13-18 stay as vehicle 3 said them."""
+    first = data[0][1]
+    return [(clock, after[:12] + first[12:18] + after[18:]) for clock, after in data]
+
+
 def names_of_code():
     """The lines of the program's byte string, with its escapes undone."""
     with open(NAMES) as f:
@@ -236,6 +269,7 @@ def check_kinds():
 
 
 def main():
+    data = [(clock, bytes.fromhex(after)) for clock, after in STEPS]
     files = {
         "L.list": L,
         "counters.list": COUNTERS,
@@ -250,6 +284,8 @@ def main():
         "door.telegram": remedies(*DOOR),
         "door-off.telegram": block_off(remedies(*DOOR), 1),
         "train.records": b"".join(map(record, TRAIN)),
+        "train.rec": recording(data),
+        "train-off.rec": recording(too_late(data)),
     }
     return settle(files, "make.py") or "--check" in sys.argv and (check_kinds() or check_names())
 

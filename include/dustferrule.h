@@ -13,7 +13,7 @@
  *
  * Results: `refusal` is 0, or a number of DF_REFUSALS below; every field that an answer does not use is 0. A refused call changes no
  * octet it was lent. Of the numbers that a call can meet, 1-4 come first, as judging the list meets them, then the lowest; df_christen,
- * df_doors and the calls on remedy texts say their own order.
+ * df_check_step, df_doors and the calls on remedy texts say their own order.
  *
  * `form`, behind each list, says how its signal entries are laid out: DF_FORM_1, 16 octets, or DF_FORM_2, 18 octets, of which the last two
  * are a serial number, 0 for none. Any number of 8 bits but 2 is form 1. A list in form 2 answers as the same list without its serial numbers
@@ -96,7 +96,10 @@ enum df_state { DF_UNKNOWN = 0, DF_LOCKED = 1, DF_OPEN = 2 };
     X(SERIAL_SET, 32, "serial number set") \
     X(FORM_OUTPUT, 33, "output not of the needed length") \
     X(PROFILE, 34, "profile rule broken") \
-    X(DOOR_MISSING, 35, "door signal missing from the list")
+    X(DOOR_MISSING, 35, "door signal missing from the list") \
+    X(DATA_LENGTHS, 36, "data areas differ in length") \
+    X(STEP_BROKEN, 37, "step does not follow on") \
+    X(STEPS_TOO_MANY, 38, "more than 1,000 steps")
 
 /* The reasons of a reading, likewise. */
 #define DF_REASONS(X) \
@@ -181,6 +184,13 @@ typedef struct { uint32_t found, level, octet, bit, holds; } df_property_row;
 
 /* vehicles: how many marks were written */
 typedef struct { uint32_t refusal; uint64_t vehicles; } df_christened;
+
+/* right: 1 the data after are what the rules give, 0 a bit is wrong, or refused; octet, bit: the first wrong bit, by its octet, from 0, and its place
+ * in it, 0 the most significant; in_route: 1 it lies in a route, 0 in none; route, reason: its number, from 0, and that of DF_REASONS which reading
+ * its value gives */
+typedef struct {
+    uint32_t refusal; uint32_t right; uint64_t carried; uint64_t octet; uint32_t bit; uint32_t in_route; uint64_t route; uint32_t reason;
+} df_checked;
 
 /* left, right: a number of df_state; left_set, right_set: the vehicles that kept the side from locked, as of df_members; left_size, right_size: how
  * many they are */
@@ -295,6 +305,14 @@ df_property_row df_property(const uint8_t octets[56], uint32_t row);
  * bits are not read. Writes a mark octet for each vehicle, as df_resolve takes them, into the first octets of marks; the others stay. Sleeping is
  * 51/4; tractive 24/0 or 24/1; a coach has any of 50/0, 50/1, 51/0, 51/3 and 51/4. Refusals 31, then 17 and 18. */
 df_christened df_christen(const uint8_t *records, size_t records_len, const uint8_t *pairs, size_t pairs_len, uint8_t marks[63]);
+
+/* Checks one step of a supplier's recording of marshalling: the data after are right exactly if df_marshal would make them of the data before, bits
+ * outside the routes included. `steps` is how many steps of the recording were right before it, and `last` are the data after of the last of them,
+ * which with 0 steps are not looked at. The first step that is refused or wrong ends the judging; with no steps a recording is accepted if df_judge
+ * accepts its list. The data may have any length, and nothing lent is written. Refusals 38 with 1,000 steps or more, then 1-4, then 5, 12 for the
+ * data before, 36, 37. */
+df_checked df_check_step(const uint8_t *list, size_t list_len, uint8_t form, size_t steps, const uint8_t *last, size_t last_len, const uint8_t *store,
+                         size_t store_len, uint32_t clock, const uint8_t *before, size_t before_len, const uint8_t *after, size_t after_len);
 
 /* What a driver's desk shows of the doors, by octet 20 bits 4, left, and 5, right, of each vehicle that meets an address, 66 for all; marks and
  * address as of df_resolve. A side is locked exactly if every such vehicle's bit is live and 1, open if any such vehicle's is live and 0, else not known.

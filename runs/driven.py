@@ -16,7 +16,7 @@ import time
 import printed
 
 ROOT = printed.ROOT
-PROGRAMS = ("judge", "extends", "compare", "convert", "take", "sweep", "believe", "differ", "marshal", "compose", "relay", "remedies", "write_remedies", "christening", "desk")
+PROGRAMS = ("judge", "extends", "compare", "convert", "take", "sweep", "believe", "differ", "marshal", "compose", "relay", "remedies", "write_remedies", "christening", "desk", "recording")
 TOOLS = ("sh", "awk", "readlink", "uname")  # what an installed program needs beside itself
 BUILT = ("bin", "stamp")  # of target/: what a run goes by that finds all proved
 OTHER = os.uname().machine != "x86_64"
@@ -25,6 +25,7 @@ COACH_2, PLAIN, OFF = "data/coach-2.list", "data/plain-coach.list", "data/coach-
 DOOR, DOOR_OFF, TEXTS = "data/door.telegram", "data/door-off.telegram", "data/door.texts"
 RECORDS = "data/train.records"
 PLATFORM, CONSIST = "data/scene/platform.store", "data/scene/platform.consist"
+RECORDING, RECORDING_OFF = "data/train.rec", "data/train-off.rec"
 OK = "list ok checks=48 signals=165 codes=41 routes=14 version=2\n"
 OK_PLAIN = "list ok profile=plain-coach checks=11 signals=64 codes=3 routes=14 version=2\n"
 OFF_PAGE = "! changed  R1 octet 54 bits 0-3  check octet 41 bits 2-3 -> octet 41 bits 4-5  breaks extending: check place\nextends: no\n"
@@ -136,6 +137,11 @@ def statuses(how, start, env=None):
     end(1, ["desk", COACH, PLATFORM, "7000", CONSIST, "63"], err="refused 20: ")
     end(2, ["desk", COACH, PLATFORM, "7000", CONSIST, "coaches"], err="error: ADDRESS 'coaches': ")
     end(2, ["desk", COACH, PLATFORM, "7000", "data/none"], err="error: CONSIST 'data/none': ")
+    end(0, ["recording", RECORDING], "accepted, 3 steps\n")
+    with open(os.path.join(ROOT, "crates", "recording", "stdout"), encoding="utf-8") as f:
+        end(1, ["recording", RECORDING_OFF], f.read())
+    end(2, ["recording", COACH], err=f"error: FILE '{COACH}': no recording: ")
+    end(2, ["recording", "data/none"], err="error: FILE 'data/none': ")
     end(2, ["differ", COACH, STORE, STORE, "9000"], err="refused ")
     end(2, ["differ", COACH, "data/none", STORE, "9000"], err="error: ")
     for name in PROGRAMS:
@@ -143,7 +149,7 @@ def statuses(how, start, env=None):
         for word in ("help", "--help", "-h"):
             done = run(start(name) + [word], env=env)
             check(f"{how}, {name} {word}", done.returncode == 0 and done.stdout.startswith(name + " ") and not done.stderr, done)
-            check(f"{how}, {name} {word} says its status", name not in ("extends", "differ", "compare") or "`diff`" in done.stdout)
+            check(f"{how}, {name} {word} says its status", name not in ("extends", "differ", "compare", "recording") or "`diff`" in done.stdout)
     with open("/dev/full", "w") as full:
         done = subprocess.run(start("judge") + [COACH], cwd=ROOT, stdout=full, stderr=subprocess.DEVNULL, env=env, timeout=60)
     check(f"{how}, an answer that cannot be written", done.returncode == 2, done.returncode)
@@ -234,6 +240,11 @@ def standard_input():
             words = [COACH, PLATFORM, "7000", CONSIST]
             words[k] = "-"
             ends(f"desk of -, word {k + 1}", given(file or COACH, "desk", *words), *((0, page) if file else (2, None, "error: '-' ")))
+        ends("recording of -", given(RECORDING, "recording", "-"), 0, "accepted, 3 steps\n")
+        with open(os.path.join(folder, "again.rec"), "wb") as f, open(os.path.join(ROOT, RECORDING), "rb") as whole:
+            octets = whole.read()
+            f.write(octets + octets[-8687:])
+        ends("recording of - that is refused", given(os.path.join(folder, "again.rec"), "recording", "-"), 2, err="refused 37 in step 4: ")
         ends("write_remedies of -", given(TEXTS, "write_remedies", "-", "door", folder=folder), 0, "written in de: 4 texts, 470 octets\n")
         ends("relay of -", given(STORE, "relay", "coach.list", "-", "7000", "1", "passed", folder=folder), 0, "relayed R1 version 2 octets 128, live 128 of 129 signals\n")
 

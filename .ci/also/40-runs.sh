@@ -2,8 +2,9 @@
 . .ci/need.sh
 need python3 python3
 need git git
+need cc gcc
 jobs=()
-for table in judge extends comparing programs remedies christening desk driven writers; do
+for table in judge extends comparing programs remedies christening desk recording driven writers; do
     python3 "runs/$table.py" &
     jobs+=($!)
 done

@@ -532,6 +532,81 @@ static void no_doors(void)
     expect("df_doors, list refused", no_desk(d, DF_REFUSAL_LIST_ENDS, 36));
 }
 
+/* two signals of four bits in R1 octet 54, the second of version 2, routed from vehicle 1 to bits 0-3 of the first data octet and of the second */
+static const uint8_t T[52] = {0, 0, 0, 2, 0x01, 0xA8, 4, 1, 0, 1, 0, 0, 0x13, 0x88, 0, 0, 0, 0, 0, 0, 0x01, 0xAC, 4, 1, 0, 2,
+                              0, 0, 0x13, 0x88, 0, 0, 0, 0, 0, 0, 0, 0, 0, 2, 0, 0, 1, 0, 0, 0, 0, 1, 1, 0, 0, 8};
+
+/* every field is looked at */
+static int right(df_checked c)
+{
+    return !c.refusal && c.right == 1 && !c.carried && !c.octet && !c.bit && !c.in_route && !c.route && !c.reason;
+}
+
+static int wrong(df_checked c, uint64_t octet, uint32_t bit, uint32_t in_route, uint64_t route, uint32_t reason)
+{
+    return !c.refusal && !c.right && !c.carried && c.octet == octet && c.bit == bit && c.in_route == in_route && c.route == route &&
+           c.reason == reason;
+}
+
+static int unchecked(df_checked c, uint32_t refusal, uint64_t carried)
+{
+    return c.refusal == refusal && !c.right && c.carried == carried && !c.octet && !c.bit && !c.in_route && !c.route && !c.reason;
+}
+
+/* a step of two octets, the data before AB CD, of which 4B 0D is made while vehicle 1's 4 is live */
+static df_checked two(const uint8_t *store, size_t steps, const char *last, uint32_t clock, const char *after)
+{
+    return df_check_step(T, sizeof T, DF_FORM_1, steps, (const uint8_t *)last, 2, store, DF_STORE_OCTETS, clock, (const uint8_t *)"\xAB\xCD", 2,
+                         (const uint8_t *)after, 2);
+}
+
+static void recorded(void)
+{
+    static uint8_t store[DF_STORE_OCTETS], before[300], after[300];
+    uint8_t r1[128] = {0x11, 1}, wide[sizeof T + 4];
+    r1[53] = 0x45;
+    expect("df_take, to be recorded", !df_take(store, sizeof store, 1, 1000, r1, sizeof r1).refusal);
+    expect("df_check_step", right(two(store, 0, "\0\0", 6000, "\x4B\x0D")) && right(two(store, 1, "\xAB\xCD", 6000, "\x4B\x0D")));
+    expect("df_check_step, the 1,000th", right(two(store, 999, "\xAB\xCD", 6000, "\x4B\x0D")));
+    expect("df_check_step, in a route", wrong(two(store, 0, "\0\0", 6000, "\x5B\x0D"), 0, 3, 1, 0, DF_REASON_LIVE_OK));
+    expect("df_check_step, in another", wrong(two(store, 0, "\0\0", 6000, "\x4B\x8D"), 1, 0, 1, 1, DF_REASON_SINCE_ABOVE));
+    expect("df_check_step, in none", wrong(two(store, 0, "\0\0", 6000, "\x4A\x0C"), 0, 7, 0, 0, 0));
+    expect("df_check_step, too old", wrong(two(store, 0, "\0\0", 6001, "\x4B\x0D"), 0, 1, 1, 0, DF_REASON_TOO_OLD));
+    /* behind all that routes can reach */
+    df_checked c = df_check_step(T, sizeof T, DF_FORM_1, 1, before, 300, store, sizeof store, 6001, before, 300, after, 300);
+    expect("df_check_step, 300 octets", right(c));
+    after[299] = 1;
+    c = df_check_step(T, sizeof T, DF_FORM_1, 1, before, 300, store, sizeof store, 6001, before, 300, after, 300);
+    expect("df_check_step, the last bit", wrong(c, 299, 7, 0, 0, 0));
+    /* 64 bits over nine octets, the last of which has four of them: the replacement ends in 6 */
+    c = df_check_step(W, sizeof W, DF_FORM_1, 0, after, 0, store, sizeof store, 6001, before, 9, (const uint8_t *)"\0\0\0\x10\x20\x30\x40\x50\x70", 9);
+    expect("df_check_step, the ninth octet", wrong(c, 8, 3, 1, 0, DF_REASON_TOO_OLD));
+    df_outcome o = df_to_form_2(T, sizeof T, wide, sizeof wide);
+    c = df_check_step(wide, sizeof wide, DF_FORM_2, 0, before, 0, store, sizeof store, 6000, before, 2, (const uint8_t *)"\x40\x10", 2);
+    expect("df_check_step, form 2", !o.refusal && wrong(c, 1, 3, 1, 1, DF_REASON_SINCE_ABOVE));
+}
+
+/* each refusal before all that come behind it */
+static void unrecorded(void)
+{
+    static uint8_t store[DF_STORE_OCTETS];
+    static const uint8_t data[3] = {0xAB, 0xCD, 0}, none[1] = {0};
+    expect("df_check_step, another bit", unchecked(two(store, 1, "\xAB\xCC", 0, "\xFF\xFF"), DF_REFUSAL_STEP_BROKEN, 0));
+    df_checked c = df_check_step(T, sizeof T, DF_FORM_1, 999, data, 3, store, sizeof store, 0, data, 2, data, 2);
+    expect("df_check_step, an octet more", unchecked(c, DF_REFUSAL_STEP_BROKEN, 0));
+    c = df_check_step(T, sizeof T, DF_FORM_1, 1, none, 0, store, sizeof store, 0, data, 2, data, 3);
+    expect("df_check_step, two lengths", unchecked(c, DF_REFUSAL_DATA_LENGTHS, 0));
+    c = df_check_step(T, sizeof T, DF_FORM_1, 1, none, 0, store, sizeof store, 0, data, 1, data, 2);
+    expect("df_check_step, data short", unchecked(c, DF_REFUSAL_DATA_SHORT, 0));
+    c = df_check_step(T, sizeof T, DF_FORM_1, 1, none, 0, store, sizeof store - 1, 0, data, 1, data, 2);
+    expect("df_check_step, no store", unchecked(c, DF_REFUSAL_STORE_LENGTH, 0));
+    c = df_check_step(T, sizeof T - 1, DF_FORM_1, 1, none, 0, store, sizeof store - 1, 0, data, 1, data, 2);
+    expect("df_check_step, list refused", unchecked(c, DF_REFUSAL_LIST_ENDS, 38));
+    c = df_check_step(T, sizeof T - 1, DF_FORM_1, 1000, none, 0, store, sizeof store - 1, 0, data, 1, data, 2);
+    expect("df_check_step, a 1,001st", unchecked(c, DF_REFUSAL_STEPS_TOO_MANY, 0));
+    expect("df_check_step, far more", unchecked(two(store, SIZE_MAX, "\xAB\xCD", 0, "\x0B\x0D"), DF_REFUSAL_STEPS_TOO_MANY, 0));
+}
+
 /* octets 1-6 and 9-20, and two texts: "test" under F3, and an empty one under F8 */
 static const uint8_t front[6] = {1, 2, 3, 4, 5, 6}, behind[12] = {9, 10, 11, 12, 13, 14, 15, 16, 17, 18, 19, 20}, keys[3] = {3, 8, 8};
 static const uint16_t lengths[3] = {4, 0, 0};
@@ -611,6 +686,9 @@ static void texts(void)
     expect("df_refusal_text", !strcmp(df_refusal_text(33), "output not of the needed length") && DF_REFUSAL_FORM_OUTPUT == 33);
     expect("df_refusal_text", !strcmp(df_refusal_text(34), "profile rule broken") && DF_REFUSAL_PROFILE == 34);
     expect("df_refusal_text", !strcmp(df_refusal_text(35), "door signal missing from the list") && DF_REFUSAL_DOOR_MISSING == 35);
+    expect("df_refusal_text", !strcmp(df_refusal_text(36), "data areas differ in length") && DF_REFUSAL_DATA_LENGTHS == 36);
+    expect("df_refusal_text", !strcmp(df_refusal_text(37), "step does not follow on") && DF_REFUSAL_STEP_BROKEN == 37);
+    expect("df_refusal_text", !strcmp(df_refusal_text(38), "more than 1,000 steps") && DF_REFUSAL_STEPS_TOO_MANY == 38);
     expect("df_refusal_text", !strcmp(df_refusal_text(DF_NOT_REFUSED), "not refused") && df_refusal_text(UINT32_MAX));
     expect("df_reason_text", !strcmp(df_reason_text(DF_REASON_LIVE_OK), "live ok") && df_reason_text(UINT32_MAX));
     expect("df_reason_text", !strcmp(df_reason_text(8), "code not known") && DF_REASON_CODE_NOT_KNOWN == 8);
@@ -631,6 +709,8 @@ int main(void)
     passed_on();
     train();
     christened();
+    recorded();
+    unrecorded();
     doors();
     no_doors();
     remedies();

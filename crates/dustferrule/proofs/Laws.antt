@@ -1,8 +1,8 @@
 -- At the boundary `refusal` is 0 exactly where the call was not refused, and where it is not 0 the lent octets are as they were. Assumes nothing.
-use Prim.Native.Nat.{ℕ}
+use Prim.Native.Nat.{ℕ, _+_, _*_, _/_, _%_, _<_}
 use mathlib.Core.Path.{_≡_, refl, ap}
 use mathlib.Core.Logic.{_↔_}
-use mathlib.Core.Bool.{Bool}
+use mathlib.Core.Bool.{Bool, true, false, cond}
 use mathlib.Core.List.{List}
 use lib.ListN.{length}
 use native.Mathlib.Omega.{arith}
@@ -24,13 +24,15 @@ use Rattle.paper.specs.Train.{Vehicle, Members, resolving}
 use Rattle.paper.specs.ETelegrams.{EReading, eReading, answering}
 use Rattle.paper.specs.Christening.{Pair, christening}
 use Rattle.paper.specs.Doors.{Doors, doors}
+use Rattle.paper.specs.Recordings.{Step, inRoute, outside, Finding, right, wrong, checking}
 use Rattle.paper.specs.Remedies.{Remedies, remedyReading, Remedy, remedyBlock, Handed, WrittenRemedies, remedyWriting}
 use Rattle.paper.proofs.RefusalLaws as laws
 use Rattle.dustferrule.specs.declared.DfOutcome.{DfOutcome}
 use Rattle.dustferrule.specs.declared.DfMarshalled.{DfMarshalled}
 use Rattle.dustferrule.specs.declared.DfChristened.{DfChristened}
+use Rattle.dustferrule.specs.declared.DfChecked.{DfChecked}
 use Rattle.dustferrule.specs.declared.DfWrote.{DfWrote}
-use Rattle.dustferrule.specs.Results.{outcomeC, judgedC, extendingC, changeC, rangeC, entryC, foundC, serialC, gapC, livesC, placeC, readingC, shownC, membersC, eReadC, remediesC, christenedC, doorsC, remedyC, wroteC, WrittenC, DeliveredC, ChristenedC, WroteC}
+use Rattle.dustferrule.specs.Results.{yesNo, outcomeC, judgedC, extendingC, changeC, rangeC, entryC, foundC, serialC, gapC, livesC, placeC, readingC, shownC, membersC, eReadC, remediesC, christenedC, doorsC, checkedC, remedyC, wroteC, WrittenC, DeliveredC, ChristenedC, WroteC}
 
 -- ---- each result, of any answer
 
@@ -86,6 +88,13 @@ members-given = laws.zero-given (λ a. membersC a .refusal) (λ a. refl) (λ n a
 
 pub summary-given : (a : Answer Doors) → Numbered a → (doorsC a .refusal ≡ 0) ↔ Given a
 summary-given = laws.zero-given (λ a. doorsC a .refusal) (λ a. refl) (λ n at. refl)
+
+pub finding-given : (a : Answer Finding) → Numbered a → (checkedC a .refusal ≡ 0) ↔ Given a
+finding-given = laws.zero-given (λ a. checkedC a .refusal) answered (λ n at. refl)
+  where
+    answered : (f : Finding) → checkedC (gives f) .refusal ≡ 0
+    answered right = refl
+    answered (wrong a p) = refl
 
 pub e-reading-given : (a : Answer EReading) → Numbered a → (eReadC a .refusal ≡ 0) ↔ Given a
 e-reading-given = laws.zero-given (λ a. eReadC a .refusal) (λ a. refl) (λ n at. refl)
@@ -204,6 +213,10 @@ pub doors-given : (form : ℕ) (xs store : List ℕ) (now : ℕ) (train : List V
     → (doorsC (doors form xs store now train a) .refusal ≡ 0) ↔ Given (doors form xs store now train a)
 doors-given form xs store now train a = summary-given _ (laws.numbered-doors form xs store now train a)
 
+pub check-step-given : (form : ℕ) (xs : List ℕ) (k : ℕ) (last : List ℕ) (s : Step)
+    → (checkedC (checking form xs k last s) .refusal ≡ 0) ↔ Given (checking form xs k last s)
+check-step-given form xs k last s = finding-given _ (laws.numbered-recordings form xs k last s)
+
 pub e-read-given : (telegram : List ℕ) → (eReadC (eReading telegram) .refusal ≡ 0) ↔ Given (eReading telegram)
 e-read-given telegram = e-reading-given _ (laws.numbered-e-reading telegram)
 
@@ -269,3 +282,19 @@ module _ (h : Handed) (out : List ℕ) (r : DfWrote) (new : List ℕ) (w : Wrote
 
   pub write-remedies-kept : (r .refusal ≡ 0 → ⊥) → new ≡ out
   write-remedies-kept = wrote-kept _ out r new w
+
+-- ---- a wrong bit, by its octet and its place in it
+
+pub wrong-c : (octet bit route reason : ℕ) (t : Bool) → bit < 8 → (t ≡ false → (route ≡ 0) × (reason ≡ 0))
+    → _≡_ {A = DfChecked}
+    (record { refusal = 0; right = 0; carried = 0; octet = octet; bit = bit; «in_route» = yesNo t; route = route; reason = reason })
+    (checkedC (gives (wrong (8 * octet + bit) (cond t (inRoute route reason) outside))))
+wrong-c octet bit route reason true lt z =
+    let o : octet ≡ (8 * octet + bit) / 8 = omega arith in
+    let b : bit ≡ (8 * octet + bit) % 8 = omega arith in
+    λ i. record { refusal = 0; right = 0; carried = 0; octet = o i; bit = b i; «in_route» = 1; route = route; reason = reason }
+wrong-c octet bit route reason false lt z =
+    let o : octet ≡ (8 * octet + bit) / 8 = omega arith in
+    let b : bit ≡ (8 * octet + bit) % 8 = omega arith in
+    let n = z refl in
+    λ i. record { refusal = 0; right = 0; carried = 0; octet = o i; bit = b i; «in_route» = 0; route = n .0 i; reason = n .1 i }

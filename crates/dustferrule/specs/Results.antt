@@ -1,5 +1,5 @@
 -- What crosses the boundary for each of the paper's answers: the refusal's number and what it carries, or 0 and the values.
-use Prim.Native.Nat.{ℕ}
+use Prim.Native.Nat.{ℕ, _/_, _%_}
 use mathlib.Core.Path.{_≡_}
 use mathlib.Core.Bool.{Bool, true, false, cond}
 use mathlib.Core.List.{List, map}
@@ -19,6 +19,7 @@ use Rattle.paper.specs.Train.{Vehicle, Members}
 use Rattle.train.specs.Marks.{octetOf}
 use Rattle.paper.specs.Christening.{Level, gateway, vehicle, Held}
 use Rattle.paper.specs.Doors.{State, locked, opened, unknown, Doors}
+use Rattle.paper.specs.Recordings.{Place, inRoute, outside, Finding, right, wrong}
 use Rattle.paper.specs.ETelegrams.{EReading}
 use Rattle.paper.specs.Remedies.{Remedies, Remedy, WrittenRemedies}
 use Rattle.dustferrule.specs.declared.DfOutcome.{DfOutcome}
@@ -38,6 +39,7 @@ use Rattle.dustferrule.specs.declared.DfMembers.{DfMembers}
 use Rattle.dustferrule.specs.declared.DfProperty.{DfProperty}
 use Rattle.dustferrule.specs.declared.DfChristened.{DfChristened}
 use Rattle.dustferrule.specs.declared.DfDoors.{DfDoors}
+use Rattle.dustferrule.specs.declared.DfChecked.{DfChecked}
 use Rattle.dustferrule.specs.declared.DfERead.{DfERead}
 use Rattle.dustferrule.specs.declared.DfRemedies.{DfRemedies}
 use Rattle.dustferrule.specs.declared.DfRemedy.{DfRemedy}
@@ -193,6 +195,35 @@ doorsC (gives d) =
     }
 doorsC (refused n at) =
     record { refusal = n; left = 0; carried = at; «left_set» = 0; «left_size» = 0; right = 0; «right_set» = 0; «right_size» = 0 }
+
+-- a place: whether in a route, the route, its reason
+abbrev pub routedC : Place → ℕ
+routedC (inRoute r reason) = 1
+routedC outside = 0
+
+abbrev pub routeC : Place → ℕ
+routeC (inRoute r reason) = r
+routeC outside = 0
+
+abbrev pub reasonC : Place → ℕ
+reasonC (inRoute r reason) = reason
+reasonC outside = 0
+
+-- the wrong bit by its octet, from 0, and its place in it
+abbrev pub checkedC : Answer Finding → DfChecked
+checkedC (gives right) = record { refusal = 0; right = 1; carried = 0; octet = 0; bit = 0; «in_route» = 0; route = 0; reason = 0 }
+checkedC (gives (wrong a p)) =
+    record {
+      refusal = 0;
+      right = 0;
+      carried = 0;
+      octet = a / 8;
+      bit = a % 8;
+      «in_route» = routedC p;
+      route = routeC p;
+      reason = reasonC p;
+    }
+checkedC (refused n at) = record { refusal = n; right = 0; carried = at; octet = 0; bit = 0; «in_route» = 0; route = 0; reason = 0 }
 
 abbrev pub eReadC : Answer EReading → DfERead
 eReadC (gives r) = record { refusal = 0; code = r .code; report = yesNo (r .report); status = r .status }

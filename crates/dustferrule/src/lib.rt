@@ -20,6 +20,7 @@ ghost use Rattle.paper.specs.Shown.{showing};
 ghost use Rattle.paper.specs.Train.{resolving};
 ghost use Rattle.paper.specs.Christening.{christening, propertyOf};
 ghost use Rattle.paper.specs.Doors.{doors};
+ghost use Rattle.paper.specs.Recordings.{checking};
 ghost use Rattle.paper.specs.ETelegrams.{eReading, answering};
 ghost use Rattle.paper.specs.Remedies.{areaBlocks, remedyReading, remedyBlock, remedyWriting};
 ghost use Rattle.refusals.specs.Refusal.{numberOf, carriedOf};
@@ -38,13 +39,15 @@ ghost use Rattle.shown.specs.Show.{kindOf, shownOf, showingAnswer};
 ghost use Rattle.train.specs.Marks.{vehicleOf, resolvedAnswer};
 ghost use Rattle.records.specs.Records.{pairOf, heldAnswer, levelAs, christenedAnswer};
 ghost use Rattle.doors.specs.Doors.{stateAs, summaryAnswer};
+ghost use Rattle.recordings.specs.Recordings.{checkedAnswer, Low, stepOf};
 ghost use Rattle.etelegrams.specs.Answers.{eReadAnswer};
 ghost use Rattle.texts.specs.Texts.{readAnswer as remediesAnswer, remedyAnswer};
 ghost use Rattle.textwriting.specs.Writing.{handedOf, wroteAnswer};
-ghost use Rattle.dustferrule.specs.Results.{yesNo, profileNumbered, changeRefused, changeC, rangeRefused, rangeC, kindNumbered, codeOf, unitOf, floatOf, outcomeC, judgedC, extendingC, entryC, foundC, serialC, gapC, livesC, placeC, readingC, shownC, membersC, levelC, propertyC, christenedC, stateC, doorsC, eReadC, remediesC, remedyC, wroteC, WrittenC, DeliveredC, ChristenedC, WroteC};
+ghost use Rattle.dustferrule.specs.Results.{yesNo, profileNumbered, changeRefused, changeC, rangeRefused, rangeC, kindNumbered, codeOf, unitOf, floatOf, outcomeC, judgedC, extendingC, entryC, foundC, serialC, gapC, livesC, placeC, readingC, shownC, membersC, levelC, propertyC, christenedC, stateC, doorsC, checkedC, eReadC, remediesC, remedyC, wroteC, WrittenC, DeliveredC, ChristenedC, WroteC};
 use doors::State;
 use doors::SummaryOutcome;
 use gateway::Changes;
+use gateway::Checked;
 use gateway::Christened;
 use gateway::ERead;
 use gateway::EntryOutcome;
@@ -222,6 +225,20 @@ pub struct DfDoors {
     pub right: u32,
     pub right_set: u64,
     pub right_size: u32,
+}
+
+// right: 1 the data after are what our rules give, 0 refused, or a bit is wrong: bit 0-7 of this octet from 0 is the first; in_route: 1 it lies in this route, whose
+// reading has this reason, 0 in none.
+#[repr(C)]
+pub struct DfChecked {
+    pub refusal: u32,
+    pub right: u32,
+    pub carried: u64,
+    pub octet: u64,
+    pub bit: u32,
+    pub in_route: u32,
+    pub route: u64,
+    pub reason: u32,
 }
 
 #[repr(C)]
@@ -751,6 +768,44 @@ fn doors_c(o: SummaryOutcome) -> DfDoors
     }
 }
 
+fn checked_c(c: Checked) -> DfChecked
+    requires { ⌜ Low c ⌝ }
+    ensures { λ r. ⌜ r ≡ checkedC (checkedAnswer c) ⌝ }
+{
+    match c {
+        Checked::Right => DfChecked {
+            refusal: 0,
+            right: 1,
+            carried: 0,
+            octet: 0,
+            bit: 0,
+            in_route: 0,
+            route: 0,
+            reason: 0,
+        },
+        Checked::Wrong(w) => DfChecked {
+            refusal: 0,
+            right: 0,
+            carried: 0,
+            octet: w.octet as u64,
+            bit: w.bit as u32,
+            in_route: yes_no(w.in_route),
+            route: w.route as u64,
+            reason: w.reason as u32,
+        },
+        Checked::Refused(f) => DfChecked {
+            refusal: number(f),
+            right: 0,
+            carried: carried(f),
+            octet: 0,
+            bit: 0,
+            in_route: 0,
+            route: 0,
+            reason: 0,
+        },
+    }
+}
+
 fn e_read_c(o: ERead) -> DfERead
     ensures { λ r. ⌜ r ≡ eReadC (eReadAnswer o) ⌝ }
 {
@@ -1041,6 +1096,22 @@ pub extern "C" fn df_christen(records: &[u8], pairs: &[u8], marks: &mut [u8; 63]
     ensures { λ r. ⌜ ChristenedC (christening (now (records .entry)) (map pairOf (now (pairs .entry)))) (now (marks .entry)) r (now (marks .exit)) ⌝ }
 {
     christened_c(gateway::christen(records, pairs, marks))
+}
+
+#[no_mangle]
+pub extern "C" fn df_check_step(
+    list: &[u8],
+    form: u8,
+    steps: usize,
+    last: &[u8],
+    store: &[u8],
+    clock: u32,
+    before: &[u8],
+    after: &[u8],
+) -> DfChecked
+    ensures { λ r. ⌜ r ≡ checkedC (checking form (now (list .entry)) steps (now (last .entry)) (stepOf (now (store .entry)) clock (now (before .entry)) (now (after .entry)))) ⌝ }
+{
+    checked_c(gateway::check_step(list, form, steps, last, store, clock, before, after))
 }
 
 #[no_mangle]

@@ -1,4 +1,4 @@
-// The files that a program's arguments name, read whole and replaced whole.
+// The files that a program's arguments name, read whole or a piece at a time, and replaced whole.
 //
 // One guard stands before everything that a program writes (`begin`): a file is replaced only where it is a plain one, is not given as
 // another argument, may be written, and has one name alone. What its octets may be is the program's to say (`words::may_replace`).
@@ -51,14 +51,37 @@ pub fn read(i: usize, name: &[u8], buf: &mut [u8]) -> Input
 pub fn read_at(i: usize, name: &[u8], path: &[u8], buf: &mut [u8]) -> Input
     ensures { λ r. ⌜ Counts (r .octets) (now (buf .exit)) ⌝ }
 {
-    let fd = os::open_read(path);
+    let fd = open_at(i, name, path);
     if fd < 0 {
-        print_error(i, name, os::errno());
         return Input {
             octets: 0,
             ok: false,
         };
     }
+    let input = read_piece(i, name, fd, buf);
+    libc::close(fd);
+    input
+}
+
+fn open_at(i: usize, name: &[u8], path: &[u8]) -> i32 {
+    let fd = os::open_read(path);
+    if fd < 0 {
+        print_error(i, name, os::errno());
+    }
+    fd
+}
+
+// Opens the file of argument i, to be read a piece at a time; negative where it can't be, which an error line has said.
+pub fn open(i: usize, name: &[u8]) -> i32 {
+    let mut path = io::buffer();
+    let n = path::path_of(i, &mut path);
+    open_at(i, name, &path[..n])
+}
+
+// Reads the next piece of the file of argument i, which is open as fd, into buf: fewer octets than buf has where the file ends.
+pub fn read_piece(i: usize, name: &[u8], fd: i32, buf: &mut [u8]) -> Input
+    ensures { λ r. ⌜ Counts (r .octets) (now (buf .exit)) ⌝ }
+{
     let octets = io::read_full(fd, buf);
     // Not where buf is full: a pipe that is held open would keep the read waiting.
     let ok = if octets == buf.len() {
@@ -69,7 +92,6 @@ pub fn read_at(i: usize, name: &[u8], path: &[u8], buf: &mut [u8]) -> Input
     if !ok {
         print_error(i, name, os::errno());
     }
-    libc::close(fd);
     Input { octets, ok }
 }
 

@@ -31,8 +31,8 @@ fn is_short(list: &[u8], n: Counts, octets: usize, r: usize) -> bool
     octets < (t.start + lists::width_in(list, n, t.signal) + 7) / 8
 }
 
-// Asked before anything is written. Each route starts at or past the end of the one before, so the last one ends last.
-fn some_short(list: &[u8], n: Counts, octets: usize) -> bool
+// Inner: asked before anything is written. Each route starts at or past the end of the one before, so the last one ends last.
+pub fn some_short(list: &[u8], n: Counts, octets: usize) -> bool
     requires { ⌜ Laid (now list) (countsOf n) ⌝ }
     ensures { λ b. ⌜ b ≡ some (isShort (listOf (now (list .entry)) (countsOf n)) octets) (n .routes) ⌝ }
 {
@@ -42,8 +42,8 @@ fn some_short(list: &[u8], n: Counts, octets: usize) -> bool
     is_short(list, n, octets, n.routes - 1)
 }
 
-// Where the code entries of each signal start: routes go by their destinations, not by their signals.
-fn index(list: &[u8], n: Counts, first: &mut [u16])
+// Inner: where the code entries of each signal start, as routes go by their destinations and not by their signals.
+pub fn index(list: &[u8], n: Counts, first: &mut [u16])
     requires { ⌜ (Laid (now list) (countsOf n)) × (length (now first) ≡ 257) ⌝ }
     ensures { λ _. ⌜ Indexed (listOf (now (list .entry)) (countsOf n)) (now (first .exit)) ⌝ }
 {
@@ -56,8 +56,8 @@ fn index(list: &[u8], n: Counts, first: &mut [u16])
     }
 }
 
-// The code entries of signal k.
-fn entries_at(list: &[u8], n: Counts, first: &[u16], k: usize) -> Span
+// Inner: the code entries of signal k.
+pub fn entries_at(list: &[u8], n: Counts, first: &[u16], k: usize) -> Span
     requires { ⌜ (Laid (now list) (countsOf n)) × (Indexed (listOf (now list) (countsOf n)) (now first)) × (k < n .signals) ⌝ }
     ensures { λ r. ⌜ Entries (listOf (now (list .entry)) (countsOf n)) k r ⌝ }
 {

@@ -13,6 +13,7 @@ pub mod StoreLaws
 pub mod GapLaws
 pub mod ReadingLaws
 pub mod MarshallingLaws
+pub mod RecordingLaws
 pub mod ShownLaws
 pub mod OrderLaws
 pub mod TwiceLaws

@@ -1,7 +1,7 @@
 -- No refusal of the paper has the number 0, so that 0 can stand for none at the C boundary. Assumes nothing.
 use Prim.Native.Nat.{ℕ, _≤_}
-use mathlib.Core.Path.{_≡_, refl}
-use mathlib.Core.Logic.{_↔_}
+use mathlib.Core.Path.{_≡_, refl, ap₂}
+use mathlib.Core.Logic.{_↔_, _⊎_, inl, inr}
 use mathlib.Core.Bool.{Bool, true, false, not, cond}
 use lib.Dec.{ltb, eqb}
 use lib.ListN.{length}
@@ -16,7 +16,8 @@ use Rattle.paper.specs.Forms.{serialOf, toForm2, toForm1}
 use Rattle.paper.specs.Pairs.{entryOf, finding}
 use Rattle.paper.specs.Store.{taking, gapping, sweeping}
 use Rattle.paper.specs.Reading.{reading, readingBy}
-use Rattle.paper.specs.Marshalling.{marshalling}
+use Rattle.paper.specs.Marshalling.{marshalling, marshallingBy}
+use Rattle.paper.specs.Recordings.{Step, checking}
 use Rattle.paper.specs.Composing.{composing}
 use Rattle.paper.specs.Relaying.{relaying}
 use Rattle.paper.specs.Broken.{Fault}
@@ -185,10 +186,46 @@ unfolding reading
 numbered-reading form xs store now v k =
     numbered-under form xs _ (λ n. numbered-if _ 5 _ _ (omega arith) (numbered-if _ 6 _ _ (omega arith) (numbered-if _ 11 _ _ (omega arith) (numbered-gives _))))
 
+numbered-marshalling-by : (store : List ℕ) (now : ℕ) (bus : List ℕ) (l : SignalList.SignalList) → Numbered (marshallingBy store now bus l)
+numbered-marshalling-by store now bus l = numbered-if _ 5 _ _ (omega arith) (numbered-if _ 12 _ _ (omega arith) (numbered-gives _))
+
 pub numbered-marshalling : (form : ℕ) (xs store : List ℕ) (now : ℕ) (bus : List ℕ) → Numbered (marshalling form xs store now bus)
 unfolding marshalling
-numbered-marshalling form xs store now bus =
-    numbered-under form xs _ (λ n. numbered-if _ 5 _ _ (omega arith) (numbered-if _ 12 _ _ (omega arith) (numbered-gives _)))
+numbered-marshalling form xs store now bus = numbered-under form xs _ (λ n. numbered-marshalling-by store now bus (listOf xs n))
+
+pub numbered-recordings : (form : ℕ) (xs : List ℕ) (k : ℕ) (last : List ℕ) (s : Step) → Numbered (checking form xs k last s)
+unfolding checking
+numbered-recordings form xs k last s =
+    numbered-if _ 38 _ _ (omega arith) (numbered-under form xs _ (λ n.
+    numbered-then (marshallingBy (s .store) (s .clock) (s .before) (listOf xs n)) _ (numbered-marshalling-by (s .store) (s .clock) (s .before) (listOf xs n))
+    (λ m. numbered-if _ 36 _ _ (omega arith) (numbered-if _ 37 _ _ (omega arith) (numbered-gives _)))))
+
+-- and a step's refusals have no other numbers than 1-5, 12, 36, 37 and 38
+module _ (P : ℕ → Type 0) {A : Type 0} (n at : ℕ) where
+  by-if : (b : Bool) (n′ at′ : ℕ) (rest : Answer A) → P n′ → (rest ≡ refused n at → P n) → refuseIf b n′ at′ rest ≡ refused n at → P n
+  unfolding refuseIf
+  by-if true n′ at′ rest p h e = let q : n′ ≡ n = cc in rw q at p
+  by-if false n′ at′ rest p h e = h e
+
+  by-then : {B : Type 0} (x : Answer B) (k : B → Answer A) → (x ≡ refused n at → P n) → ((b : B) → k b ≡ refused n at → P n) → andThen x k ≡ refused n at → P n
+  by-then (gives b) k h g e = g b e
+  by-then (refused n′ at′) k h g e = let q : n′ ≡ n = cc in let z : at′ ≡ at = cc in h (ap₂ (λ (i j : ℕ). refused i j) q z)
+
+  by-gives : (a : A) → gives a ≡ refused n at → P n
+  by-gives a e = absurd (never-both (gives a) a n at refl e)
+
+pub recordings-numbers : (form : ℕ) (xs : List ℕ) (k : ℕ) (last : List ℕ) (s : Step) (n at : ℕ) → checking form xs k last s ≡ refused n at
+    → (n ≤ 5) ⊎ ((n ≡ 12) ⊎ ((36 ≤ n) × (n ≤ 38)))
+unfolding checking
+recordings-numbers form xs k last s n at =
+    by-if P n at _ 38 0 _ (inr (inr (omega arith, omega arith)))
+    (by-then P n at (judge form xs) _ (λ e. inl (omega (arith, judge-low form xs n at e)))
+    (λ c. by-then P n at (marshallingBy (s .store) (s .clock) (s .before) (listOf xs c)) _
+    (by-if P n at _ 5 0 _ (inl (omega arith)) (by-if P n at _ 12 0 _ (inr (inl refl)) (by-gives P n at _)))
+    (λ m. by-if P n at _ 36 0 _ (inr (inr (omega arith, omega arith))) (by-if P n at _ 37 0 _ (inr (inr (omega arith, omega arith))) (by-gives P n at _)))))
+  where
+    P : ℕ → Type 0
+    P n = (n ≤ 5) ⊎ ((n ≡ 12) ⊎ ((36 ≤ n) × (n ≤ 38)))
 
 pub numbered-composing : (form : ℕ) (xs : List ℕ) (type : ℕ) (values marks : List ℕ) (room : ℕ) → Numbered (composing form xs type values marks room)
 unfolding composing

@@ -13,6 +13,7 @@ pub mod Pairs
 pub mod Store
 pub mod Reading
 pub mod Marshalling
+pub mod Recordings
 pub mod Composing
 pub mod Widths
 pub mod Shown

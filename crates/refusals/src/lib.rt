@@ -79,6 +79,12 @@ impl Refusal {
     pub const FORM_OUTPUT: Refusal = Refusal(33, 0);
 
     pub const DOOR_MISSING: Refusal = Refusal(35, 0);
+
+    pub const DATA_LENGTHS: Refusal = Refusal(36, 0);
+
+    pub const STEP_BROKEN: Refusal = Refusal(37, 0);
+
+    pub const STEPS_TOO_MANY: Refusal = Refusal(38, 0);
 }
 
 // The paper's number.

@@ -25,6 +25,7 @@ use Rattle.paper.specs.Christening as E1
 use Rattle.paper.specs.Christening.{Level, christening, propertyOf}
 use Rattle.paper.specs.Christening.{Held as Row, Pair as MarkPair}
 use Rattle.paper.specs.Doors.{State, locked, opened, unknown, Side, Doors, doors}
+use Rattle.paper.specs.Recordings.{Step, Place, inRoute, outside, Finding, right, wrong, checking, Verdict, accepted, unlisted, named, recording}
 use Rattle.paper.specs.ETelegrams.{EReading, eReading, answering}
 use Rattle.paper.specs.Remedies.{Remedies, remedyReading, Remedy, remedyBlock, remedyText, Blocks, blocksOf, areaBlocks, Handed, WrittenRemedies, remedyWriting}
 
@@ -127,6 +128,9 @@ pub data Question : Type 0 where
   asksRow : List ℕ → ℕ → Question
   -- a list, a store, the clock, a consist and an address, of which the doors are asked for
   asksDoors : List ℕ → List ℕ → ℕ → List Vehicle → ℕ → Question
+  -- a list, how many steps went before, the last one's data after, a step; a list and the steps of a recording
+  checksStep : List ℕ → ℕ → List ℕ → Step → Question
+  checksAll : List ℕ → List Step → Question
   -- an E-telegram
   eReads : List ℕ → Question
   -- an E-telegram, a head, a status and an output
@@ -284,6 +288,21 @@ ofSide s = ofState (s .state) ∷ ofMembers (s .kept)
 abbrev pub ofDoors : Doors → List ℕ
 ofDoors d = ofSide (d .left) ++ ofSide (d .right)
 
+-- 0 right; 1, the wrong bit, and 1 with its route and our reason, or 0 for outside
+abbrev pub ofPlace : Place → List ℕ
+ofPlace (inRoute r reason) = 1 ∷ r ∷ reason ∷ []
+ofPlace outside = 0 ∷ []
+
+abbrev pub ofFinding : Finding → List ℕ
+ofFinding right = 0 ∷ []
+ofFinding (wrong a p) = 1 ∷ a ∷ ofPlace p
+
+-- 0 and how many steps; 1 and the step that is named, with what is said of it
+abbrev pub ofVerdict : Verdict → List ℕ
+ofVerdict (accepted k) = gave (0 ∷ k ∷ [])
+ofVerdict (unlisted n at) = refuses n at
+ofVerdict (named k x) = gave (1 ∷ k ∷ said ofFinding x)
+
 abbrev pub ofRemedies : Remedies → List ℕ
 ofRemedies m = m .language ∷ m .ordered ∷ m .count ∷ []
 
@@ -342,6 +361,8 @@ ask (resolves train a) = said ofMembers (resolving train a)
 ask (christens area pairs) = said (map ofVehicle) (christening area pairs)
 ask (asksRow octets row) = gave (ofSought ofRow (propertyOf octets row))
 ask (asksDoors xs store now train a) = said ofDoors (doors 1 xs store now train a)
+ask (checksStep xs k last s) = said ofFinding (checking 1 xs k last s)
+ask (checksAll xs ss) = ofVerdict (recording 1 xs ss)
 ask (eReads telegram) = said ofERead (eReading telegram)
 ask (eAnswers telegram head status out) = wroteAll out (answering telegram head status out)
 ask (remedyReads telegram) = said ofRemedies (remedyReading telegram)

@@ -7,4 +7,5 @@ pub mod CompareCases
 pub mod RemedyCases
 pub mod RecordCases
 pub mod DoorCases
+pub mod RecordingCases
 pub mod Wrong

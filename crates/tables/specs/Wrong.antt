@@ -32,12 +32,15 @@ use Rattle.paper.specs.Shown as Shown
 use Rattle.paper.specs.Train.{Vehicle, consistRule, meets, member, setTo, membersOf, resolving}
 use Rattle.paper.specs.ETelegrams.{requests, isRequest, isReport, eLimit, eReading, answerTo, answering}
 use Rattle.paper.specs.Doors.{stateOf, sideOf, doorsOf, doors}
+use Rattle.paper.specs.Recordings.{routeWith, located, firstWrong, sameOctets, checking, onward, judged, recording}
+use Rattle.paper.specs.Recordings as Recordings
 use Rattle.paper.specs.Christening.{properties, described, vehiclesOf, christening, rowIn, propertyOf}
 use Rattle.paper.specs.Remedies.{start, twice, blockFault, firstFault, remedyReading, remedyBlock, remedyText, areaTo, blockOctets, blocksTo, frontOctets, telegramOf, sizeTo, handedFault, remedyWriting}
 use Rattle.paper.specs.Bench.{listL, listL2, listV, telegram, silent}
 use Rattle.tables.specs.Marked.{heardAt, rawAt}
-use Rattle.tables.specs.Cases.{joined, made, made2, bits, signal, code, route, Question, judges, judgesIn, faults, faultsIn, profilesIn, profiles, breaches, extends, extendsIn, serialsIn, movesTo2, movesTo1, readsIn, signalEntries, routeEntries, finds, pairs, signalChangesIn, changes, reroutes, gains, places, takes, gaps, sweeps, holds, reads, marshals, composes, relays, shows, resolves, eReads, eAnswers, gave, refuses, ask, christens, asksRow, asksDoors, remedyReads, remedyBlocks, remedyWrites, textsWrites}
+use Rattle.tables.specs.Cases.{joined, made, made2, bits, signal, code, route, Question, judges, judgesIn, faults, faultsIn, profilesIn, profiles, breaches, extends, extendsIn, serialsIn, movesTo2, movesTo1, readsIn, signalEntries, routeEntries, finds, pairs, signalChangesIn, changes, reroutes, gains, places, takes, gaps, sweeps, holds, reads, marshals, composes, relays, shows, resolves, eReads, eAnswers, gave, refuses, ask, christens, asksRow, asksDoors, checksStep, checksAll, remedyReads, remedyBlocks, remedyWrites, textsWrites}
 use Rattle.tables.specs.DoorCases.{doorList, threeBits, otherList, checkedList, doorBit, saidBy, markedBy, aCoach, anEngine, summary, coaches, bothSides}
+use Rattle.tables.specs.RecordingCases.{twoRoutes, heardTwo, step, data2, first, later, isRight, wrongIn, wrongOut}
 use Rattle.tables.specs.RecordCases.{blank, only, unmarked, leads, follows, alone}
 use Rattle.tables.specs.RemedyCases.{front, twoTexts, but, long, write}
 
@@ -694,6 +697,31 @@ table =
     ∷ saying "seventeen-before-a-door" (asksDoors (otherList (doorBit 156 1) (doorBit 158 1)) silent 0 [] 66) (refuses 35 0) (refuses 17 0)
     ∷ saying "thirty-five-before-5" (asksDoors (otherList (doorBit 156 1) (doorBit 158 1)) [] 0 coaches 66) (refuses 5 0) (refuses 35 0)
     ∷ saying "door-of-two-bits" (asksDoors (otherList (doorBit 156 1) (doorBit 157 2)) silent 0 coaches 66) (refuses 35 0) (bothSides 2 6 2 2 6 2)
+    -- recordings: every bit is compared with our own step's, the first that is off is named with its own route; 38, then 12, 36, 37
+    ∷ saying "bits-outside-not-compared" (first (data2 0x4A 0x0D)) (wrongOut 7) isRight
+    ∷ saying "bits-behind-not-compared" (first (data2 0x4B 0x0C)) (wrongOut 15) isRight
+    ∷ saying "last-route-only" (first (data2 0x5B 0x0D)) (wrongIn 3 0 0) isRight
+    ∷ saying "last-wrong-bit-named" (first (data2 0x5B 0x1D)) (wrongIn 3 0 0) (wrongIn 11 1 5)
+    ∷ saying "whole-route-named-at-its-start" (first (data2 0x4B 0x1D)) (wrongIn 11 1 5) (wrongIn 8 1 5)
+    ∷ saying "reason-of-the-neighbour-route" (first (data2 0x4B 0x1D)) (wrongIn 11 1 5) (wrongIn 11 1 0)
+    ∷ saying "bit-behind-as-in-the-route" (first (data2 0x43 0x0D)) (wrongOut 4) (wrongIn 4 0 0)
+    ∷ saying "whole-octet-as-the-route" (first (data2 0x4A 0x0D)) (wrongOut 7) (wrongIn 7 0 0)
+    ∷ asked-as "after-as-it-was-before" (first (data2 0xAB 0xCD)) (wrongIn 0 0 0) (checksStep (made [] [] [] []) 0 [] (step 0 (data2 0xAB 0xCD) (data2 0xAB 0xCD))) isRight
+    ∷ asked-as "twelve-of-the-data-after" (first (0x4B ∷ [])) (refuses 36 0) (checksStep twoRoutes 0 [] (step 0 (0x4B ∷ []) (data2 0xAB 0xCD))) (refuses 12 0)
+    ∷ saying "thirty-six-before-12" (checksStep twoRoutes 0 [] (step 0 (0xAB ∷ []) (data2 0x4B 0x0D))) (refuses 12 0) (refuses 36 0)
+    ∷ saying "thirty-seven-before-36" (later 1 (data2 0xAB 0xCC) (0x4B ∷ [])) (refuses 36 0) (refuses 37 0)
+    ∷ asked-as "thousandth-step-refused" (later 999 (data2 0xAB 0xCD) (data2 0x4B 0x0D)) isRight (later 1000 (data2 0xAB 0xCD) (data2 0x4B 0x0D)) (refuses 38 0)
+    ∷ saying "step-1001-accepted" (later 1000 (data2 0xAB 0xCD) (data2 0x4B 0x0D)) (refuses 38 0) isRight
+    ∷ saying "longer-data-after-accepted" (first (0x4B ∷ 0x0D ∷ 0 ∷ [])) (refuses 36 0) isRight
+    ∷ saying "another-octet-follows-on" (later 1 (data2 0xAB 0xCC) (data2 0x4B 0x0D)) (refuses 37 0) isRight
+    ∷ saying "list-before-38" (checksStep [] 1000 [] (step 0 [] [])) (refuses 38 0) (refuses 1 0)
+    ∷ asked-as "first-step-held-to-the-last" (first (data2 0x4B 0x0D)) isRight (later 1 [] (data2 0x4B 0x0D)) (refuses 37 0)
+    ∷ saying "longer-last-follows-on" (later 1 (0xAB ∷ 0xCD ∷ 0 ∷ []) (data2 0x4B 0x0D)) (refuses 37 0) isRight
+    ∷ saying "by-the-clock-of-the-step-before"
+    (checksAll twoRoutes (step 0 (data2 0xAB 0xCD) (data2 0x4B 0x0D) ∷ step 5001 (data2 0x4B 0x0D) (data2 0x4B 0x0D) ∷ [])) (gave (1 ∷ 1 ∷ wrongIn 1 0 3)) (gave (0 ∷ 2 ∷ []))
+    ∷ saying "goes-on-behind-a-finding"
+    (checksAll twoRoutes (step 0 (data2 0xAB 0xCD) (data2 0x4B 0x0C) ∷ step 0 (data2 0x4B 0x0C) (data2 0x4A 0x0C) ∷ [])) (gave (1 ∷ 0 ∷ wrongOut 15)) (gave (1 ∷ 1 ∷ wrongOut 7))
+    ∷ saying "no-steps-without-a-list" (checksAll [] []) (refuses 1 0) (gave (0 ∷ 0 ∷ []))
     -- E-telegrams: code, report or not, octet 9; the answer's octets
     ∷ asked-as "code-missing" (eReads (e-telegram 0x4047 9)) (gave (0x4047 ∷ 0 ∷ 9 ∷ [])) (eReads (e-telegram 0x4048 9)) (refuses 22 0)
     ∷ saying "octet-8-for-9" (eReads (e-telegram 0x1012 9)) (gave (0x1012 ∷ 0 ∷ 9 ∷ [])) (gave (0x1012 ∷ 0 ∷ 0x12 ∷ []))
@@ -790,6 +818,7 @@ unfolding table bits answered sameNumbers joined made made2 ask listL listL2 lis
     readingAt reading routed marshalled live marshalling headed composed markFits valueFits composing relayType readLive under allLive vouched relayMark relayValue relaying underTable signalBroken routeBroken firstBreach breachIn breachOf profiling listed showing ofBits round toBits consistRule meets member
     setTo membersOf resolving requests isRequest isReport eLimit eReading answerTo answering
     doorList threeBits otherList checkedList stateOf sideOf doorsOf doors
+    twoRoutes heardTwo routeWith located firstWrong Recordings.finding sameOctets checking onward judged recording
     properties described vehiclesOf christening rowIn propertyOf
     twoTexts start twice blockFault firstFault remedyReading remedyBlock remedyText areaTo blockOctets blocksTo frontOctets telegramOf sizeTo handedFault remedyWriting
 wrong = refl

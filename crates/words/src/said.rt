@@ -127,6 +127,16 @@ fn say_taking_refusal(line: Line, number: u8) -> Line {
     }
 }
 
+// Of a step of a recording.
+fn say_step_refusal(line: Line, number: u8) -> Line {
+    match number {
+        36 => say(line, b"data areas differ in length"),
+        37 => say(line, b"step does not follow on"),
+        38 => say(line, b"more than 1,000 steps"),
+        _ => say(line, b"see the table of refusals"),
+    }
+}
+
 // Of a train: its consist, an address in it, the records that describe it, and its doors.
 fn say_train_refusal(line: Line, number: u8) -> Line {
     match number {
@@ -136,7 +146,7 @@ fn say_train_refusal(line: Line, number: u8) -> Line {
         20 => say(line, b"nobody meets it"),
         31 => say(line, b"records not whole, or not as many pairs as records"),
         35 => say(line, b"door signal missing from the list"),
-        _ => say(line, b"see the table of refusals"),
+        _ => say_step_refusal(line, number),
     }
 }
 

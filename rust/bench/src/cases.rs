@@ -1,10 +1,10 @@
 //! The calls that are measured: each on both sides, with the same octets lent for reading and an area of its own lent for writing.
 
-use crate::lists::{self, Handed, NOW, STAMP};
+use crate::lists::{self, Handed, Step, NOW, STAMP};
 use crate::proved::{self, Said};
 use crate::rust;
 use reference::{
-    Change, CodeRange, Form, Kind, Profile, Property, Remedy, Shown, ShownReading, State,
+    Change, CodeRange, Finding, Form, Kind, Profile, Property, Remedy, Shown, ShownReading, State,
 };
 use std::fmt::Debug;
 use std::hint::black_box;
@@ -296,6 +296,63 @@ fn marshal(name: &str, list: &'static [u8], store: &'static [u8]) -> Case {
             )
         },
     )
+}
+
+/// A step, the second of its recording, from octets A5 to what is marshalled into them; and with its last bit wrong, which lies in no route.
+fn checked(of: &str, list: &'static [u8], store: &'static [u8]) -> [Case; 2] {
+    let before = leak(vec![0xA5; 256]);
+    let mut after = before.to_vec();
+    let live = reference::marshal(list, Form::One, store, NOW, &mut after);
+    assert!(live.is_ok_and(|live| live > 0), "{of}: a route is live");
+    let right = leak(after.clone());
+    after[255] ^= 1;
+    [("right", right), ("a wrong last bit", leak(after))].map(|(how, after)| {
+        let step = Step {
+            store,
+            now: NOW,
+            before,
+            after,
+        };
+        let found = rust::check_step(list, Form::One, 1, before, step);
+        assert_eq!(found == Ok(Finding::Right), how == "right", "{of}");
+        said(
+            &format!("check step, {how}, {of}"),
+            vec![],
+            move |_| {
+                proved::check_step(
+                    black_box(list),
+                    one(),
+                    black_box(1),
+                    black_box(before),
+                    black_box(step),
+                )
+            },
+            move |_| {
+                rust::check_step(
+                    black_box(list),
+                    one(),
+                    black_box(1),
+                    black_box(before),
+                    black_box(step),
+                )
+            },
+        )
+    })
+}
+
+/// Under a real list, and under the longest.
+fn checked_steps() -> Vec<Case> {
+    let coach = leak(lists::store(lists::COACH_R1));
+    let longest = leak(lists::list(64, 5_000));
+    let store = leak(lists::store(&lists::telegram()));
+    let of = format!("list of {} octets", longest.len());
+    [
+        checked("data/coach.list", lists::COACH, coach),
+        checked(&of, longest, store),
+    ]
+    .into_iter()
+    .flatten()
+    .collect()
 }
 
 /// A signal of vehicle 63.
@@ -787,7 +844,45 @@ pub fn refused_alike() {
     }
     remedies_refused_alike(&lists::remedies());
     records_refused_alike();
+    steps_refused_alike();
     doors_refused_alike();
+}
+
+/// Steps too many, other data, too few of them, no store; and each bit of the data wrong alone.
+fn steps_refused_alike() {
+    let (list, store) = (lists::COACH, &lists::store(lists::COACH_R1)[..]);
+    let before = &[0xA5; 20][..];
+    let mut after = before.to_vec();
+    let live = reference::marshal(list, Form::One, store, NOW, &mut after);
+    live.expect("the data of the bench are marshalled");
+    let alike = |steps: usize, store: &[u8], before: &[u8], after: &[u8]| {
+        for last in [before, &before[1..], &[]] {
+            let step = Step {
+                store,
+                now: NOW,
+                before,
+                after,
+            };
+            let wanted = rust::check_step(list, Form::One, steps, last, step);
+            let proved = proved::check_step(list, Form::One, steps, last, step);
+            assert_eq!(proved.said(), wanted);
+        }
+    };
+    for steps in [0, 1, 999, 1_000, usize::MAX] {
+        for (before, after) in [
+            (before, &after[..]),
+            (before, &after[1..]),
+            (&before[3..], &after),
+        ] {
+            alike(steps, store, before, after);
+            alike(steps, &store[1..], before, after);
+        }
+    }
+    for bit in 0..8 * after.len() {
+        let mut after = after.clone();
+        after[bit / 8] ^= 0x80 >> (bit % 8);
+        alike(1, store, before, &after);
+    }
 }
 
 /// Trains, some of which are refused, at every address, under a list with doors and one without; some vehicles are not locked.
@@ -854,6 +949,16 @@ fn refused_by_profiles(form: Form, list: &[u8]) {
     }
 }
 
+/// A step without a store and without data.
+fn nothing_recorded() -> Step<'static> {
+    Step {
+        store: &[],
+        now: 0,
+        before: &[],
+        after: &[],
+    }
+}
+
 fn refused_alike_in(form: Form, list: Vec<u8>) {
     for cut in 0..list.len() {
         let short = &list[..cut];
@@ -885,6 +990,10 @@ fn refused_alike_in(form: Form, list: Vec<u8>) {
         assert_eq!(
             proved::relay(short, form, &[], 0, 0, &mut []).said(),
             reference::relay(short, form, &[], 0, 0, &mut [])
+        );
+        assert_eq!(
+            proved::check_step(short, form, 0, &[], nothing_recorded()).said(),
+            rust::check_step(short, form, 0, &[], nothing_recorded())
         );
         assert_eq!(
             proved::doors(short, form, &[], 0, &[], 0).said(),
@@ -965,8 +1074,8 @@ pub fn all() -> Vec<Case> {
         resolve("resolve 63 vehicles, all", 66),
         check_place(583),
     ]);
-    cases.extend(christening().into_iter().chain([10, 63].map(doors)));
-    cases.extend(remedies());
+    cases.extend(checked_steps().into_iter().chain(christening()));
+    cases.extend([10, 63].map(doors).into_iter().chain(remedies()));
     cases.extend(forms());
     cases.extend(wide());
     for width in [1, 4, 8, 16, 48, 49, 63, 64] {

@@ -263,6 +263,15 @@ pub fn records() -> (Vec<u8>, Vec<u8>) {
     (records.concat(), pairs)
 }
 
+/// A step of a recording.
+#[derive(Clone, Copy)]
+pub struct Step<'a> {
+    pub store: &'a [u8],
+    pub now: u32,
+    pub before: &'a [u8],
+    pub after: &'a [u8],
+}
+
 /// What a writer of remedy texts is handed.
 pub struct Handed {
     pub head: [u8; 6],

@@ -2,12 +2,13 @@
 //! x86-64 that is what C does with such an answer; on other machines it is not, so it is said here.
 
 use reference::{
-    Change, CodeRange, Counts, Doors, EReading, Extends, Form, Kind, Level, Members, Profile,
-    Property, Reading, Refusal, Refused, Remedies, Rule, Shown, ShownReading, Side, State,
+    Change, CodeRange, Counts, Doors, EReading, Extends, Finding, Form, Kind, Level, Members,
+    Place, Profile, Property, Reading, Refusal, Refused, Remedies, Rule, Shown, ShownReading, Side,
+    State, WrongBit,
 };
 use std::mem::MaybeUninit;
 
-use crate::lists::Handed;
+use crate::lists::{Handed, Step};
 
 #[repr(C)]
 pub struct Outcome {
@@ -120,6 +121,18 @@ pub struct PropertyRow {
 pub struct Christened {
     refusal: u32,
     vehicles: u64,
+}
+
+#[repr(C)]
+pub struct StepChecked {
+    refusal: u32,
+    right: u32,
+    carried: u64,
+    octet: u64,
+    bit: u32,
+    in_route: u32,
+    route: u64,
+    reason: u32,
 }
 
 #[repr(C)]
@@ -302,6 +315,23 @@ extern "C" {
         pairs_len: usize,
         marks: *mut [u8; 63],
     ) -> Christened;
+    #[rustfmt::skip]
+    fn df_check_step(
+        to: To<StepChecked>,
+        list: *const u8,
+        list_len: usize,
+        form: u8,
+        steps: usize,
+        last: *const u8,
+        last_len: usize,
+        store: *const u8,
+        store_len: usize,
+        clock: u32,
+        before: *const u8,
+        before_len: usize,
+        after: *const u8,
+        after_len: usize,
+    );
     #[rustfmt::skip]
     fn df_doors(
         to: To<DoorsShown>,
@@ -549,6 +579,30 @@ pub fn property(record: &[u8; 56], row: u32) -> PropertyRow {
 pub fn christen(records: &[u8], pairs: &[u8], marks: &mut [u8; 63]) -> Christened {
     let (from, len) = (records.as_ptr(), records.len());
     unsafe { df_christen(from, len, pairs.as_ptr(), pairs.len(), marks) }
+}
+
+/// A step, behind so many, of which the last has the data after `last`.
+#[inline(always)]
+pub fn check_step(list: &[u8], form: Form, steps: usize, last: &[u8], step: Step) -> StepChecked {
+    let (octets, slots, kept) = (list.as_ptr(), step.store.as_ptr(), last.as_ptr());
+    answer(|to| unsafe {
+        df_check_step(
+            to,
+            octets,
+            list.len(),
+            form as u8,
+            steps,
+            kept,
+            last.len(),
+            slots,
+            step.store.len(),
+            step.now,
+            step.before.as_ptr(),
+            step.before.len(),
+            step.after.as_ptr(),
+            step.after.len(),
+        )
+    })
 }
 
 #[inline(always)]
@@ -802,6 +856,28 @@ impl Said for Christened {
     type As = Result<usize, Refusal>;
     fn said(self) -> Self::As {
         unless_refused(self.refusal, 0, self.vehicles as usize)
+    }
+}
+
+impl Said for StepChecked {
+    type As = Result<Finding, Refusal>;
+    fn said(self) -> Self::As {
+        let place = match self.in_route {
+            0 => Place::Outside,
+            _ => Place::InRoute {
+                route: self.route as usize,
+                reason: self.reason as u8,
+            },
+        };
+        let finding = match self.right {
+            0 => Finding::Wrong(WrongBit {
+                octet: self.octet as usize,
+                bit: self.bit as u8,
+                place,
+            }),
+            _ => Finding::Right,
+        };
+        unless_refused(self.refusal, self.carried, finding)
     }
 }
 

@@ -1,9 +1,9 @@
 //! The independent implementation, each function a call as the proved one is, whose archive is never inlined into the bench.
 
-use crate::lists::Handed;
+use crate::lists::{Handed, Step};
 use reference::{
-    Change, CodeRange, Counts, Doors, EReading, Extends, Form, Kind, Members, Profile, Property,
-    Reading, Refusal, Refused, Remedies, Remedy, ShownReading,
+    Change, CodeRange, Counts, Doors, EReading, Extends, Finding, Form, Kind, Members, Profile,
+    Property, Reading, Refusal, Refused, Remedies, Remedy, ShownReading,
 };
 
 #[inline(never)]
@@ -163,6 +163,18 @@ pub fn property(record: &[u8; 56], row: u32) -> Option<Property> {
 #[inline(never)]
 pub fn christen(records: &[u8], pairs: &[u8], marks: &mut [u8; 63]) -> Result<usize, Refusal> {
     reference::christen(records, pairs, marks)
+}
+
+#[inline(never)]
+pub fn check_step(
+    list: &[u8],
+    form: Form,
+    steps: usize,
+    last: &[u8],
+    step: Step,
+) -> Result<Finding, Refusal> {
+    let (store, before, after) = (step.store, step.before, step.after);
+    reference::check_step(list, form, steps, last, store, step.now, before, after)
 }
 
 #[inline(never)]

@@ -29,6 +29,7 @@ pub enum Call {
     Resolve,
     Property,
     Christen,
+    CheckStep,
     Doors,
     ERead,
     EAnswer,
@@ -60,7 +61,7 @@ const fn takes(
 }
 
 impl Call {
-    pub const ALL: [Call; 29] = [
+    pub const ALL: [Call; 30] = [
         Call::Judge,
         Call::JudgeProfile,
         Call::Extends,
@@ -84,6 +85,7 @@ impl Call {
         Call::Resolve,
         Call::Property,
         Call::Christen,
+        Call::CheckStep,
         Call::Doors,
         Call::ERead,
         Call::EAnswer,
@@ -118,6 +120,7 @@ impl Call {
             Call::Resolve => takes("resolve", &["marks"], None, &["address"]),
             Call::Property => takes("property", &["record"], None, &["row"]),
             Call::Christen => takes("christen", &["records", "pairs", "63 marks"], Some(2), &[]),
+            Call::CheckStep => takes("check_step", &["list", "last", "store", "before", "after"], None, &["form", "steps", "clock"]),
             Call::Doors => takes("doors", &["list", "store", "marks"], None, &["form", "clock", "address"]),
             Call::ERead => takes("e_read", &["telegram"], None, &[]),
             Call::EAnswer => takes("e_answer", &["telegram", "head", "out"], Some(2), &["status"]),

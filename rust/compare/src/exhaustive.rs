@@ -2,6 +2,7 @@
 
 use std::ops::Range;
 
+use crate::bits;
 use crate::case::{Call, Case, KINDS};
 use crate::changes::{self, compared};
 use crate::christenings;
@@ -37,6 +38,7 @@ pub fn each(mut try_one: impl FnMut(Case)) {
     check_places(&mut try_one);
     addresses(&mut try_one);
     christenings::each(&mut try_one);
+    bits::each(&mut try_one);
     summaries::each(&mut try_one);
     e_telegrams(&mut try_one);
     remedies::each(&mut try_one);
@@ -191,6 +193,8 @@ fn forms(try_one: &mut impl FnMut(Case)) {
             ask(Call::Show, vec![store.clone()], &[0, 1, 0, 1]);
             ask(Call::Marshal, vec![store, vec![0xAB]], &[0]);
             ask(Call::Compose, vec![vec![1], vec![0xEE; TELEGRAM]], &[1]);
+            let step = vec![vec![], vec![0; STORE], vec![0xAB], vec![0xBB]];
+            ask(Call::CheckStep, step, &[0, 0]);
             ask(Call::Doors, vec![vec![0; STORE], vec![2]], &[0, 66]);
             let heard = l_heard(1, [(1, 0x11), (2, 1), (41, 0x10), (54, 0x40)]);
             ask(Call::Relay, vec![heard, vec![0xEE; TELEGRAM]], &[0, 1]);
@@ -332,7 +336,7 @@ fn signals(try_one: &mut impl FnMut(Case)) {
 }
 
 /// A store in which vehicle 1 was heard at 0, or not, with these octets.
-fn l_heard(heard: u8, octets: [(usize, u8); 4]) -> Vec<u8> {
+pub fn l_heard(heard: u8, octets: [(usize, u8); 4]) -> Vec<u8> {
     let mut telegram = [0; TELEGRAM];
     octets
         .iter()
@@ -681,7 +685,7 @@ fn widths(try_one: &mut impl FnMut(Case)) {
 }
 
 /// A store with an R1 of vehicle 1, under a heard octet: a signal's value, and these octets around it.
-fn saying(signal: &Signal, value: u64, heard: u8, around: u8) -> Vec<u8> {
+pub fn saying(signal: &Signal, value: u64, heard: u8, around: u8) -> Vec<u8> {
     let mut telegram = [around; TELEGRAM];
     telegram[..2].copy_from_slice(&[0x11, 1]);
     let (start, width) = (signal.start as usize, signal.width as usize);

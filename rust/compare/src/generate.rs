@@ -6,7 +6,7 @@ use crate::case::{is_scaled, Call, Case, KINDS, PROFILES};
 use crate::damage::{any_list, damaged, mostly_good, said_form};
 use crate::list::List;
 use crate::random::Random;
-use crate::{doors, edited, make, narrow, pair, records, store, texts};
+use crate::{doors, edited, make, narrow, pair, records, steps, store, texts};
 use reference::{HEAD, SLOT, STORE, VEHICLES};
 
 /// The request codes of document 01.
@@ -17,7 +17,7 @@ pub const REQUESTS: [u16; 25] = [
 ];
 
 pub fn case(r: &Random) -> Case {
-    match r.below(253) {
+    match r.below(277) {
         0..=13 | 176..=179 | 216..=217 => {
             let (list, form) = any_list(r);
             Case::new(Call::Judge, vec![list], vec![form])
@@ -52,6 +52,7 @@ pub fn case(r: &Random) -> Case {
         223..=231 => records::christen(r),
         232..=236 => records::property(r),
         237..=252 => doors::doors(r),
+        253..=276 => steps::check_step(r),
         _ => gap(r),
     }
 }
@@ -230,7 +231,7 @@ fn about(r: &Random, len: usize) -> usize {
     }
 }
 
-fn resized(r: &Random, mut octets: Vec<u8>, len: usize) -> Vec<u8> {
+pub fn resized(r: &Random, mut octets: Vec<u8>, len: usize) -> Vec<u8> {
     let more = len.saturating_sub(octets.len());
     octets.extend(r.octets(more));
     octets.truncate(len);

@@ -7,9 +7,11 @@
 //! `--guard` places what the library is lent against pages that must not be touched. `--case` runs one case alone and prints it.
 //! Exits with 1 at the first difference, and also if there is an answer or a refusal that no case of the seed reached.
 
+mod bits;
 mod case;
 mod changed;
 mod changes;
+mod checked;
 mod christened;
 mod christenings;
 mod damage;
@@ -31,6 +33,7 @@ mod profiled;
 mod profiles;
 mod random;
 mod reached;
+mod recorded;
 mod records;
 mod relayed;
 mod remedied;
@@ -40,6 +43,7 @@ mod returned;
 mod run;
 mod shrink;
 mod sides;
+mod steps;
 mod store;
 mod summaries;
 mod summed_up;
@@ -101,6 +105,7 @@ struct Runs {
     returned: returned::Met,
     resolved: resolved::Met,
     desk: desk::Met,
+    recorded: recorded::Met,
 }
 
 impl Runs {
@@ -113,6 +118,7 @@ impl Runs {
         let returned = well("NOT THERE AND BACK", returned::all(cases / 40, seed));
         let resolved = well("NOT RESOLVED SO", resolved::all(cases / 40, seed));
         let desk = well("NOT SHOWN SO", desk::all(cases / 100, seed));
+        let recorded = well("NOT JUDGED SO", recorded::all(cases / 100, seed));
         Some(Runs {
             exact: exact?,
             clocked: clocked?,
@@ -121,6 +127,7 @@ impl Runs {
             returned: returned?,
             resolved: resolved?,
             desk: desk?,
+            recorded: recorded?,
         })
     }
 
@@ -132,6 +139,7 @@ impl Runs {
             self.returned.faults(),
             self.resolved.faults(),
             self.desk.faults(),
+            self.recorded.faults(),
         ]
         .concat()
     }
@@ -140,7 +148,7 @@ impl Runs {
         format!(
             "{} readings by the true clock; {} behind an old gateway; {} differences in {} pairs of lists; \
              {} telegrams with remedy texts there and back; {} addresses in {} trains from their records; \
-             {} summaries of the doors of {} trains; {} shown values exact",
+             {} summaries of the doors of {} trains; {} steps of {} recordings; {} shown values exact",
             self.clocked.readings(),
             self.passed_on.readings(),
             self.walked.differences,
@@ -150,6 +158,8 @@ impl Runs {
             self.resolved.trains,
             self.desk.summaries,
             self.desk.trains,
+            self.recorded.steps,
+            self.recorded.recordings,
             self.exact
         )
     }
@@ -180,7 +190,7 @@ fn compare(cases: u64, seed: u64, memory: Memory) -> bool {
     };
     print!("{reached}{}{}", runs.clocked, runs.passed_on);
     print!("{}{}", runs.walked, runs.returned);
-    print!("{}{}", runs.resolved, runs.desk);
+    print!("{}{}{}", runs.resolved, runs.desk, runs.recorded);
     let faults = [reached.faults(), runs.faults()].concat();
     if !faults.is_empty() {
         println!("{}", faults.join("\n"));

@@ -105,6 +105,13 @@ pub fn list_with_signals(r: &Random) -> List {
     list_with(r, |list| !list.signals.is_empty())
 }
 
+/// A good list of a few signals, of every width alike.
+pub fn list_of_any_width(r: &Random) -> List {
+    let entries = [3, 4, 8, 4].map(|most| r.index(most + 1));
+    let widths = (1, 64);
+    list_of(r, Aim { entries, widths })
+}
+
 /// A good list that has a route; mostly.
 pub fn list_with_routes(r: &Random) -> List {
     list_with(r, |list| !list.routes.is_empty())

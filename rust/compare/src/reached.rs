@@ -5,6 +5,7 @@ use std::fmt;
 
 use crate::case::{is_scaled, Answer, Call, Case, KINDS};
 use crate::changed;
+use crate::checked;
 use crate::christened;
 use crate::list::{longest, sizes, Route, Signal, MOST};
 use crate::profiled;
@@ -198,6 +199,11 @@ fn wanted(call: Call) -> Vec<Row> {
         ],
         Call::Property => [christened::wanted(call), vec![], vec![]],
         Call::Christen => [christened::wanted(call), refusals(&[17, 18, 31]), vec![]],
+        Call::CheckStep => [
+            checked::wanted(),
+            refusals(&[1, 2, 3, 4, 5, 12, 36, 37, 38]),
+            in_forms,
+        ],
         Call::Doors => [
             summed_up::wanted(),
             refusals(&[1, 2, 3, 4, 5, 17, 18, 19, 20, 35]),
@@ -271,9 +277,9 @@ fn rows(case: &Case, answer: &Answer) -> Vec<Row> {
         Call::Show => show_rows(case.numbers[4], answer),
         Call::Marshal => vec![(lives(case, first), 0)],
         Call::Compose => vec![("type", case.numbers[1])],
-        // What is told of these stands in `profiled`, in `relayed`, in `christened`, in `summed_up`, in `remedied` and in `changed`.
+        // What is told of these stands in `profiled`, in `relayed`, in `christened`, in `checked`, in `summed_up`, in `remedied` and in `changed`.
         Call::JudgeProfile | Call::Relay | Call::Property | Call::Christen => vec![],
-        Call::Doors => vec![],
+        Call::CheckStep | Call::Doors => vec![],
         Call::ReadRemedies | Call::RemedyBlock | Call::WriteRemedies => vec![],
         Call::SignalChange | Call::RouteChange | Call::CodesGained => vec![],
         Call::Resolve => vec![("address", case.numbers[0])],
@@ -621,6 +627,7 @@ impl Reached {
             profiled::rows,
             relayed::rows,
             christened::rows,
+            checked::rows,
             summed_up::rows,
             remedied::rows,
             changed::rows,
@@ -672,6 +679,9 @@ fn named((what, number): Row) -> String {
             "size",
             "checks",
             "vehicles",
+            "route, bit",
+            "step",
+            "octets of data",
         ]
         .iter()
         .any(|end| what.ends_with(end)) =>

@@ -21,6 +21,9 @@ enum Step {
     Block(usize),
     /// A vehicle goes, with its record and its pair, or with its mark and its slot.
     Vehicle(usize),
+    /// A run of octets of the data of a step is left out, or set to 0, in the last one's, in those before and in those after.
+    Shorter(Range<usize>),
+    Emptied(Range<usize>),
     /// A run of octets of an area is left out, or set to 0.
     Without(usize, Range<usize>),
     Zeroed(usize, Range<usize>),
@@ -83,25 +86,37 @@ fn steps(case: &Case) -> Vec<Step> {
         _ => 0,
     };
     steps.extend((0..vehicles).rev().map(Step::Vehicle));
+    if case.call == Call::CheckStep {
+        for run in runs(case.areas[3].len()) {
+            steps.extend([Step::Shorter(run.clone()), Step::Emptied(run)]);
+        }
+    }
     (0..case.areas.len()).for_each(|i| steps.extend(area_steps(case, i)));
     steps
+}
+
+/// All of so many octets, each half of them, and so on to each alone.
+fn runs(octets: usize) -> Vec<Range<usize>> {
+    let mut runs = Vec::new();
+    let mut len = octets;
+    while len > 0 {
+        let firsts = (0..octets).step_by(len);
+        runs.extend(firsts.map(|first| first..(first + len).min(octets)));
+        len /= 2;
+    }
+    runs
 }
 
 /// Of the octets of an area.
 fn area_steps(case: &Case, i: usize) -> Vec<Step> {
     let (mut steps, area) = (Vec::new(), &case.areas[i]);
-    let mut len = area.len();
-    while len > 0 {
-        for first in (0..area.len()).step_by(len) {
-            let run = first..(first + len).min(area.len());
-            if area[run.clone()].iter().any(|&octet| octet != 0) {
-                steps.push(Step::Zeroed(i, run.clone()));
-            }
-            if !case.is_fixed(i) {
-                steps.push(Step::Without(i, run));
-            }
+    for run in runs(area.len()) {
+        if area[run.clone()].iter().any(|&octet| octet != 0) {
+            steps.push(Step::Zeroed(i, run.clone()));
         }
-        len /= 2;
+        if !case.is_fixed(i) {
+            steps.push(Step::Without(i, run));
+        }
     }
     for (at, octet) in area.iter().enumerate() {
         let set = (0..8).map(|bit| 1 << bit).filter(|bit| octet & bit != 0);
@@ -120,11 +135,22 @@ fn taken(case: &Case, step: &Step) -> Case {
         &Step::Block(at) => without_block(&mut case, at),
         &Step::Vehicle(at) if case.call == Call::Doors => without_slot(&mut case, at),
         &Step::Vehicle(at) => without_vehicle(&mut case, at),
+        Step::Shorter(run) => for_data(&mut case, run, |data, run| drop(data.drain(run))),
+        Step::Emptied(run) => for_data(&mut case, run, |data, run| data[run].fill(0)),
         Step::Without(i, run) => drop(case.areas[*i].drain(run.clone())),
         Step::Zeroed(i, run) => case.areas[*i][run.clone()].fill(0),
         &Step::Cleared(i, at, bit) => case.areas[i][at] &= !bit,
     }
     case
+}
+
+/// Does something to a run of octets of all data of a step, as far as they are there.
+fn for_data(case: &mut Case, run: &Range<usize>, mut does: impl FnMut(&mut Vec<u8>, Range<usize>)) {
+    for data in [1, 3, 4] {
+        let data = &mut case.areas[data];
+        let end = run.end.min(data.len());
+        does(data, run.start.min(end)..end);
+    }
 }
 
 /// The list less one entry, with whatever named it; to be composed, its mark or value goes too.
@@ -195,7 +221,7 @@ mod tests {
     use crate::memory::on_heap;
     use crate::random::Random;
     use crate::sides::by_reference;
-    use crate::{doors, generate, make};
+    use crate::{doors, generate, make, steps};
     use reference::{Form, SIGNAL_SIZE};
 
     #[test]
@@ -227,6 +253,29 @@ mod tests {
                 assert_eq!(small.areas[0].len(), 4 * 2 + 2 * size);
             }
         }
+    }
+
+    /// Of a wrong bit of a route, behind other steps, one route and the octets that it needs are left.
+    #[test]
+    fn a_step_loses_its_data() {
+        let wrong = |case: &Case| {
+            let answer = on_heap(by_reference, case).answer;
+            answer.refusal == 0 && answer.gives[3] == 1 && case.numbers[1] > 0
+        };
+        let mut tried = 0;
+        for number in 0..60 {
+            let case = steps::check_step(&Random::of_case(8, number));
+            if case.size() < 12_000 && wrong(&case) {
+                tried += 1;
+                let small = shrunk(&case, wrong);
+                let list = small.list_at(0).unwrap();
+                assert_eq!([list.signals.len(), list.routes.len()], [1, 1]);
+                let lens = [1, 3, 4].map(|data| small.areas[data].len());
+                assert_eq!(lens, [steps::needed(&list); 3]);
+                assert_eq!(small.numbers[1], 1);
+            }
+        }
+        assert!(tried > 2, "{tried}");
     }
 
     #[test]

@@ -47,7 +47,8 @@ macro_rules! side {
     ($side:ident, $library:ident, $refused:ident) => {
         pub fn $side(call: Call, mut lent: Lent) -> Answer {
             use $library::{
-                Change, CodeRange, Counts, Extends, Form, Kind, Profile, Refused, Shown,
+                Change, CodeRange, Counts, Extends, Finding, Form, Kind, Place, Profile, Refused,
+                Shown, WrongBit,
             };
             let refused = $refused;
             // As C says it: any number but 2 is form 1.
@@ -90,6 +91,21 @@ macro_rules! side {
             let range = |range: Option<CodeRange>| match range {
                 Some(r) => Answer::gives([1, 0, r.low.into(), r.high.into()]),
                 None => Answer::default(),
+            };
+            let place = |place: Place| match place {
+                Place::InRoute { route, reason } => [1, route as u64, reason as u64],
+                Place::Outside => [0; 3],
+            };
+            let finding = |finding: Finding| match finding {
+                Finding::Right => Answer::gives([1]),
+                Finding::Wrong(WrongBit {
+                    octet,
+                    bit,
+                    place: at,
+                }) => {
+                    let [in_route, route, reason] = place(at);
+                    Answer::gives([0, octet as u64, bit.into(), in_route, route, reason])
+                }
             };
             let result = match (call, &mut lent.areas[..], lent.numbers) {
                 (Call::Judge, [list], &[said]) => $library::judge(list, form(said)).map(counts),
@@ -188,6 +204,11 @@ macro_rules! side {
                 (Call::Christen, [records, pairs, marks], []) => {
                     $library::christen(records, pairs, array_mut(call, marks))
                         .map(|vehicles| Answer::gives([vehicles as u64]))
+                }
+                (Call::CheckStep, [list, last, store, before, after], &[said, steps, clock]) => {
+                    let (form, steps, clock) = (form(said), steps as usize, clock as u32);
+                    $library::check_step(list, form, steps, last, store, clock, before, after)
+                        .map(finding)
                 }
                 (Call::Doors, [list, store, marks], &[said, clock, address]) => {
                     $library::doors(list, form(said), store, clock as u32, marks, address).map(
@@ -397,6 +418,29 @@ pub fn by_header(call: Call, mut lent: Lent) -> Answer {
             let (from, len, marks) = (records.as_ptr(), records.len(), array_mut(call, marks));
             let r = unsafe { raw::df_christen(from, len, pairs.as_ptr(), pairs.len(), marks) };
             Answer::with(r.refusal, 0, [r.vehicles])
+        }
+        (Call::CheckStep, [list, last, store, before, after], &[form, steps, clock]) => {
+            let r = unsafe {
+                raw::df_check_step(
+                    list.as_ptr(),
+                    list.len(),
+                    form as u8,
+                    steps as usize,
+                    last.as_ptr(),
+                    last.len(),
+                    store.as_ptr(),
+                    store.len(),
+                    clock as u32,
+                    before.as_ptr(),
+                    before.len(),
+                    after.as_ptr(),
+                    after.len(),
+                )
+            };
+            let [right, bit, in_route, reason] =
+                [r.right, r.bit, r.in_route, r.reason].map(u64::from);
+            let gives = [right, r.octet, bit, in_route, r.route, reason];
+            Answer::with(r.refusal, r.carried, gives)
         }
         (Call::Doors, [list, store, marks], &[form, clock, address]) => {
             let (list, len, form) = (list.as_ptr(), list.len(), form as u8);

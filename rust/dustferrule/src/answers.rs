@@ -207,6 +207,40 @@ pub struct Property {
     pub holds: bool,
 }
 
+/// Where a wrong bit lies.
+#[derive(Debug, Clone, Copy, PartialEq, Eq)]
+pub enum Place {
+    /// In the field of a route.
+    InRoute {
+        /// Its number, from 0.
+        route: usize,
+        /// That of reading what is routed there.
+        reason: Reason,
+    },
+    /// In no route.
+    Outside,
+}
+
+/// The first bit at which the data after are not what the rules give.
+#[derive(Debug, Clone, Copy, PartialEq, Eq)]
+pub struct WrongBit {
+    /// Its octet, from 0.
+    pub octet: usize,
+    /// Its place in it, 0 to 7; 0 is the most significant.
+    pub bit: u8,
+    /// Where it lies.
+    pub place: Place,
+}
+
+/// What is found of a step of a recording.
+#[derive(Debug, Clone, Copy, PartialEq, Eq)]
+pub enum Finding {
+    /// The data after are what the rules give.
+    Right,
+    /// They are not; this is the first wrong bit.
+    Wrong(WrongBit),
+}
+
 /// What is said of the doors of a side.
 #[derive(Debug, Clone, Copy, PartialEq, Eq, Hash)]
 #[repr(u8)]

@@ -12,8 +12,9 @@ mod numbers;
 pub mod raw;
 
 pub use answers::{
-    Change, CodeRange, Counts, Doors, EReading, Entry, Extends, Form, Kind, Level, Members,
-    Profile, Property, Reading, Remedies, Remedy, Rule, Shown, ShownReading, Side, State,
+    Change, CodeRange, Counts, Doors, EReading, Entry, Extends, Finding, Form, Kind, Level,
+    Members, Place, Profile, Property, Reading, Remedies, Remedy, Rule, Shown, ShownReading, Side,
+    State, WrongBit,
 };
 pub use numbers::{Error, Reason, Refusal, Refused};
 
@@ -446,6 +447,62 @@ pub fn christen(records: &[u8], pairs: &[u8], marks: &mut [u8; 63]) -> Result<us
         )
     };
     unless_refused(r.refusal, 0, r.vehicles as usize)
+}
+
+/// What is found of a step, by the numbers that say it.
+fn finding(r: raw::df_checked) -> Finding {
+    if r.right != 0 {
+        return Finding::Right;
+    }
+    let place = match r.in_route {
+        0 => Place::Outside,
+        _ => Place::InRoute {
+            route: r.route as usize,
+            reason: Reason::of(r.reason).unwrap_or_else(|| newer_library("reason", r.reason)),
+        },
+    };
+    Finding::Wrong(WrongBit {
+        octet: r.octet as usize,
+        bit: r.bit as u8,
+        place,
+    })
+}
+
+/// Checks one step of a supplier's recording of marshalling: the data after are right exactly if [`marshal`] would make them of the data before, bits
+/// outside the routes included. What goes from step to step is the caller's: `steps` is how many steps of the recording were right before it, and
+/// `last` are the data after of the last of them, which with 0 steps are not looked at. The first step that is refused or wrong ends the judging; with
+/// no steps a recording is accepted if [`judge`] accepts its list. Refusals 38 with 1,000 steps or more, then 1 to 4, then 5, 12 for the data before,
+/// 36, 37.
+// As the header has it.
+#[allow(clippy::too_many_arguments)]
+pub fn check_step(
+    list: &[u8],
+    form: Form,
+    steps: usize,
+    last: &[u8],
+    store: &[u8],
+    now: u32,
+    before: &[u8],
+    after: &[u8],
+) -> Result<Finding, Error> {
+    let r = unsafe {
+        raw::df_check_step(
+            list.as_ptr(),
+            list.len(),
+            form as u8,
+            steps,
+            last.as_ptr(),
+            last.len(),
+            store.as_ptr(),
+            store.len(),
+            now,
+            before.as_ptr(),
+            before.len(),
+            after.as_ptr(),
+            after.len(),
+        )
+    };
+    unless_refused(r.refusal, r.carried, finding(r))
 }
 
 /// One side, by the numbers that say it.

@@ -85,6 +85,9 @@ numbered! {
         FormOutput = 33, "output not of the needed length";
         Profile = 34, "profile rule broken";
         DoorMissing = 35, "door signal missing from the list";
+        DataLengths = 36, "data areas differ in length";
+        StepBroken = 37, "step does not follow on";
+        StepsTooMany = 38, "more than 1,000 steps";
     }
 }
 

@@ -165,6 +165,21 @@ pub struct df_christened {
     pub vehicles: u64,
 }
 
+/// `right`: 1 the data after are what the rules give, 0 a bit is wrong, or refused; `octet`, `bit`: the first wrong bit, by its octet, from 0, and
+/// its place in it; `in_route`: 1 it lies in this `route`, whose reading has this `reason`, 0 in none.
+#[repr(C)]
+#[derive(Debug, Clone, Copy)]
+pub struct df_checked {
+    pub refusal: u32,
+    pub right: u32,
+    pub carried: u64,
+    pub octet: u64,
+    pub bit: u32,
+    pub in_route: u32,
+    pub route: u64,
+    pub reason: u32,
+}
+
 /// `left`, `right`: 0 not known, 1 locked, 2 open; the vehicles that kept the side from locked, as of [`df_members`].
 #[repr(C)]
 #[derive(Debug, Clone, Copy)]
@@ -372,6 +387,22 @@ extern "C" {
         pairs_len: usize,
         marks: *mut [u8; 63],
     ) -> df_christened;
+
+    pub fn df_check_step(
+        list: *const u8,
+        list_len: usize,
+        form: u8,
+        steps: usize,
+        last: *const u8,
+        last_len: usize,
+        store: *const u8,
+        store_len: usize,
+        clock: u32,
+        before: *const u8,
+        before_len: usize,
+        after: *const u8,
+        after_len: usize,
+    ) -> df_checked;
 
     pub fn df_doors(
         list: *const u8,

@@ -1,10 +1,10 @@
 //! Refusals and reasons by number and in words, and the refusals of calls as errors.
 
 use dustferrule::{
-    christen, codes_gained, compose, doors, find_signal, judge, judge_profile, property, read,
-    read_remedies, route_change, show, signal_change, take, write_remedies, Doors, Error, Form,
-    Kind, Level, Members, Profile, Property, Reason, Refusal, Refused, Rule, Side, State,
-    STORE_OCTETS,
+    check_step, christen, codes_gained, compose, doors, find_signal, judge, judge_profile,
+    property, read, read_remedies, route_change, show, signal_change, take, write_remedies, Doors,
+    Error, Finding, Form, Kind, Level, Members, Place, Profile, Property, Reason, Refusal, Refused,
+    Rule, Side, State, WrongBit, STORE_OCTETS,
 };
 
 /// The list L of document 01.
@@ -19,7 +19,7 @@ fn each_number_is_there_once() {
         .iter()
         .map(|refusal| refusal.number())
         .collect();
-    assert_eq!(refusals, (1..=35).collect::<Vec<u8>>());
+    assert_eq!(refusals, (1..=38).collect::<Vec<u8>>());
     let reasons: Vec<u8> = Reason::ALL.iter().map(|reason| reason.number()).collect();
     assert_eq!(reasons, (0..=8).collect::<Vec<u8>>());
     for &refusal in Refusal::ALL {
@@ -29,7 +29,7 @@ fn each_number_is_there_once() {
         assert_eq!(Reason::of(reason.number().into()), Some(reason));
         assert_eq!(reason.is_live(), reason.number() < 2);
     }
-    for none in [0, 36] {
+    for none in [0, 39] {
         assert_eq!(Refusal::of(none), None);
     }
     assert_eq!(Reason::of(9), None);
@@ -142,6 +142,55 @@ fn properties_of_both_levels() {
     assert_eq!(property(142), of(Level::Gateway, 23, 7, false));
     assert_eq!([property(133), property(u32::MAX)], [None, None]);
     assert_eq!([Level::Gateway as u8, Level::Vehicle as u8], [0, 1]);
+}
+
+/// L, from AB: vehicle 1 was never heard, so that ours is 0B.
+#[test]
+fn errors_of_recordings() {
+    let store = [0; STORE_OCTETS];
+    let check = |steps, last: &[u8], store: &[u8], before: &[u8], after: &[u8]| {
+        let found = check_step(&L, Form::One, steps, last, store, 0, before, after);
+        found.map_err(|error| (error.refusal, error.carried, error.to_string()))
+    };
+    let refused = |refusal, said: &str| Err((refusal, 0, said.to_string()));
+    assert_eq!(
+        check(999, &[0xAB], &store, &[0xAB], &[0x0B]),
+        Ok(Finding::Right)
+    );
+    let many = refused(Refusal::StepsTooMany, "refused 38: more than 1,000 steps");
+    assert_eq!(check(1_000, &[], &[], &[], &[0]), many);
+    let data = refused(
+        Refusal::DataLengths,
+        "refused 36: data areas differ in length",
+    );
+    assert_eq!(check(1, &[], &store, &[0xAB], &[]), data);
+    let broken = refused(Refusal::StepBroken, "refused 37: step does not follow on");
+    assert_eq!(check(1, &[], &store, &[0xAB], &[0]), broken);
+    assert_eq!(check(0, &[], &store, &[0xAB], &[0x0B]), Ok(Finding::Right));
+    let refusal = |store: &[u8]| check(1, &[], store, &[], &[0]).map_err(|of| of.0);
+    assert_eq!(refusal(&store), Err(Refusal::DataShort));
+    assert_eq!(refusal(&store[1..]), Err(Refusal::StoreLength));
+    let cut = check_step(&L[..43], Form::One, 0, &[], &[], 0, &[], &[0]).unwrap_err();
+    assert_eq!((cut.refusal, cut.carried), (Refusal::ListEnds, 36));
+}
+
+/// A bit off in the route, and behind it, in the last of 300 octets.
+#[test]
+fn where_a_wrong_bit_lies() {
+    let store = [0; STORE_OCTETS];
+    let found = |octet: usize, weight: u8| {
+        let mut after = [0; 300];
+        after[octet] = weight;
+        check_step(&L, Form::One, 0, &[], &store, 0, &[0; 300], &after)
+    };
+    let wrong = |octet, bit, place| Ok(Finding::Wrong(WrongBit { octet, bit, place }));
+    let in_route = Place::InRoute {
+        route: 0,
+        reason: Reason::NeverHeard,
+    };
+    assert_eq!(found(0, 0x10), wrong(0, 3, in_route));
+    assert_eq!(found(0, 0x08), wrong(0, 4, Place::Outside));
+    assert_eq!(found(299, 0x01), wrong(299, 7, Place::Outside));
 }
 
 /// Octet 20 bits 4 and 5, with no check and no time limit.

@@ -31,6 +31,25 @@ pub struct ShownReading {
 }
 
 #[derive(Debug, Clone, Copy, PartialEq, Eq)]
+pub enum Place {
+    InRoute { route: usize, reason: u8 },
+    Outside,
+}
+
+#[derive(Debug, Clone, Copy, PartialEq, Eq)]
+pub struct WrongBit {
+    pub octet: usize,
+    pub bit: u8,
+    pub place: Place,
+}
+
+#[derive(Debug, Clone, Copy, PartialEq, Eq)]
+pub enum Finding {
+    Right,
+    Wrong(WrongBit),
+}
+
+#[derive(Debug, Clone, Copy, PartialEq, Eq)]
 pub enum Extends {
     Yes,
     No,
@@ -138,6 +157,37 @@ pub fn show(
     })
 }
 
+fn place(place: dustferrule::Place) -> Place {
+    match place {
+        dustferrule::Place::InRoute { route, reason } => Place::InRoute {
+            route,
+            reason: reason.number(),
+        },
+        dustferrule::Place::Outside => Place::Outside,
+    }
+}
+
+pub fn check_step(
+    list: &[u8],
+    form: Form,
+    steps: usize,
+    last: &[u8],
+    store: &[u8],
+    now: u32,
+    before: &[u8],
+    after: &[u8],
+) -> Result<Finding, Refusal> {
+    let found = dustferrule::check_step(list, form, steps, last, store, now, before, after);
+    Ok(match found.map_err(plain)? {
+        dustferrule::Finding::Right => Finding::Right,
+        dustferrule::Finding::Wrong(wrong) => Finding::Wrong(WrongBit {
+            octet: wrong.octet,
+            bit: wrong.bit,
+            place: place(wrong.place),
+        }),
+    })
+}
+
 #[path = "../../reference/tests/bench.rs"]
 mod bench;
 #[path = "../../reference/tests/christening.rs"]
@@ -164,6 +214,8 @@ mod marshal;
 mod profile;
 #[path = "../../reference/tests/reading.rs"]
 mod reading;
+#[path = "../../reference/tests/recordings.rs"]
+mod recordings;
 #[path = "../../reference/tests/relay.rs"]
 mod relay;
 #[path = "../../reference/tests/remedies.rs"]

@@ -1,8 +1,8 @@
 //! The gateway library of document 01, written a second time and independently: taking R-telegrams into
-//! a store, the gap between two of them, sweeping it, reading, showing and marshalling signals, composing R-telegrams, also anew from
-//! what was taken, judging signal lists, also by a profile, comparing two of them and moving them from one form to the other, building the
-//! consist from christening records, resolving addresses, summing up the doors of a train, reading and answering E-telegrams, and reading and
-//! writing those with remedy texts.
+//! a store, the gap between two of them, sweeping it, reading, showing and marshalling signals, checking a recording of marshalling, composing
+//! R-telegrams, also anew from what was taken, judging signal lists, also by a profile, comparing two of them and moving them from one form to
+//! the other, building the consist from christening records, resolving addresses, summing up the doors of a train, reading and answering
+//! E-telegrams, and reading and writing those with remedy texts.
 //!
 //! Every function is total: it answers or refuses for every input and never panics. Every public call
 //! tests its own input, and a refusal changes no lent octet.
@@ -24,6 +24,7 @@ mod marshal;
 mod octets;
 mod profile;
 mod reading;
+mod recordings;
 mod refusal;
 mod relay;
 mod remedies;
@@ -46,6 +47,7 @@ pub use marshal::marshal;
 pub use octets::{read_field, write_field};
 pub use profile::{judge_profile, Profile};
 pub use reading::{read, Reading};
+pub use recordings::{check_step, Finding, Place, WrongBit};
 pub use refusal::Refusal;
 pub use relay::relay;
 pub use remedies::{read_remedies, remedy_block, write_remedies, Remedies, Remedy};

@@ -20,7 +20,17 @@ pub fn marshal(
     data: &mut [u8],
 ) -> Result<u64, Refusal> {
     let list = List::judged(list, form)?;
-    let slots = slots(store)?;
+    marshal_under(&list, slots(store)?, now, data)
+}
+
+/// Marshals under a judged list. Refusal 12.
+#[inline]
+pub(crate) fn marshal_under(
+    list: &List,
+    slots: &Slots,
+    now: u32,
+    data: &mut [u8],
+) -> Result<u64, Refusal> {
     // "12: data shorter than a route's end": each start is at or past the end of the route before, so the
     // last route ends last.
     if let Some(route) = list.routes.last().map(Route::of) {
@@ -32,11 +42,11 @@ pub fn marshal(
     }
 
     Ok(if list.routes.len() < FEW_ROUTES {
-        write_routes(&list, slots, now, data, |signal| list.codes_of(signal))
+        write_routes(list, slots, now, data, |signal| list.codes_of(signal))
     } else {
-        let first = first_codes(&list);
+        let first = first_codes(list);
         let codes_of = |signal: usize| &list.codes[first[signal].into()..first[signal + 1].into()];
-        write_routes(&list, slots, now, data, codes_of)
+        write_routes(list, slots, now, data, codes_of)
     })
 }
 

@@ -3,7 +3,7 @@
 /// A refusal of document 01's table, or of document 02.
 #[derive(Debug, Clone, Copy, PartialEq, Eq)]
 pub struct Refusal {
-    /// The number in the table, 1 to 27; document 02 has 28 to 35.
+    /// The number in the table, 1 to 27; document 02 has 28 to 38.
     pub number: u8,
     /// "1-4 also return the offset of the section's count (1, 2), of the entry (3) or of the first octet
     /// too many (4); 15 returns the first signal at fault", counted from 0; "34 profile rule broken, with the

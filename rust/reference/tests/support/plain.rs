@@ -1,5 +1,7 @@
 //! Document 01 in its plainest form.
 
+use std::ops::Range;
+
 use super::{HEAD, HEARD, SIGNAL_SIZE, SLOT, STAMP, STORE};
 use reference::{Counts, Level, Reading, Refusal};
 
@@ -815,4 +817,72 @@ pub fn doors(
     };
     let asked = resolved(marks, address)?;
     Ok([left, right].map(|signal| side(&list, store, now, &asked, signal as u64)))
+}
+
+/// C-21: a step of a recording.
+#[derive(Clone, Debug)]
+pub struct Step {
+    pub store: Vec<u8>,
+    pub clock: u32,
+    pub before: Vec<u8>,
+    pub after: Vec<u8>,
+}
+
+/// The first wrong bit, if there is one, by its address; and the route it lies in, if in any, with the reason.
+pub type Found = Option<(usize, Option<(usize, u8)>)>;
+
+/// The bits of a route's field.
+fn field(list: &List, r: &Route) -> Range<usize> {
+    let width = list.signals[r.signal as usize].width;
+    r.start as usize..(r.start + width) as usize
+}
+
+/// What the bit at an address must be, and the route it lies in, with the reason.
+fn ours(list: &List, step: &Step, address: usize) -> (bool, Option<(usize, u8)>) {
+    let has = |r: &Route| field(list, r).contains(&address);
+    let Some(number) = list.routes.iter().position(has) else {
+        return (bit(&step.before, address), None);
+    };
+    let r = &list.routes[number];
+    let reading = read(list, &step.store, step.clock, r.vehicle, r.signal);
+    let behind = field(list, r).end - 1 - address;
+    (
+        reading.value >> behind & 1 == 1,
+        Some((number, reading.reason)),
+    )
+}
+
+/// "Order in a step: 38, then 1-5 and 12, 36, 37", then bit by bit; with signal entries of so many octets.
+pub fn check_step(
+    list: &[u8],
+    size: usize,
+    steps: usize,
+    last: &[u8],
+    step: &Step,
+) -> Result<Found, Refusal> {
+    let refuse = |number| Err(Refusal { number, carried: 0 });
+    if steps >= 1_000 {
+        return refuse(38);
+    }
+    let list = List::judged_of(list, size)?;
+    if step.store.len() != STORE {
+        return refuse(5);
+    }
+    let bits = 8 * step.before.len();
+    if list.routes.iter().any(|r| bits < field(&list, r).end) {
+        return refuse(12);
+    }
+    if step.after.len() != step.before.len() {
+        return refuse(36);
+    }
+    if steps != 0 && step.before != last {
+        return refuse(37);
+    }
+    for address in 0..bits {
+        let (ours, place) = ours(&list, step, address);
+        if bit(&step.after, address) != ours {
+            return Ok(Some((address, place)));
+        }
+    }
+    Ok(None)
 }
