@@ -5,9 +5,9 @@ ghost use mathlib.Core.Bool.{_&&_};
 ghost use lib.ListN.{length, getD};
 ghost use lib.Dec.{ltb};
 ghost use Rattle.paper.specs.SignalList.{entry, checkSize, codeSize, routeSize, checkAt, signalAt};
-ghost use Rattle.paper.specs.SignalList.{checkRule, placeRule, namedRule, valueRule, routeEnd};
+ghost use Rattle.paper.specs.SignalList.{checkRule, placeRule, namedRule, widthRule, valueRule, routeEnd};
 ghost use Rattle.entries.specs.Entries.{signalOf, codeOf, routeOf, CheckRead, SignalRead, CodeRead, RouteRead, OctetRead};
-ghost use Rattle.entries.specs.Entries.{Placeable, inOrder, ownRule, codeKeeps, routeKeeps};
+ghost use Rattle.entries.specs.Entries.{Placeable, inOrder, partKeeps, ownKeeps, codeKeeps, routeKeeps};
 
 // The octets of an entry of each section; a signal's has so many in form 1, and in form 2 a serial number behind them.
 pub const CHECK_SIZE: usize = 2;
@@ -82,20 +82,21 @@ pub fn signal_at(tail: &[u8], size: usize, k: usize) -> Signal
         check: octets::wide(tail[at + 4]),
         since: octets::wide(tail[at + 5]),
         limit: octets::read32(tail, at + 6),
-        replacement: octets::read48(tail, at + 10),
+        // The last six of the eight octets, which are one load.
+        replacement: octets::read64(tail, at + 8) % 281474976710656,
     }
 }
 
-// Inner: code entry k, from the codes' count on.
+// Inner: code entry k, from the codes' count on. One load of eight octets ends with it: even the first has the count before it.
 pub fn code_at(tail: &[u8], k: usize) -> Code
     requires { ⌜ entry codeSize (k + 1) ≤ length (now tail) ⌝ }
     ensures { λ r. ⌜ CodeRead (now (tail .entry)) k r ⌝ }
 {
-    let at = 2 + CODE_SIZE * k;
+    let x = octets::read64(tail, CODE_SIZE * k);
     Code {
-        signal: octets::read16(tail, at),
-        low: octets::read16(tail, at + 2),
-        high: octets::read16(tail, at + 4),
+        signal: ((x >> 32) % 65536) as usize,
+        low: ((x >> 16) % 65536) as usize,
+        high: (x % 65536) as usize,
     }
 }
 
@@ -168,10 +169,25 @@ pub fn named_rule(list: &[u8], checks: usize, s: Signal) -> bool
     low & common | !low & !common
 }
 
+fn width_rule(s: Signal) -> bool
+    ensures { λ r. ⌜ r ≡ widthRule (signalOf s) ⌝ }
+{
+    (1 <= s.width) & (s.width <= WIDEST)
+}
+
 fn value_rule(s: Signal) -> bool
     ensures { λ r. ⌜ r ≡ valueRule (signalOf s) ⌝ }
 {
-    (1 <= s.since) & (s.since <= 255) & (s.limit <= 600000) & octets::fits(s.replacement, s.width)
+    if s.since < 1 {
+        return false;
+    }
+    if 255 < s.since {
+        return false;
+    }
+    if 600000 < s.limit {
+        return false;
+    }
+    octets::fits(s.replacement, s.width)
 }
 
 // An entry of `group` that begins at `start`, behind one of the group `last` that reaches to `past`: groups never fall, and within one it begins no earlier.
@@ -181,19 +197,48 @@ fn in_order(last: usize, past: usize, group: usize, start: usize) -> bool
     (last < group) | (last == group) & (past <= start)
 }
 
-// Inner: s, behind a field of type `kind` that ends at `past`, keeps its rule but for the checks that it may share a bit with.
-pub fn signal_own(list: &[u8], checks: usize, kind: usize, past: usize, s: Signal) -> bool
-    requires { ⌜ entry checkSize checks ≤ length (now list) ⌝ }
-    requires { ⌜ Placeable s ⌝ }
-    ensures { λ r. ⌜ r ≡ ownRule checks (checkAt (now (list .entry))) kind past (signalOf s) ⌝ }
+// The same of s, behind a field of type `kind`; most follow one of their type.
+fn in_turn(kind: usize, past: usize, s: Signal) -> bool
+    ensures { λ r. ⌜ r ≡ inOrder kind past (s .kind) (s .start) ⌝ }
 {
-    (1 <= s.width)
-        & (s.width <= WIDEST)
-        & (s.kind <= 2)
-        & place_rule(s)
-        & named_rule(list, checks, s)
-        & value_rule(s)
-        & in_order(kind, past, s.kind, s.start)
+    if kind == s.kind {
+        return past <= s.start;
+    }
+    kind < s.kind
+}
+
+// The type, the place and the check named, by the number of common checks: those are the first, so that none is looked up.
+fn part_rule(checks: usize, common: usize, s: Signal) -> bool
+    requires { ⌜ Placeable s ⌝ }
+    ensures { λ r. ⌜ r ≡ partKeeps checks common (signalOf s) ⌝ }
+{
+    let end = s.start + s.width;
+    if s.kind == 0 {
+        return (16 <= s.start) & (end <= 320) & (s.check <= common);
+    }
+    if 2 < s.kind {
+        return false;
+    }
+    let named = ((s.check == 0) | (common < s.check)) & (s.check <= checks);
+    (320 <= s.start) & (end <= 1024) & named
+}
+
+// Inner: s, behind a field of type `kind` that ends at `past`, keeps its rule but for the checks that it may share a bit with. Each test is a branch, which is
+// nearly always foreseen.
+pub fn signal_own(checks: usize, common: usize, kind: usize, past: usize, s: Signal) -> bool
+    requires { ⌜ Placeable s ⌝ }
+    ensures { λ r. ⌜ r ≡ ownKeeps checks common kind past (signalOf s) ⌝ }
+{
+    if !width_rule(s) {
+        return false;
+    }
+    if !part_rule(checks, common, s) {
+        return false;
+    }
+    if !value_rule(s) {
+        return false;
+    }
+    in_turn(kind, past, s)
 }
 
 // Inner: check j exists and lies before the bit `end`.
@@ -216,17 +261,11 @@ fn width_of(tail: &[u8], size: usize, k: usize) -> usize
     octets::wide(tail[2 + size * k + 2])
 }
 
-// Inner: c, behind a code entry of the signal `last` and with `least` as its least code, keeps its rule; sig starts at the signals' count.
-pub fn code_rule(
-    sig: &[u8],
-    size: usize,
-    signals: usize,
-    last: usize,
-    least: usize,
-    c: Code,
-) -> bool
+// Inner: c, whose least key is `least`, keeps its rule; sig starts at the signals' count.
+pub fn code_rule(sig: &[u8], size: usize, signals: usize, least: usize, c: Code) -> bool
     requires { ⌜ (16 ≤ size) × (entry size signals ≤ length (now sig)) ⌝ }
-    ensures { λ r. ⌜ r ≡ codeKeeps signals (signalAt size (now (sig .entry))) last least (codeOf c) ⌝ }
+    requires { ⌜ (c .signal < 65536) × (c .low < 65536) ⌝ }
+    ensures { λ r. ⌜ r ≡ codeKeeps signals (signalAt size (now (sig .entry))) least (codeOf c) ⌝ }
 {
     if signals <= c.signal {
         return false;
@@ -235,23 +274,26 @@ pub fn code_rule(
     if 16 < w {
         return false;
     }
-    (c.low <= c.high) & octets::fits(c.high as u64, w) & in_order(last, least, c.signal, c.low)
+    if c.high < c.low {
+        return false;
+    }
+    if !octets::fits(c.high as u64, w) {
+        return false;
+    }
+    least <= c.signal * 65536 + c.low
 }
 
-// Inner: r, behind a route that ends at `past`, keeps its rule.
+// Inner: r, behind a route that ends at `past`, keeps its rule. The vehicle and the null behind it are one number, of which one range is asked.
 pub fn route_rule(sig: &[u8], size: usize, signals: usize, past: usize, r: Route) -> bool
     requires { ⌜ (16 ≤ size) × (entry size signals ≤ length (now sig)) ⌝ }
-    requires { ⌜ r .start < 65536 ⌝ }
+    requires { ⌜ (r .vehicle < 256) × (r .null < 256) × (r .start < 65536) ⌝ }
     ensures { λ b. ⌜ b ≡ routeKeeps signals (signalAt size (now (sig .entry))) past (routeOf r) ⌝ }
 {
     if signals <= r.signal {
         return false;
     }
-    (1 <= r.vehicle)
-        & (r.vehicle <= 63)
-        & (r.null == 0)
-        & (route_end(sig, size, r) <= 2048)
-        & (past <= r.start)
+    let v = r.vehicle + 256 * r.null;
+    (1 <= v) & (v <= 63) & (route_end(sig, size, r) <= 2048) & (past <= r.start)
 }
 
 // Inner: the first bit past a route whose signal exists.

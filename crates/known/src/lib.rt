@@ -1,7 +1,7 @@
 // Known codes: whether a signal knows a code under the list's code entries. The entries are in order, so those of a signal are found by
 // halving, or by going on from those of a signal before. What has a `requires` is inner: its caller in the library shows it.
 ghost use mathlib.Core.Path.{_≡_};
-ghost use Prim.Native.Nat.{_<_};
+ghost use Prim.Native.Nat.{_+_, _*_, _<_};
 ghost use Rattle.paper.specs.SignalList.{listOf, knows as listKnows};
 ghost use Rattle.paper.specs.Accepted.{Laid};
 ghost use Rattle.paper.specs.Search.{Between, Cut};
@@ -78,6 +78,24 @@ pub fn entries_from(list: &[u8], n: Counts, from: usize, k: usize) -> Span
     Span { from: first, to }
 }
 
+// Of the entries of signal k, the first that does not end below the code: a search for its key, which within a signal rises by its high alone.
+fn first_high(list: &[u8], n: Counts, own: Span, k: usize, code: usize) -> usize
+    requires { ⌜ (Laid (now list) (countsOf n)) × (Entries (listOf (now list) (countsOf n)) k own) × (code < 65536) ⌝ }
+    ensures { λ r. ⌜ Cut (codeKeys (listOf (now (list .entry)) (countsOf n) .code)) (n .codes) (k * 65536 + code) r ⌝ }
+{
+    let mut low = own.from;
+    let mut high = own.to;
+    while low < high {
+        let mid = low + (high - low) / 2;
+        if lists::code_in(list, n, mid).high < code {
+            low = mid + 1;
+        } else {
+            high = mid;
+        }
+    }
+    low
+}
+
 // Inner: whether signal k, with these entries, knows a code. Its ranges never touch, so the first that does not end below the code decides.
 pub fn knows(list: &[u8], n: Counts, k: usize, own: Span, code: u64) -> bool
     requires { ⌜ (Laid (now list) (countsOf n)) × (k < n .signals) × (Entries (listOf (now list) (countsOf n)) k own) ⌝ }
@@ -89,7 +107,7 @@ pub fn knows(list: &[u8], n: Counts, k: usize, own: Span, code: u64) -> bool
     if 65535 < code {
         return false;
     }
-    let e = first_code(list, n, own.from, own.to, k * 65536 + code as usize);
+    let e = first_high(list, n, own, k, code as usize);
     if own.to <= e {
         return false;
     }

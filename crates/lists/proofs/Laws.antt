@@ -133,17 +133,21 @@ module _ (checks : ℕ) (check : ℕ → ℕ) where
         let r = rw z at (check-kept check (suc (j + d)) (all-at (checkRule check) checks kept (suc (j + d)) (omega arith)) .rises (omega arith)) in
         rw add-suc (omega (arith, r, checks-rise d j (omega arith)))
 
+    -- where check j does not lie before the bit `end`, none from there on does
+    pub none-before : (j end : ℕ) → (ltb j checks && ltb (check j) end) ≡ false → (m : ℕ) → j ≤ m → m < checks → end ≤ check m
+    none-before j end e m ge lt =
+        let z : j + (m - j) ≡ m = omega arith in
+        let far : end ≤ check j = ltb-false _ _ (rw (lt-ltb j checks (omega arith)) at e) in
+        let r = rw z at (checks-rise (m - j) j (rw z lt)) in
+        omega (arith, far, r)
+
   module _ (s : Signal) (j : ℕ) where
     -- no check from j on lies before the field's end: it shares a bit with none
     pub shares-none : all (checkRule check) checks ≡ true → Behind checks check (s .start) j → (ltb j checks && ltb (check j) (fieldEnd s)) ≡ false
         → true ≡ clearRule checks check s
     shares-none kept b e = sym (all-true (λ m. apart s (check m)) checks (λ m lt. elim (decLt m j) [
       | yes h ↦ rw (le-leb (check m + 2) (s .start) (b .each m h), or-true)
-      | no ge ↦
-          let z : j + (m - j) ≡ m = omega arith in
-          let far : fieldEnd s ≤ check j = ltb-false _ _ (rw (lt-ltb j checks (omega arith)) at e) in
-          let r = rw z at (checks-rise kept (m - j) j (rw z lt)) in
-          rw (le-leb (fieldEnd s) (check m) (omega (arith, far, r)))
+      | no ge ↦ rw (le-leb (fieldEnd s) (check m) (none-before kept j (fieldEnd s) e m (omega arith) lt))
     ]))
 
     pub shares-one : (ltb j checks && ltb (check j) (fieldEnd s)) ≡ true → s .start < check j + 2 → false ≡ clearRule checks check s

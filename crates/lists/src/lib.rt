@@ -12,7 +12,7 @@ ghost use Rattle.paper.specs.SignalList.{checkRule, signalRule, codeRule, route
 ghost use Rattle.paper.specs.SignalList.{fromRoutes, fromCodes, fromSignals, judgeSized, judge as judgedList, rest as restOf};
 ghost use Rattle.paper.specs.SignalList.{listOf, signalsPart, codesPart, routesPart, placeOf};
 ghost use Rattle.paper.specs.Accepted.{RefusedWithin, Laid, Sized};
-ghost use Rattle.entries.specs.Entries.{signalOf, CheckRead, SignalRead, CodeRead, RouteRead, OctetRead};
+ghost use Rattle.entries.specs.Entries.{signalOf, codeOf, codePast, Parted, CheckRead, SignalRead, CodeRead, RouteRead, OctetRead};
 ghost use Rattle.lists.specs.Judged.{countsOf, sectionAnswer, judgedAnswer};
 use entries::CHECK_SIZE;
 use entries::CODE_SIZE;
@@ -120,6 +120,18 @@ fn resumed(past: usize, s: Signal, from: usize) -> usize
     if past <= s.start { from } else { 0 }
 }
 
+// How many of the checks lie in the octets that every type carries: checks rise, so these are the first.
+fn common_checks(list: &[u8], checks: usize) -> usize
+    requires { ⌜ (entry checkSize checks ≤ length (now list)) × (all (checkRule (checkAt (now list))) checks ≡ true) ⌝ }
+    ensures { λ r. ⌜ Parted checks (checkAt (now (list .entry))) r ⌝ }
+{
+    let mut j = 0;
+    while entries::check_before(list, checks, j, 320) {
+        j += 1;
+    }
+    j
+}
+
 // Inner: the offset of the first of n signals that breaks its rule, or the end of the section. Each is tested by its own rule and then against the checks from
 // the first that may share a bit with it to the first at or past its end: checks rise, and starts do within a type.
 pub fn first_bad_signal(list: &[u8], checks: usize, tail: &[u8], size: usize, n: usize) -> usize
@@ -127,6 +139,7 @@ pub fn first_bad_signal(list: &[u8], checks: usize, tail: &[u8], size: usize, n:
     requires { ⌜ (Sized size) × (entry size n ≤ length (now tail)) ⌝ }
     ensures { λ r. ⌜ r ≡ entry size (firstBad (signalRule checks (checkAt (now (list .entry))) (signalAt size (now (tail .entry)))) n) ⌝ }
 {
+    let common = common_checks(list, checks);
     let mut kind = 0;
     let mut past = 0;
     let mut from = 0;
@@ -136,7 +149,7 @@ pub fn first_bad_signal(list: &[u8], checks: usize, tail: &[u8], size: usize, n:
             break 'signals 2 + size * n;
         }
         let s = entries::signal_at(tail, size, k);
-        if !entries::signal_own(list, checks, kind, past, s) {
+        if !entries::signal_own(checks, common, kind, past, s) {
             break 'signals 2 + size * k;
         }
         let end = s.start + s.width;
@@ -154,22 +167,31 @@ pub fn first_bad_signal(list: &[u8], checks: usize, tail: &[u8], size: usize, n:
     }
 }
 
+// The least key of a code entry behind c.
+fn code_past(c: Code) -> usize
+    requires { ⌜ c .signal < 65536 ⌝ }
+    ensures { λ r. ⌜ r ≡ codePast (codeOf c) ⌝ }
+{
+    if 65534 < c.high {
+        return c.signal * 65536 + 65536;
+    }
+    c.signal * 65536 + (c.high + 2)
+}
+
 // Inner: the first of n codes that breaks its rule, n where none does; sig starts at the signals' count.
 pub fn first_bad_code(sig: &[u8], size: usize, signals: usize, tail: &[u8], n: usize) -> usize
     requires { ⌜ (16 ≤ size) × (entry size signals ≤ length (now sig)) ⌝ }
     requires { ⌜ entry codeSize n ≤ length (now tail) ⌝ }
     ensures { λ r. ⌜ r ≡ firstBad (codeRule signals (signalAt size (now (sig .entry))) (codeAt (now (tail .entry)))) n ⌝ }
 {
-    let mut last = 0;
     let mut least = 0;
     let mut k = 0;
     while k < n {
         let c = entries::code_at(tail, k);
-        if !entries::code_rule(sig, size, signals, last, least, c) {
+        if !entries::code_rule(sig, size, signals, least, c) {
             return k;
         }
-        last = c.signal;
-        least = c.high + 2;
+        least = code_past(c);
         k += 1;
     }
     n

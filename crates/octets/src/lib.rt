@@ -163,11 +163,17 @@ fn write_rest(s: &mut [u8], start: usize, width: usize, v: u64)
     s[q + end / 8] = with_field(s[q + end / 8], 0, n, v);
 }
 
-// Inner: v, of which the low `width` bits count, into the field, in the same way.
+// Inner: v, of which the low `width` bits count, into the field, in the same way; but one octet alone where the field lies in it, since eight that were
+// just written in part are waited for when they are read again.
 pub fn write_field(s: &mut [u8], start: usize, width: usize, v: u64)
     requires { ⌜ Within (now s) start width ⌝ }
     ensures { λ _. ⌜ now (s .exit) ≡ put (now (s .entry)) start width v ⌝ }
 {
+    let within = start % 8;
+    if within + width <= 8 {
+        s[start / 8] = with_field(s[start / 8], within, width, v);
+        return;
+    }
     if 8 <= s.len() {
         let q = least(start / 8, s.len() - 8);
         let b = start - 8 * q;
@@ -209,8 +215,8 @@ pub fn read48(s: &[u8], at: usize) -> u64
     read32(s, at) * 65536 + read16(s, at + 4) as u64
 }
 
-// Of eight; joined by `|`, of which LLVM makes one load.
-fn read64(s: &[u8], at: usize) -> u64
+// Inner: of eight; joined by `|`, of which LLVM makes one load.
+pub fn read64(s: &[u8], at: usize) -> u64
     requires { ⌜ at + 8 ≤ length (now s) ⌝ }
     ensures { λ r. ⌜ NumberRead (now (s .entry)) at 8 r ⌝ }
 {

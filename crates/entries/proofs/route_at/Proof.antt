@@ -5,7 +5,7 @@ use Rattle.entries.proofs.route_at.Tie as tie
 
 returns : tie.Need-returns
 unfolding routeAt
-returns c = record { is = cc; signal-small = search needs; vehicle-small = search needs; start-small = search needs }
+returns c = record { is = cc; signal-small = search needs; vehicle-small = search needs; null-small = search needs; start-small = search needs }
 
 pub route-at-spec : {M : Type 1} → statement M
 route-at-spec =

@@ -7,7 +7,7 @@ use borrow.Author.Needs.{needs}
 use Rattle.paper.specs.SignalList.{Code, listOf, knows as listKnows}
 use Rattle.lists.specs.Judged.{countsOf}
 use Rattle.known.specs.Known.{Ordered}
-use Rattle.known.proofs.Laws.{laid-ordered, knows-all, knows-below, own-between, knows-past, knows-here}
+use Rattle.known.proofs.Laws.{laid-ordered, knows-all, knows-below, knows-past, knows-here}
 use Rattle.known.proofs.knows.Statement.{statement}
 use Rattle.known.proofs.knows.Tie as tie
 
@@ -28,10 +28,10 @@ returns-2 c =
     knows-below _ _ (ordered s) _ _ _ (s .pre .2) _ (omega (arith, e .if1 .left, s .pre .2 .ordered))
     (λ g lt q. omega (arith, ordered s .small g lt))
 
-first-code-requires : tie.Need-first-code-requires
-first-code-requires c κs =
+first-high-requires : tie.Need-first-high-requires
+first-high-requires c κs =
     let s = c .before .before .before .before in
-    (s .pre .0, own-between _ _ (ordered s) _ _ _ (s .pre .2) _ (omega arith))
+    (s .pre .0, s .pre .2, omega arith)
 
 returns-3 : tie.Need-returns-3
 unfolding listKnows
@@ -39,7 +39,7 @@ returns-3 c =
     let f = c .before .before in
     let e = f .before .before in
     let s = e .before .before .before in
-    knows-past _ _ (ordered s) _ _ _ (s .pre .2) _ (omega (arith, e .if1 .left, s .pre .2 .ordered)) _ (f .first-code .ensures) (c .if3 .taken)
+    knows-past _ _ (ordered s) _ _ _ (s .pre .2) _ (omega (arith, e .if1 .left, s .pre .2 .ordered)) _ (f .first-high .ensures) (c .if3 .taken)
 
 returns-4 : tie.Need-returns-4
 unfolding listKnows
@@ -49,7 +49,7 @@ returns-4 c =
     let e = f .before .before in
     let s = e .before .before .before in
     ap (λ (x : Code). leb (x .low) (s .args .code)) (c .code-in .ensures .is)
-    ∙ knows-here _ _ (ordered s) _ _ _ (s .pre .2) _ (omega (arith, e .if1 .left, s .pre .2 .ordered)) _ (f .first-code .ensures) (l .if3 .left)
+    ∙ knows-here _ _ (ordered s) _ _ _ (s .pre .2) _ (omega (arith, e .if1 .left, s .pre .2 .ordered)) _ (f .first-high .ensures) (l .if3 .left)
 
 pub knows-spec : {M : Type 1} → statement M
 knows-spec =
@@ -57,9 +57,7 @@ knows-spec =
     (tie.spec
     returns
     returns-2
-    (λ c. search needs)
-    (λ c. search needs)
-    first-code-requires
+    first-high-requires
     returns-3
     (λ c κs. search needs)
     returns-4)

@@ -27,16 +27,16 @@ record Stands (list : List ℕ) (checks : ℕ) (tail : List ℕ) (size n kind pa
   behind : Behind checks (checkAt list) past from
 
 abbrev Inv-loop : tie.InvT-loop
-Inv-loop list checks tail size n kind past from k s end j₀ j = Behind checks (checkAt list) (s .start) j
+Inv-loop list checks tail size n common kind past from k s end j₀ j = Behind checks (checkAt list) (s .start) j
 
 abbrev μ-loop : tie.MeasureT-loop
-μ-loop list checks tail size n kind past from k s end j₀ j = checks - j
+μ-loop list checks tail size n common kind past from k s end j₀ j = checks - j
 
 abbrev Inv-signals : tie.InvT-signals
-Inv-signals list checks tail size n kind₀ past₀ from₀ k₀ kind past from k = Stands list checks tail size n kind past from k
+Inv-signals list checks tail size n common kind₀ past₀ from₀ k₀ kind past from k = Stands list checks tail size n kind past from k
 
 abbrev μ-signals : tie.MeasureT-signals
-μ-signals list checks tail size n kind₀ past₀ from₀ k₀ kind past from k = n - k
+μ-signals list checks tail size n common kind₀ past₀ from₀ k₀ kind past from k = n - k
 
 signals-holds : tie.Need-signals-holds Inv-loop μ-loop Inv-signals μ-signals
 signals-holds c = record { passed = passed-none _ _; type = before-first; end = before-first; behind = behind-none _ }
@@ -51,7 +51,10 @@ abbrev reading : tie.At-loop Inv-loop μ-loop Inv-signals μ-signals → tie.Aft
 reading l = l .before .before .before .before .before
 
 abbrev start : tie.After-signal-at Inv-loop μ-loop Inv-signals μ-signals → tie.Start Inv-loop μ-loop Inv-signals μ-signals
-start s = s .before .before .before .before .before
+start s = s .before .before .before .before .before .before
+
+abbrev counted : tie.After-signal-at Inv-loop μ-loop Inv-signals μ-signals → tie.After-common-checks Inv-loop μ-loop Inv-signals μ-signals
+counted s = s .before .before .before
 
 -- the check that the inner loop stands at lies before the signal's end, and exists
 lies : (c : tie.Then3 Inv-loop μ-loop Inv-signals μ-signals) →
@@ -69,11 +72,11 @@ check-at-requires c κs = omega (arith, below c)
 
 -- the entry that the outer loop stands at is present
 here : (c : tie.Else1 Inv-loop μ-loop Inv-signals μ-signals) →
-    let a = c .before .before .before .before .args in
+    let a = c .before .before .before .before .before .args in
     entry (a .size) (c .before .signals .k + 1) ≤ length (now (a .tail))
-here c = entry-in _ _ _ (c .if1 .left) (c .before .before .before .before .pre .1 .1)
+here c = entry-in _ _ _ (c .if1 .left) (c .before .before .before .before .before .pre .1 .1)
 
-small : (c : tie.Else1 Inv-loop μ-loop Inv-signals μ-signals) → entry (c .before .before .before .before .args .size) (c .before .signals .k) < 2 ^ 64
+small : (c : tie.Else1 Inv-loop μ-loop Inv-signals μ-signals) → entry (c .before .before .before .before .before .args .size) (c .before .signals .k) < 2 ^ 64
 small c = omega (arith, here c)
 
 add-j : tie.Need-add-j Inv-loop μ-loop Inv-signals μ-signals
@@ -97,7 +100,7 @@ signals-again c =
     let i = s .before .before .signals .inv in
     record {
       passed = passed-more (i .passed) (s .before .if1 .left)
-          (own-passes _ _ _ _ (i .type) (i .end) (s .signal-at .ensures .is) (e .before .signal-own .ensures) (e .if2 .left)
+          (own-passes _ _ _ _ (counted s .common-checks .ensures) (i .type) (i .end) (s .signal-at .ensures .is) (e .before .signal-own .ensures) (e .if2 .left)
           (shares-none _ _ (signalOf (s .signal-at .result)) _ (start s .pre .0 .1) (l .loop .inv)
           (sym (c .before .check-before .ensures) ∙ c .if3 .left))) refl;
       type = before-next _ (ap (λ (x : Signal). x .type) (s .signal-at .ensures .is));
@@ -106,7 +109,7 @@ signals-again c =
     }
 
 returns : tie.Need-returns Inv-loop μ-loop Inv-signals μ-signals
-returns c = ap (entry (c .before .before .before .before .args .size)) (fails-nowhere (c .before .signals .inv .passed) (c .if1 .taken))
+returns c = ap (entry (c .before .before .before .before .before .args .size)) (fails-nowhere (c .before .signals .inv .passed) (c .if1 .taken))
 
 returns-2 : tie.Need-returns-2 Inv-loop μ-loop Inv-signals μ-signals
 returns-2 c =
@@ -114,7 +117,7 @@ returns-2 c =
     let i = o .before .before .signals .inv in
     ap (entry (start o .args .size))
     (fails-here (i .passed) (o .before .if1 .left)
-    (own-breaks _ _ _ _ (i .type) (i .end) (o .signal-at .ensures .is) (c .before .signal-own .ensures) (c .if2 .taken)) refl)
+    (own-breaks _ _ _ _ (counted o .common-checks .ensures) (i .type) (i .end) (o .signal-at .ensures .is) (c .before .signal-own .ensures) (c .if2 .taken)) refl)
 
 returns-3 : tie.Need-returns-3 Inv-loop μ-loop Inv-signals μ-signals
 returns-3 c =
@@ -125,7 +128,7 @@ returns-3 c =
     let i = s .before .before .signals .inv in
     ap (entry (start s .args .size))
     (fails-here (i .passed) (s .before .if1 .left)
-    (own-passes _ _ _ _ (i .type) (i .end) (s .signal-at .ensures .is) (e .before .signal-own .ensures) (e .if2 .left)
+    (own-passes _ _ _ _ (counted s .common-checks .ensures) (i .type) (i .end) (s .signal-at .ensures .is) (e .before .signal-own .ensures) (e .if2 .left)
     (shares-one _ _ (signalOf (s .signal-at .result)) _ (lies t) (rw (c .before .before .check-at .ensures .is) at (c .if4 .taken)))) refl)
 
 pub first-bad-signal-spec : {M : Type 1} → statement M
@@ -136,10 +139,11 @@ first-bad-signal-spec =
     μ-loop
     Inv-signals
     μ-signals
+    (λ c κs. search needs)
     signals-holds
     (λ c. search needs)
     (λ c. search needs)
-    (λ c κs. (c .before .before .before .before .pre .1 .0 .least, here c))
+    (λ c κs. (c .before .before .before .before .before .pre .1 .0 .least, here c))
     (λ c κs. search needs)
     (λ c. omega (arith, small (c .before .before .before)))
     (λ c. omega (arith, small (c .before .before .before)))
