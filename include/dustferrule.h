@@ -272,6 +272,16 @@ df_outcome df_sweep(uint8_t *store, size_t store_len, uint32_t clock);
 df_reading df_read(const uint8_t *list, size_t list_len, uint8_t form, const uint8_t *store, size_t store_len, uint32_t clock, uint64_t vehicle,
                    uint64_t signal);
 
+/* Reads every signal of one vehicle, with one judging of the list for all of them: values and reasons have an entry for each signal, in list order,
+ * and each is what df_read gives, a reason as its number of DF_REASONS. Refusals 1-4, then 5, 6, 13 where values or reasons are not one per signal. */
+df_outcome df_read_all(const uint8_t *list, size_t list_len, uint8_t form, const uint8_t *store, size_t store_len, uint32_t clock, uint64_t vehicle,
+                       uint64_t *values, size_t values_len, uint8_t *reasons, size_t reasons_len);
+
+/* The same of the vehicles 1 to last, vehicle after vehicle: signal k, from 0, of vehicle v is entry (v - 1) * signals + k. Refusals 1-4, then 5, 6
+ * where last is not 1-63, 13 where values or reasons are not last times as many as there are signals. */
+df_outcome df_read_train(const uint8_t *list, size_t list_len, uint8_t form, const uint8_t *store, size_t store_len, uint32_t clock, uint64_t last,
+                         uint64_t *values, size_t values_len, uint8_t *reasons, size_t reasons_len);
+
 /* Reads one signal (number from 0) of one vehicle and shows the value of the reading, live or replacement, as a kind: as a code, which is the
  * value itself, or, of a signal of 16 bits, as a speed of value / 64 km/h, a percentage of value * 25 / 4096 (unsigned, or signed: the value in
  * two's complement) or a current of value * 125 / 2048 A. Any kind but 1-4 shows the code. Refusals 1-4, then 5, 6, 11, 26. */

@@ -366,6 +366,98 @@ static void shown(void)
     expect("df_show", refuses(s, DF_REFUSAL_LIST_ENDS, 40));
 }
 
+/* what is lent for V's signals: room for three vehicles, EE wherever nothing is read */
+static uint64_t into[6];
+static uint8_t why[6];
+
+/* the first so many entries are these and the others EE, and so are all again */
+static int gathered(size_t entries, const uint64_t *values, const char *reasons)
+{
+    uint64_t v[6];
+    uint8_t r[6];
+    memset(v, 0xEE, sizeof v), memset(r, 0xEE, sizeof r);
+    memcpy(v, values, entries * sizeof *values), memcpy(r, reasons, entries);
+    int same = !memcmp(into, v, sizeof v) && !memcmp(why, r, sizeof r);
+    memset(into, 0xEE, sizeof into), memset(why, 0xEE, sizeof why);
+    return same;
+}
+
+static df_outcome all_of(const uint8_t *store, uint32_t clock, uint64_t vehicle, size_t values, size_t reasons)
+{
+    return df_read_all(V, sizeof V, DF_FORM_1, store, DF_STORE_OCTETS, clock, vehicle, into, values, why, reasons);
+}
+
+static df_outcome all_up_to(const uint8_t *store, uint32_t clock, uint64_t last, size_t values, size_t reasons)
+{
+    return df_read_train(V, sizeof V, DF_FORM_1, store, DF_STORE_OCTETS, clock, last, into, values, why, reasons);
+}
+
+/* vehicle 1 says both signals of V, forced, vehicle 2 was never heard, vehicle 3 with an R2 */
+static void cycle(void)
+{
+    static uint8_t store[DF_STORE_OCTETS], reasons[63];
+    static const uint8_t r2[128] = {0x12, 1}, nothing[8];
+    static const uint64_t read[6] = {16384, 5, 64, 9, 64, 9};
+    static uint64_t values[63];
+    uint8_t wide[sizeof V + 4];
+    memset(into, 0xEE, sizeof into), memset(why, 0xEE, sizeof why), memset(values, 0xEE, sizeof values);
+    says(store, 16384, 5, 2);
+    df_outcome o = df_take(store, sizeof store, 3, 1000, r2, sizeof r2);
+    expect("df_take, to be read", !o.refusal);
+    o = all_of(store, 6000, 1, 2, 2);
+    expect("df_read_all", !o.refusal && !o.carried && gathered(2, read, "\1\1"));
+    o = all_of(store, 6001, 1, 2, 2);
+    expect("df_read_all, too old", !o.refusal && !o.carried && gathered(2, read + 2, "\3\3"));
+    o = all_of(store, 6000, 3, 2, 2);
+    expect("df_read_all, another type", !o.refusal && !o.carried && gathered(2, read + 4, "\4\4"));
+    o = all_up_to(store, 6000, 3, 6, 6);
+    expect("df_read_train", !o.refusal && !o.carried && gathered(6, read, "\1\1\2\2\4\4"));
+    o = all_up_to(store, 6000, 1, 2, 2);
+    expect("df_read_train, one vehicle", !o.refusal && !o.carried && gathered(2, read, "\1\1"));
+    o = df_read_train(L, sizeof L, DF_FORM_1, store, sizeof store, 6000, 63, values, 63, reasons, 63);
+    expect("df_read_train, 63 vehicles", !o.refusal && !values[0] && reasons[0] == DF_REASON_LIVE_FORCED);
+    expect("df_read_train, 63 vehicles", reasons[2] == DF_REASON_TYPE_DOES_NOT_CARRY && !values[62] && reasons[62] == DF_REASON_NEVER_HEARD);
+    o = df_read_all(nothing, sizeof nothing, DF_FORM_1, store, sizeof store, 6000, 63, into, 0, why, 0);
+    expect("df_read_all, no signal", !o.refusal && !o.carried && gathered(0, read, ""));
+    o = df_to_form_2(V, sizeof V, wide, sizeof wide);
+    wide[22] = 0x40, wide[23] = 0xC0;
+    expect("df_to_form_2, to be read", !o.refusal);
+    o = df_read_all(wide, sizeof wide, DF_FORM_2, store, sizeof store, 6000, 1, into, 2, why, 2);
+    expect("df_read_all, form 2", !o.refusal && gathered(2, read, "\1\1"));
+    o = df_read_train(wide, sizeof wide, DF_FORM_2, store, sizeof store, 6000, 2, into, 4, why, 4);
+    expect("df_read_train, form 2", !o.refusal && gathered(4, read, "\1\1\2\2"));
+}
+
+/* nothing is read */
+static int unread_all(df_outcome o, uint32_t refusal, uint64_t carried)
+{
+    return o.refusal == refusal && o.carried == carried && gathered(0, into, "");
+}
+
+/* each refusal before all that come behind it */
+static void no_cycle(void)
+{
+    static uint8_t store[DF_STORE_OCTETS];
+    expect("df_read_all, a value too few", unread_all(all_of(store, 0, 1, 1, 2), DF_REFUSAL_VALUES_OR_MARKS, 0));
+    expect("df_read_all, a value too many", unread_all(all_of(store, 0, 1, 3, 2), DF_REFUSAL_VALUES_OR_MARKS, 0));
+    expect("df_read_all, a reason too few", unread_all(all_of(store, 0, 63, 2, 1), DF_REFUSAL_VALUES_OR_MARKS, 0));
+    expect("df_read_all, a reason too many", unread_all(all_of(store, 0, 63, 2, 3), DF_REFUSAL_VALUES_OR_MARKS, 0));
+    expect("df_read_all, vehicle 64", unread_all(all_of(store, 0, 64, 0, 0), DF_REFUSAL_VEHICLE, 0));
+    expect("df_read_train, as for two", unread_all(all_up_to(store, 0, 3, 4, 4), DF_REFUSAL_VALUES_OR_MARKS, 0));
+    expect("df_read_train, as for three", unread_all(all_up_to(store, 0, 2, 6, 6), DF_REFUSAL_VALUES_OR_MARKS, 0));
+    expect("df_read_train, a reason too few", unread_all(all_up_to(store, 0, 3, 6, 5), DF_REFUSAL_VALUES_OR_MARKS, 0));
+    expect("df_read_train, nobody", unread_all(all_up_to(store, 0, 0, 0, 0), DF_REFUSAL_VEHICLE, 0));
+    expect("df_read_train, vehicle 257", unread_all(all_up_to(store, 0, 257, 2, 2), DF_REFUSAL_VEHICLE, 0));
+    df_outcome o = df_read_all(V, sizeof V, DF_FORM_1, store, sizeof store - 1, 0, 64, into, 1, why, 1);
+    expect("df_read_all, no store", unread_all(o, DF_REFUSAL_STORE_LENGTH, 0));
+    o = df_read_train(V, sizeof V, DF_FORM_1, store, sizeof store - 1, 0, 64, into, 1, why, 1);
+    expect("df_read_train, no store", unread_all(o, DF_REFUSAL_STORE_LENGTH, 0));
+    o = df_read_all(V, sizeof V - 1, DF_FORM_1, store, sizeof store - 1, 0, 64, into, 1, why, 1);
+    expect("df_read_all, list refused", unread_all(o, DF_REFUSAL_LIST_ENDS, 40));
+    o = df_read_train(V, sizeof V - 1, DF_FORM_1, store, sizeof store - 1, 0, 64, into, 1, why, 1);
+    expect("df_read_train, list refused", unread_all(o, DF_REFUSAL_LIST_ENDS, 40));
+}
+
 static df_outcome relay(const uint8_t *list, const uint8_t *store, uint32_t clock, uint64_t vehicle, uint8_t *out, size_t len)
 {
     return df_relay(list, sizeof L, DF_FORM_1, store, DF_STORE_OCTETS, clock, vehicle, out, len);
@@ -706,6 +798,8 @@ int main(void)
     arrivals();
     wide_fields();
     shown();
+    cycle();
+    no_cycle();
     passed_on();
     train();
     christened();

@@ -1,8 +1,16 @@
 #!/usr/bin/env python3
-"""Writes the tables of the bench into docs/BENCHMARK.md, and the plot of its growth table beside it. Run from the root.
+"""Writes the tables of the bench into docs/BENCHMARK.md, and the plot of its growth beside it. Run from the root.
 
-    page.py NAME        the tables on standard input, in place of what stands between the page's marks NAME, NAME-2 ..
-    page.py --plot      the plot alone, from the table that the page has
+    page.py times PROCESSOR         the two tables of `bench` on standard input: times, and times at four sizes. Of the page's columns those of
+                                    this processor are replaced and the other's stay; rows are those of the bench. What follows from the
+                                    sizes, how cost grows, is computed anew.
+    page.py counts PROCESSOR..      likewise, a group of columns for each of these
+    page.py machine PROCESSOR TEXT  by what and where that processor's times were taken
+    page.py lookup, page.py worst   the tables on standard input, in place of what stands between the page's marks
+    page.py grown                   how cost grows, and the plot, from the times that the page has
+    page.py check                   prints each ratio above 1.05 whose call has no reason in the section "Above 1.0"; fails if there is one
+
+PROCESSOR is what `uname -m` says.
 """
 import math
 import re
@@ -12,26 +20,97 @@ PAGE = "docs/BENCHMARK.md"
 PLOT = "docs/benchmark-growth.svg"
 WIDTH, HEIGHT, LEFT, BOTTOM, TOP, RIGHT = 720, 420, 70, 50, 20, 150
 COLOURS = {"judge": "#1b6ca8", "extends": "#b3541e", "marshal": "#3a7d44"}
-UNITS = {"ns": 1e-3, "µs": 1.0}
+UNITS = {"ns": 1e-3, "µs": 1.0, "ms": 1e3}
+# In the order of the columns: the product's own archive first.
+PROCESSORS = {"x86_64": "x86-64", "aarch64": "Arm"}
+GROUP = ["proved", "Rust", "ratio"]
+GROWN = ["proved, ns an octet", "exponent", "Rust, ns an octet", "exponent"]
+ABOVE = 1.05
 
 
-def replaced(page, name, table):
-    """The page with the table between the mark of this name and the next mark."""
-    mark = f"<!-- {name} -->\n"
-    before, rest = page.split(mark)
-    return before + mark + table.strip() + "\n" + rest[rest.index("<!-- end -->"):]
+def between(page, name):
+    """What stands between the mark of this name and the next."""
+    rest = page.split(f"<!-- {name} -->\n")[1]
+    return rest[:rest.index("<!-- end -->")]
 
 
-def points(page):
+def replaced(page, name, text):
+    before, rest = page.split(f"<!-- {name} -->\n")
+    return before + f"<!-- {name} -->\n" + text.strip() + "\n" + rest[rest.index("<!-- end -->"):]
+
+
+def rows(table):
+    """The rows of a table, without its head, as lists of cells."""
+    lines = [line for line in table.splitlines() if line.startswith("|")]
+    return [[cell.strip() for cell in line.strip().strip("|").split("|")] for line in lines[2:]]
+
+
+def table(columns, body):
+    """A group of columns for each processor."""
+    heads = [[f"{name}: {columns[0]}"] + columns[1:] for name in PROCESSORS.values()]
+    lines = ["call"] + sum(heads, [])
+    out = ["| " + " | ".join(lines) + " |", "|---|" + "---:|" * (len(lines) - 1)]
+    return "\n".join(out + ["| " + " | ".join(row) + " |" for row in body])
+
+
+def groups(row, size=len(GROUP)):
+    """The cells of a row by processor."""
+    row = row + [""] * (1 + size * len(PROCESSORS) - len(row))
+    return {p: row[1 + size * n:1 + size * (n + 1)] for n, p in enumerate(PROCESSORS)}
+
+
+def merged(old, new, processors):
+    """The rows of the new table, whose first groups are of these processors; all other groups as they stand in the old one."""
+    kept = {row[0]: groups(row) for row in rows(old)}
+    body = []
+    for row in rows(new):
+        of = dict(kept.get(row[0], groups([row[0]])))
+        for number, processor in enumerate(processors):
+            of[processor] = row[1 + 3 * number:4 + 3 * number]
+        body.append(row[:1] + sum((of[processor] for processor in PROCESSORS), []))
+    return table(GROUP, body)
+
+
+def micro(cell):
+    number, unit = cell.split()
+    return float(number) * UNITS[unit]
+
+
+def points(page, processor):
     """For each call and side, the octets of the list and the median time in µs."""
     found = {}
-    for line in page.splitlines():
-        row = re.match(r"\| (\w+), list of (\d+) octets \| ([\d.]+) (\S+) \| ([\d.]+) (\S+) \| ", line)
-        if row:
-            call, octets = row[1], int(row[2])
-            found.setdefault((call, "proved"), {})[octets] = float(row[3]) * UNITS[row[4]]
-            found.setdefault((call, "Rust"), {})[octets] = float(row[5]) * UNITS[row[6]]
+    for row in rows(between(page, "sizes")):
+        call, octets = re.fullmatch(r"(.*), list of (\d+) octets", row[0]).groups()
+        for side, cell in zip(GROUP, groups(row)[processor][:2]):
+            if cell:
+                found.setdefault((call, side), {})[int(octets)] = micro(cell)
     return found
+
+
+def slope(pairs):
+    """By least squares."""
+    x, y = (sum(of) / len(pairs) for of in zip(*pairs))
+    return sum((a - x) * (b - y) for a, b in pairs) / sum((a - x) ** 2 for a, b in pairs)
+
+
+def grown_cells(times):
+    """ns an octet, and the exponent: the slope where both axes are logarithmic."""
+    if not times:
+        return ["", ""]
+    each = 1e3 * slope(list(times.items()))
+    exponent = slope([(math.log(octets), math.log(time)) for octets, time in times.items()])
+    return [f"{each:.{0 if each >= 100 else 1 if each >= 10 else 2}f}", f"{exponent:.2f}"]
+
+
+def grown(page):
+    """The page with the growth that follows from its times."""
+    found = {processor: points(page, processor) for processor in PROCESSORS}
+    calls = dict.fromkeys(row[0].rsplit(", list of ", 1)[0] for row in rows(between(page, "sizes")))
+    body = []
+    for call in calls:
+        sides = [(processor, side) for processor in PROCESSORS for side in GROUP[:2]]
+        body.append([call] + sum((grown_cells(found[p].get((call, side))) for p, side in sides), []))
+    return replaced(page, "growth", table(GROWN, body))
 
 
 def place(octets, time):
@@ -41,7 +120,7 @@ def place(octets, time):
     return round(x, 1), round(y, 1)
 
 
-def axes(sizes):
+def axes(sizes, name):
     out = []
     for time in (0.1, 1, 10, 100, 1000):
         (x, y), right = place(1000, time), place(12000, time)[0]
@@ -51,7 +130,7 @@ def axes(sizes):
         x, y = place(octets, 0.1)
         out.append(f'<path d="M{x} {y}v5" stroke="#666"/><text x="{x}" y="{y + 20}" text-anchor="middle">{octets:,}</text>')
     x, y = place(math.sqrt(12e6), 0.1)
-    out.append(f'<text x="{x}" y="{y + 40}" text-anchor="middle">octets of the list</text>')
+    out.append(f'<text x="{x}" y="{y + 40}" text-anchor="middle">octets of the list, {name}</text>')
     return out
 
 
@@ -70,23 +149,65 @@ def lines(found):
 
 
 def plot(page):
-    found = points(page)
+    """Of the first processor that has the times of all three calls."""
+    for processor, name in PROCESSORS.items():
+        found = {of: times for of, times in points(page, processor).items() if of[0] in COLOURS}
+        if len(found) == 2 * len(COLOURS):
+            break
     out = [f'<svg xmlns="http://www.w3.org/2000/svg" width="{WIDTH}" height="{HEIGHT}" font-family="sans-serif" font-size="12">']
-    out += ['<rect width="100%" height="100%" fill="#fff"/>'] + axes(sorted({octets for times in found.values() for octets in times}))
-    out += lines(found)
+    out += ['<rect width="100%" height="100%" fill="#fff"/>']
+    out += axes(sorted({octets for times in found.values() for octets in times}), name) + lines(found)
     with open(PLOT, "w") as f:
         f.write("\n".join(out + ["</svg>"]) + "\n")
+
+
+def machine(page, processor, text):
+    """A line for each processor."""
+    said = dict(re.findall(r"- \*\*(.*?)\*\*: (.*)", between(page, "machines")))
+    said[PROCESSORS[processor]] = text
+    told = [f"- **{name}**: {said[name]}" for name in PROCESSORS.values() if name in said]
+    return replaced(page, "machines", "\n".join(told))
+
+
+def unexplained(page):
+    """Rows with a ratio above the bound whose name begins with none of the names in the section, which stand there in bold."""
+    section = re.search(r"\n## Above 1\.0\n(.*?)\n## ", page, re.S)[1]
+    names = [name.lower() for name in re.findall(r"\*\*(.*?)\*\*", section, re.S)]
+    for mark in ("times", "sizes", "counts"):
+        for row in rows(between(page, mark)):
+            ratios = {PROCESSORS[p]: of[2] for p, of in groups(row).items() if of[2] and float(of[2]) > ABOVE}
+            explained = any(re.match(re.escape(name) + r"(?=$|[, ])", row[0].lower()) for name in names)
+            if ratios and not explained:
+                yield f"{mark}: {row[0]}: " + ", ".join(f"{ratio} on {name}" for name, ratio in ratios.items())
+
+
+def written(page, words):
+    """The page with what the words and standard input say."""
+    if words[0] == "grown":
+        return grown(page)
+    if words[0] == "machine":
+        return machine(page, *words[1:])
+    text = sys.stdin.read()
+    if words[0] == "worst":
+        return replaced(page, "worst", text)
+    tables = [part for part in text.split("\n\n") if part.strip()]
+    if words[0] == "lookup":
+        return replaced(replaced(page, "lookup", tables[0]), "lookup-2", tables[1])
+    for mark, new in zip(["times", "sizes"] if words[0] == "times" else ["counts"], tables):
+        page = replaced(page, mark, merged(between(page, mark), new, words[1:]))
+    return grown(page)
 
 
 def main():
     with open(PAGE) as f:
         page = f.read()
-    if sys.argv[1:] != ["--plot"]:
-        tables = [table for table in sys.stdin.read().split("\n\n") if table.strip()]
-        for number, table in enumerate(tables, 1):
-            page = replaced(page, sys.argv[1] + (f"-{number}" if number > 1 else ""), table)
-        with open(PAGE, "w") as f:
-            f.write(page)
+    if sys.argv[1:] == ["check"]:
+        without = list(unexplained(page))
+        print("\n".join(without) if without else "every ratio above 1.05 has its reason")
+        sys.exit(bool(without))
+    page = written(page, sys.argv[1:])
+    with open(PAGE, "w") as f:
+        f.write(page)
     plot(page)
 
 

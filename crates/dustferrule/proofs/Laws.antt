@@ -16,6 +16,7 @@ use Rattle.paper.specs.Comparing.{Changed, Range, signalChanges, routeChanges, 
 use Rattle.paper.specs.Forms.{serialOf, toForm2, toForm1}
 use Rattle.paper.specs.Store.{taking, gapping, sweeping}
 use Rattle.paper.specs.Reading.{Reading, reading}
+use Rattle.paper.specs.Readings.{Readings, readings, trainReadings}
 use Rattle.paper.specs.Marshalling.{Marshalled, marshalling}
 use Rattle.paper.specs.Composing.{composing}
 use Rattle.paper.specs.Relaying.{relaying}
@@ -32,7 +33,7 @@ use Rattle.dustferrule.specs.declared.DfMarshalled.{DfMarshalled}
 use Rattle.dustferrule.specs.declared.DfChristened.{DfChristened}
 use Rattle.dustferrule.specs.declared.DfChecked.{DfChecked}
 use Rattle.dustferrule.specs.declared.DfWrote.{DfWrote}
-use Rattle.dustferrule.specs.Results.{yesNo, outcomeC, judgedC, extendingC, changeC, rangeC, entryC, foundC, serialC, gapC, livesC, placeC, readingC, shownC, membersC, eReadC, remediesC, christenedC, doorsC, checkedC, remedyC, wroteC, WrittenC, DeliveredC, ChristenedC, WroteC}
+use Rattle.dustferrule.specs.Results.{yesNo, outcomeC, judgedC, extendingC, changeC, rangeC, entryC, foundC, serialC, gapC, livesC, placeC, readingC, shownC, membersC, eReadC, remediesC, christenedC, doorsC, checkedC, remedyC, wroteC, WrittenC, ReadIntoC, DeliveredC, ChristenedC, WroteC}
 
 -- ---- each result, of any answer
 
@@ -119,6 +120,16 @@ pub written-kept : (a : Answer (List ℕ)) (old : List ℕ) (r : DfOutcome) (new
     → (r .refusal ≡ 0 → ⊥) → new ≡ old
 written-kept (gives x) old r new w h = absurd (h (ap (λ (o : DfOutcome). o .refusal) (w .result)))
 written-kept (refused n at) old r new w h = w .octets
+
+pub into-given : (a : Answer Readings) (values reasons : List ℕ) (r : DfOutcome) (values′ reasons′ : List ℕ) → ReadIntoC a values reasons r values′ reasons′ → Numbered a
+    → (r .refusal ≡ 0) ↔ Given a
+into-given a values reasons r values′ reasons′ w h =
+    rw (w .result) (laws.zero-given (λ x. outcomeC (forget x) .refusal) (λ x. refl) (λ n at. refl) a h)
+
+pub into-kept : (a : Answer Readings) (values reasons : List ℕ) (r : DfOutcome) (values′ reasons′ : List ℕ) → ReadIntoC a values reasons r values′ reasons′
+    → (r .refusal ≡ 0 → ⊥) → (values′ ≡ values) × (reasons′ ≡ reasons)
+into-kept (gives x) values reasons r values′ reasons′ w h = absurd (h (ap (λ (o : DfOutcome). o .refusal) (w .result)))
+into-kept (refused n at) values reasons r values′ reasons′ w h = (w .value, w .reason)
 
 pub delivered-given : (a : Answer Marshalled) (old : List ℕ) (r : DfMarshalled) (new : List ℕ) → DeliveredC a old r new → Numbered a
     → (r .refusal ≡ 0) ↔ Given a
@@ -248,6 +259,22 @@ module _ (form : ℕ) (xs store : List ℕ) (now v room : ℕ) (out : List ℕ) 
 
   pub relay-kept : (r .refusal ≡ 0 → ⊥) → new ≡ out
   relay-kept = written-kept _ out r new w
+
+module _ (form : ℕ) (xs store : List ℕ) (now v : ℕ) (values reasons : List ℕ) (r : DfOutcome) (values′ reasons′ : List ℕ)
+    (w : ReadIntoC (readings form xs store now v (length values) (length reasons)) values reasons r values′ reasons′) where
+  pub read-all-given : (r .refusal ≡ 0) ↔ Given (readings form xs store now v (length values) (length reasons))
+  read-all-given = into-given _ values reasons r values′ reasons′ w (laws.numbered-readings form xs store now v (length values) (length reasons))
+
+  pub read-all-kept : (r .refusal ≡ 0 → ⊥) → (values′ ≡ values) × (reasons′ ≡ reasons)
+  read-all-kept = into-kept _ values reasons r values′ reasons′ w
+
+module _ (form : ℕ) (xs store : List ℕ) (now last : ℕ) (values reasons : List ℕ) (r : DfOutcome) (values′ reasons′ : List ℕ)
+    (w : ReadIntoC (trainReadings form xs store now last (length values) (length reasons)) values reasons r values′ reasons′) where
+  pub read-train-given : (r .refusal ≡ 0) ↔ Given (trainReadings form xs store now last (length values) (length reasons))
+  read-train-given = into-given _ values reasons r values′ reasons′ w (laws.numbered-train form xs store now last (length values) (length reasons))
+
+  pub read-train-kept : (r .refusal ≡ 0 → ⊥) → (values′ ≡ values) × (reasons′ ≡ reasons)
+  read-train-kept = into-kept _ values reasons r values′ reasons′ w
 
 module _ (telegram head : List ℕ) (status : ℕ) (out : List ℕ) (r : DfOutcome) (new : List ℕ) (w : WrittenC (answering telegram head status out) out r new) where
   pub e-answer-given : (r .refusal ≡ 0) ↔ Given (answering telegram head status out)

@@ -12,6 +12,7 @@ use Rattle.paper.specs.Profiles.{Profile, plainCoach, drivingTrailer}
 use Rattle.paper.specs.Pairs.{Entry}
 use Rattle.paper.specs.Comparing.{Changed, Range}
 use Rattle.paper.specs.Reading.{Reading}
+use Rattle.paper.specs.Readings.{Readings}
 use Rattle.paper.specs.Marshalling.{Marshalled}
 use Rattle.paper.specs.Shown.{Kind, code, speed, percentage, signedPercentage, current, Shown, asCode, asSpeed, asPercentage, asCurrent, ShownReading}
 use Rattle.paper.specs.Octets.{over}
@@ -246,6 +247,12 @@ wroteC (refused n at) = record { refusal = n; size = 0 }
 pub record WrittenC (answer : Answer (List ℕ)) (old : List ℕ) (r : DfOutcome) (new : List ℕ) : Type 0 where
   pub result : r ≡ outcomeC (forget answer)
   pub octets : new ≡ after old answer
+
+-- one that writes values and reasons
+pub record ReadIntoC (answer : Answer Readings) (values reasons : List ℕ) (r : DfOutcome) (values′ reasons′ : List ℕ) : Type 0 where
+  pub result : r ≡ outcomeC (forget answer)
+  pub value : values′ ≡ after values (mapAnswer (λ x. x .values) answer)
+  pub reason : reasons′ ≡ after reasons (mapAnswer (λ x. x .reasons) answer)
 
 pub record DeliveredC (answer : Answer Marshalled) (old : List ℕ) (r : DfMarshalled) (new : List ℕ) : Type 0 where
   pub result : r ≡ livesC (mapAnswer (λ m. m .lives) answer)

@@ -13,6 +13,7 @@ ghost use Rattle.paper.specs.Comparing.{signalChanges, routeChanges, codesGaine
 ghost use Rattle.paper.specs.Forms.{serialOf, toForm2, toForm1};
 ghost use Rattle.paper.specs.Store.{taking, gapping, sweeping};
 ghost use Rattle.paper.specs.Reading.{reading};
+ghost use Rattle.paper.specs.Readings.{readings, trainReadings};
 ghost use Rattle.paper.specs.Marshalling.{marshalling};
 ghost use Rattle.paper.specs.Composing.{composing};
 ghost use Rattle.paper.specs.Relaying.{relaying};
@@ -43,7 +44,7 @@ ghost use Rattle.recordings.specs.Recordings.{checkedAnswer, Low, stepOf};
 ghost use Rattle.etelegrams.specs.Answers.{eReadAnswer};
 ghost use Rattle.texts.specs.Texts.{readAnswer as remediesAnswer, remedyAnswer};
 ghost use Rattle.textwriting.specs.Writing.{handedOf, wroteAnswer};
-ghost use Rattle.dustferrule.specs.Results.{yesNo, profileNumbered, changeRefused, changeC, rangeRefused, rangeC, kindNumbered, codeOf, unitOf, floatOf, outcomeC, judgedC, extendingC, entryC, foundC, serialC, gapC, livesC, placeC, readingC, shownC, membersC, levelC, propertyC, christenedC, stateC, doorsC, checkedC, eReadC, remediesC, remedyC, wroteC, WrittenC, DeliveredC, ChristenedC, WroteC};
+ghost use Rattle.dustferrule.specs.Results.{yesNo, profileNumbered, changeRefused, changeC, rangeRefused, rangeC, kindNumbered, codeOf, unitOf, floatOf, outcomeC, judgedC, extendingC, entryC, foundC, serialC, gapC, livesC, placeC, readingC, shownC, membersC, levelC, propertyC, christenedC, stateC, doorsC, checkedC, eReadC, remediesC, remedyC, wroteC, WrittenC, ReadIntoC, DeliveredC, ChristenedC, WroteC};
 use doors::State;
 use doors::SummaryOutcome;
 use gateway::Changes;
@@ -1011,6 +1012,36 @@ pub extern "C" fn df_read(
     ensures { λ r. ⌜ r ≡ readingC (reading form (now (list .entry)) (now (store .entry)) clock vehicle signal) ⌝ }
 {
     reading_c(gateway::read(list, form, store, clock, vehicle as usize, signal as usize))
+}
+
+#[no_mangle]
+pub extern "C" fn df_read_all(
+    list: &[u8],
+    form: u8,
+    store: &[u8],
+    clock: u32,
+    vehicle: u64,
+    values: &mut [u64],
+    reasons: &mut [u8],
+) -> DfOutcome
+    ensures { λ r. ⌜ ReadIntoC (readings form (now (list .entry)) (now (store .entry)) clock vehicle (length (now (values .entry))) (length (now (reasons .entry)))) (now (values .entry)) (now (reasons .entry)) r (now (values .exit)) (now (reasons .exit)) ⌝ }
+{
+    outcome_c(gateway::read_all(list, form, store, clock, vehicle as usize, values, reasons))
+}
+
+#[no_mangle]
+pub extern "C" fn df_read_train(
+    list: &[u8],
+    form: u8,
+    store: &[u8],
+    clock: u32,
+    last: u64,
+    values: &mut [u64],
+    reasons: &mut [u8],
+) -> DfOutcome
+    ensures { λ r. ⌜ ReadIntoC (trainReadings form (now (list .entry)) (now (store .entry)) clock last (length (now (values .entry))) (length (now (reasons .entry)))) (now (values .entry)) (now (reasons .entry)) r (now (values .exit)) (now (reasons .exit)) ⌝ }
+{
+    outcome_c(gateway::read_train(list, form, store, clock, last as usize, values, reasons))
 }
 
 #[no_mangle]

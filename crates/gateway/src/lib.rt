@@ -52,6 +52,8 @@ pub use profiles::judge_profile;
 pub use reading::ReadOutcome;
 pub use reading::Reading;
 pub use reading::read;
+pub use reading::read_all;
+pub use reading::read_train;
 pub use recordings::Checked;
 pub use recordings::MOST_STEPS;
 pub use recordings::WrongBit;

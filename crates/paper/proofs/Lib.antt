@@ -12,6 +12,7 @@ pub mod SweepLaws
 pub mod StoreLaws
 pub mod GapLaws
 pub mod ReadingLaws
+pub mod ReadingsLaws
 pub mod MarshallingLaws
 pub mod RecordingLaws
 pub mod ShownLaws

@@ -1,5 +1,5 @@
 -- No refusal of the paper has the number 0, so that 0 can stand for none at the C boundary. Assumes nothing.
-use Prim.Native.Nat.{ℕ, _≤_}
+use Prim.Native.Nat.{ℕ, _*_, _≤_}
 use mathlib.Core.Path.{_≡_, refl, ap₂}
 use mathlib.Core.Logic.{_↔_, _⊎_, inl, inr}
 use mathlib.Core.Bool.{Bool, true, false, not, cond}
@@ -16,6 +16,7 @@ use Rattle.paper.specs.Forms.{serialOf, toForm2, toForm1}
 use Rattle.paper.specs.Pairs.{entryOf, finding}
 use Rattle.paper.specs.Store.{taking, gapping, sweeping}
 use Rattle.paper.specs.Reading.{reading, readingBy}
+use Rattle.paper.specs.Readings.{Readings, roomFor, readings, trainReadings}
 use Rattle.paper.specs.Marshalling.{marshalling, marshallingBy}
 use Rattle.paper.specs.Recordings.{Step, checking}
 use Rattle.paper.specs.Composing.{composing}
@@ -185,6 +186,18 @@ pub numbered-reading : (form : ℕ) (xs store : List ℕ) (now v k : ℕ) → Nu
 unfolding reading
 numbered-reading form xs store now v k =
     numbered-under form xs _ (λ n. numbered-if _ 5 _ _ (omega arith) (numbered-if _ 6 _ _ (omega arith) (numbered-if _ 11 _ _ (omega arith) (numbered-gives _))))
+
+numbered-room : (store : List ℕ) (v values reasons many : ℕ) (r : Readings) → Numbered (roomFor store v values reasons many r)
+numbered-room store v values reasons many r =
+    numbered-if _ 5 _ _ (omega arith) (numbered-if _ 6 _ _ (omega arith) (numbered-if _ 13 _ _ (omega arith) (numbered-gives _)))
+
+pub numbered-readings : (form : ℕ) (xs store : List ℕ) (now v values reasons : ℕ) → Numbered (readings form xs store now v values reasons)
+unfolding readings
+numbered-readings form xs store now v values reasons = numbered-under form xs _ (λ n. numbered-room store v values reasons (n .signals) _)
+
+pub numbered-train : (form : ℕ) (xs store : List ℕ) (now last values reasons : ℕ) → Numbered (trainReadings form xs store now last values reasons)
+unfolding trainReadings
+numbered-train form xs store now last values reasons = numbered-under form xs _ (λ n. numbered-room store last values reasons (last * n .signals) _)
 
 numbered-marshalling-by : (store : List ℕ) (now : ℕ) (bus : List ℕ) (l : SignalList.SignalList) → Numbered (marshallingBy store now bus l)
 numbered-marshalling-by store now bus l = numbered-if _ 5 _ _ (omega arith) (numbered-if _ 12 _ _ (omega arith) (numbered-gives _))

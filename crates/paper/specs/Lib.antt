@@ -12,6 +12,7 @@ pub mod Extends
 pub mod Pairs
 pub mod Store
 pub mod Reading
+pub mod Readings
 pub mod Marshalling
 pub mod Recordings
 pub mod Composing

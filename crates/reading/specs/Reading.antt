@@ -4,13 +4,16 @@ use mathlib.Core.Path.{_≡_}
 use mathlib.Core.Bool.{Bool, not, cond}
 use mathlib.Core.List.{List, [], _∷_}
 use lib.Dec.{ltb, leb, eqb}
-use Rattle.paper.specs.Answer.{Answer, gives, refuseIf}
-use Rattle.paper.specs.First.{firstOf, listed}
+use Rattle.paper.specs.Answer.{Answer, gives, refuseIf, after, forget, mapAnswer}
+use Rattle.paper.specs.First.{firstOf}
 use Rattle.paper.specs.Telegrams.{telegramType, versionOf, carries, error, forced, undefined}
 use Rattle.paper.specs.SignalList.{Signal, SignalList, knows}
 use Rattle.paper.specs.Store.{Slot, isStore, isVehicle, timely}
 use Rattle.paper.specs.Reading as paper
+use Rattle.paper.specs.Readings.{Readings, valuesAt, reasonsAt, inTurn}
 use Rattle.refusals.specs.Refusal.{refusalOf}
+use Rattle.refusals.specs.declared.Outcome.{Outcome}
+use Rattle.refusals.specs.Outcome.{outcomeOf}
 use Rattle.reading.specs.declared.Reading.{Reading}
 use Rattle.reading.specs.declared.ReadOutcome.{ReadOutcome}
 use Rattle.reading.specs.declared.ReadOutcome.the-variants.{Read, Refused}
@@ -49,8 +52,19 @@ telegramReading l telegram k =
 
 -- the value and the reason of every signal, in list order
 pub record EachRead (l : SignalList) (store : List ℕ) (now v : ℕ) (values reasons : List ℕ) : Type 0 where
-  pub value : values ≡ listed (λ k. paper.readingAt l store now v k .value) (l .signals)
-  pub reason : reasons ≡ listed (λ k. paper.readingAt l store now v k .reason) (l .signals)
+  pub value : values ≡ valuesAt l store now v
+  pub reason : reasons ≡ reasonsAt l store now v
+
+-- the same of the vehicles 1 to `last`
+pub record TrainRead (l : SignalList) (store : List ℕ) (now last : ℕ) (values reasons : List ℕ) : Type 0 where
+  pub value : values ≡ inTurn (valuesAt l store now) last
+  pub reason : reasons ≡ inTurn (reasonsAt l store now) last
+
+-- a call that writes values and reasons: its outcome, and both areas afterwards, which are as they were where it is refused
+pub record ReadInto (answer : Answer Readings) (values reasons : List ℕ) (r : Outcome) (values′ reasons′ : List ℕ) : Type 0 where
+  pub outcome : outcomeOf r ≡ forget answer
+  pub value : values′ ≡ after values (mapAnswer (λ x. x .values) answer)
+  pub reason : reasons′ ≡ after reasons (mapAnswer (λ x. x .reasons) answer)
 
 -- the paper's `reading` under a list
 unfoldable pub readingUnder : SignalList → List ℕ → ℕ → ℕ → ℕ → Answer paper.Reading

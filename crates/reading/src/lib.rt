@@ -1,20 +1,22 @@
-// Reading one signal of one vehicle out of the store.
+// Reading out of the store: a signal of a vehicle, every signal of it, and every signal of the vehicles from 1 on.
 ghost use mathlib.Core.Path.{_≡_};
-ghost use Prim.Native.Nat.{_≤_, _<_};
+ghost use Prim.Native.Nat.{_*_, _≤_, _<_};
 ghost use lib.ListN.{length};
 ghost use Rattle.paper.specs.First.{firstOf};
 ghost use Rattle.paper.specs.SignalList.{listOf};
 ghost use Rattle.paper.specs.Store.{vehicles, telegramOctets, slotOctets, storeOctets, slotFrom};
 ghost use Rattle.paper.specs.Reading.{markOf, readingAt, reading};
+ghost use Rattle.paper.specs.Readings.{readingsBy, readings, trainBy, trainReadings};
 ghost use Rattle.paper.specs.Accepted.{Laid};
 ghost use Rattle.entries.specs.Entries.{signalOf};
 ghost use Rattle.lists.specs.Judged.{countsOf};
 ghost use Rattle.known.specs.Known.{Entries};
-ghost use Rattle.reading.specs.Reading.{asReading, readAnswer, slotTests, telegramReason, telegramReading, EachRead, readingUnder};
+ghost use Rattle.reading.specs.Reading.{asReading, readAnswer, slotTests, telegramReason, telegramReading, EachRead, TrainRead, ReadInto, readingUnder};
 use entries::Signal;
 use known::Span;
 use lists::Counts;
 use lists::Judged;
+use refusals::Outcome;
 use refusals::Refusal;
 
 // A value and the paper's number of the reason it is given for.
@@ -176,6 +178,37 @@ pub fn read_each(
     }
 }
 
+// Every signal of the vehicles 1 to `last`, vehicle after vehicle.
+fn read_vehicles(
+    list: &[u8],
+    n: Counts,
+    store: &[u8],
+    clock: u32,
+    last: usize,
+    values: &mut [u64],
+    reasons: &mut [u8],
+)
+    requires { ⌜ (Laid (now list) (countsOf n)) × (length (now store) ≡ storeOctets) × (last ≤ vehicles) ⌝ }
+    requires { ⌜ (length (now values) ≡ last * n .signals) × (length (now reasons) ≡ last * n .signals) ⌝ }
+    ensures { λ _. ⌜ TrainRead (listOf (now (list .entry)) (countsOf n)) (now (store .entry)) clock last (now (values .exit)) (now (reasons .exit)) ⌝ }
+{
+    let mut v = 0;
+    while v < last {
+        let from = v * n.signals;
+        let to = from + n.signals;
+        read_each(
+            list,
+            n,
+            store,
+            clock,
+            v + 1,
+            &mut values[from..to],
+            &mut reasons[from..to],
+        );
+        v += 1;
+    }
+}
+
 // Inner: a signal of a vehicle, with the refusals 5, 6 and 11.
 pub fn read_under(
     list: &[u8],
@@ -215,5 +248,100 @@ pub fn read(
     match judged {
         Judged::Refused(f) => ReadOutcome::Refused(f),
         Judged::Accepted(n) => read_under(list, n, store, clock, vehicle, signal),
+    }
+}
+
+// Every signal of a vehicle, with the refusals 5, 6 and 13.
+fn read_all_under(
+    list: &[u8],
+    n: Counts,
+    store: &[u8],
+    clock: u32,
+    vehicle: usize,
+    values: &mut [u64],
+    reasons: &mut [u8],
+) -> Outcome
+    requires { ⌜ Laid (now list) (countsOf n) ⌝ }
+    ensures { λ r. ⌜ ReadInto (readingsBy (now (store .entry)) clock vehicle (length (now (values .entry))) (length (now (reasons .entry))) (listOf (now (list .entry)) (countsOf n))) (now (values .entry)) (now (reasons .entry)) r (now (values .exit)) (now (reasons .exit)) ⌝ }
+{
+    if !store::is_store(store) {
+        return Outcome::Refused(Refusal::STORE_LENGTH);
+    }
+    if !store::is_vehicle(vehicle) {
+        return Outcome::Refused(Refusal::VEHICLE);
+    }
+    let is_room = (values.len() == n.signals) & (reasons.len() == n.signals);
+    if !is_room {
+        return Outcome::Refused(Refusal::VALUES_OR_MARKS);
+    }
+    read_each(list, n, store, clock, vehicle, values, reasons);
+    Outcome::Done
+}
+
+// Reads every signal of a vehicle at `clock` into lent values and reasons, one per signal, each as `read` gives it. Refused: 1 to 4, then 5, 6, and 13
+// where values or reasons are not one per signal, and both stay as they were.
+pub fn read_all(
+    list: &[u8],
+    form: u8,
+    store: &[u8],
+    clock: u32,
+    vehicle: usize,
+    values: &mut [u64],
+    reasons: &mut [u8],
+) -> Outcome
+    ensures { λ r. ⌜ ReadInto (readings form (now (list .entry)) (now (store .entry)) clock vehicle (length (now (values .entry))) (length (now (reasons .entry)))) (now (values .entry)) (now (reasons .entry)) r (now (values .exit)) (now (reasons .exit)) ⌝ }
+{
+    let judged = lists::judge(list, form);
+    match judged {
+        Judged::Refused(f) => Outcome::Refused(f),
+        Judged::Accepted(n) => read_all_under(list, n, store, clock, vehicle, values, reasons),
+    }
+}
+
+// The same of the vehicles 1 to `last`.
+fn read_train_under(
+    list: &[u8],
+    n: Counts,
+    store: &[u8],
+    clock: u32,
+    last: usize,
+    values: &mut [u64],
+    reasons: &mut [u8],
+) -> Outcome
+    requires { ⌜ Laid (now list) (countsOf n) ⌝ }
+    ensures { λ r. ⌜ ReadInto (trainBy (now (store .entry)) clock last (length (now (values .entry))) (length (now (reasons .entry))) (listOf (now (list .entry)) (countsOf n))) (now (values .entry)) (now (reasons .entry)) r (now (values .exit)) (now (reasons .exit)) ⌝ }
+{
+    if !store::is_store(store) {
+        return Outcome::Refused(Refusal::STORE_LENGTH);
+    }
+    if !store::is_vehicle(last) {
+        return Outcome::Refused(Refusal::VEHICLE);
+    }
+    let many = last * n.signals;
+    let is_room = (values.len() == many) & (reasons.len() == many);
+    if !is_room {
+        return Outcome::Refused(Refusal::VALUES_OR_MARKS);
+    }
+    read_vehicles(list, n, store, clock, last, values, reasons);
+    Outcome::Done
+}
+
+// Reads every signal of the vehicles 1 to `last`, vehicle after vehicle, into values and reasons of `last` times as many as there are signals. Refused as
+// `read_all` is, 6 where `last` is no vehicle.
+pub fn read_train(
+    list: &[u8],
+    form: u8,
+    store: &[u8],
+    clock: u32,
+    last: usize,
+    values: &mut [u64],
+    reasons: &mut [u8],
+) -> Outcome
+    ensures { λ r. ⌜ ReadInto (trainReadings form (now (list .entry)) (now (store .entry)) clock last (length (now (values .entry))) (length (now (reasons .entry)))) (now (values .entry)) (now (reasons .entry)) r (now (values .exit)) (now (reasons .exit)) ⌝ }
+{
+    let judged = lists::judge(list, form);
+    match judged {
+        Judged::Refused(f) => Outcome::Refused(f),
+        Judged::Accepted(n) => read_train_under(list, n, store, clock, last, values, reasons),
     }
 }

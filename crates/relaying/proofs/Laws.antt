@@ -15,6 +15,7 @@ use Rattle.paper.specs.Telegrams.{carries, error, markWidth}
 use Rattle.paper.specs.SignalList.{SignalList}
 use Rattle.paper.specs.Store.{Slot, slotOf}
 use Rattle.paper.specs.Reading.{readingOf, readingAt}
+use Rattle.paper.specs.Readings.{valuesAt, reasonsAt}
 use Rattle.paper.specs.Relaying.{relayType, readLive, under, allLive, vouched, relayValue, relayMark, relayMarks}
 use Rattle.paper.proofs.FirstLaws.{listed-at, listed-same, all-true, some-false, all-same, all-more, some-more}
 use Rattle.refusals.specs.declared.Outcome.{Outcome}
@@ -147,7 +148,7 @@ marked-from l slot type reasons telegram states marks typed held s m = m ∙ rw 
 pub relayed-by : (l : SignalList) (store : List ℕ) (now v : ℕ) (slot : Slot) (type : ℕ) (values reasons marks : List ℕ) (room : ℕ) (old : List ℕ) (r : Outcome) (new : List ℕ)
     → EachRead l store now v values reasons → slot ≡ slotOf store v → type ≡ relayType slot → marks ≡ marksFrom l slot reasons
     → Written (composingUnder l type values marks room) old r new → Written (relayingSlot l (slotOf store v) now room) old r new
-unfolding readingAt relayValue
+unfolding readingAt relayValue valuesAt reasonsAt
 relayed-by l store now v slot type values reasons marks room old r new read is typed marked w =
     let m = rw is at marked in
     let e : composingUnder l type values marks room ≡ relayingSlot l (slotOf store v) now room =

@@ -14,6 +14,7 @@ use Rattle.paper.specs.Extends.{extendsLists}
 use Rattle.paper.specs.Pairs.{Entry, Pair, entryOf, routeEntry, finding, pairing}
 use Rattle.paper.specs.Store.{taking, gapping, sweeping}
 use Rattle.paper.specs.Reading.{Reading, Held, holding, reading}
+use Rattle.paper.specs.Readings.{Readings, readings, trainReadings}
 use Rattle.paper.specs.Marshalling.{marshalling}
 use Rattle.paper.specs.Composing.{composing}
 use Rattle.paper.specs.Relaying.{relaying}
@@ -113,6 +114,8 @@ pub data Question : Type 0 where
   holds : List ℕ → ℕ → ℕ → Question
   -- a list, a store, the clock, a vehicle and a signal
   readsIn : ℕ → List ℕ → List ℕ → ℕ → ℕ → ℕ → Question
+  -- a list, a store, the clock, a vehicle, or the last of a train, and how many values and reasons there is room for
+  readsAllIn readsTrainIn : ℕ → List ℕ → List ℕ → ℕ → ℕ → ℕ → ℕ → Question
   -- a list, a store, the clock and vehicle bus data
   marshalsIn : ℕ → List ℕ → List ℕ → ℕ → List ℕ → Question
   -- a list, a type, values, marks and an output; the elements of the output that are looked at afterwards
@@ -181,6 +184,12 @@ gains xs ys key from = codesGainedIn 1 xs 1 ys key from
 
 abbrev pub reads : List ℕ → List ℕ → ℕ → ℕ → ℕ → Question
 reads xs store now v k = readsIn 1 xs store now v k
+
+abbrev pub readsAll : List ℕ → List ℕ → ℕ → ℕ → ℕ → ℕ → Question
+readsAll xs store now v values reasons = readsAllIn 1 xs store now v values reasons
+
+abbrev pub readsTrain : List ℕ → List ℕ → ℕ → ℕ → ℕ → ℕ → Question
+readsTrain xs store now last values reasons = readsTrainIn 1 xs store now last values reasons
 
 abbrev pub relays : List ℕ → List ℕ → ℕ → ℕ → List ℕ → List ℕ → Question
 relays xs store now v out at = relaysIn 1 xs store now v out at
@@ -320,6 +329,11 @@ wrote old a at = said (λ new. []) a ++ seen at (after old a)
 abbrev pub wroteAll : List ℕ → Answer (List ℕ) → List ℕ
 wroteAll old a = said (λ new. []) a ++ after old a
 
+-- values, then reasons, which both were EE
+abbrev pub wroteBoth : ℕ → ℕ → Answer Readings → List ℕ
+wroteBoth values reasons a =
+    said (λ r. []) a ++ after (replicate values 0xEE) (mapAnswer (λ r. r .values) a) ++ after (replicate reasons 0xEE) (mapAnswer (λ r. r .reasons) a)
+
 -- the length written, then the output
 abbrev pub wroteRemedies : List ℕ → Answer WrittenRemedies → List ℕ
 wroteRemedies out a = said (λ w. w .size ∷ []) a ++ after out (mapAnswer (λ w. w .octets) a)
@@ -351,6 +365,8 @@ ask (gaps store v) = said (λ n. n ∷ []) (gapping store v)
 ask (sweeps store now at) = wrote store (sweeping store now) at
 ask (holds store now v) = said ofHeld (holding store now v)
 ask (readsIn form xs store now v k) = said ofReading (reading form xs store now v k)
+ask (readsAllIn form xs store now v values reasons) = wroteBoth values reasons (readings form xs store now v values reasons)
+ask (readsTrainIn form xs store now last values reasons) = wroteBoth values reasons (trainReadings form xs store now last values reasons)
 ask (marshalsIn form xs store now bus) =
     let a = marshalling form xs store now bus in
     said (λ m. m .lives ∷ []) a ++ after bus (mapAnswer (λ m. m .octets) a)

@@ -23,6 +23,7 @@ use Rattle.paper.specs.Pairs.{entryOf, routeEntry, signalFound, finding, has, i
 use Rattle.paper.specs.Comparing.{starts, past, changeAt, codesCompared, gained, signalDiffers, signalChange, breaks, routeDiffers, routeChange, nextSignal, nextRoute, nextGained, signalChanges, routeChanges, codesGained}
 use Rattle.paper.specs.Store.{slotHead, slotOctets, storeOctets, slotStart, slotOf, taken, taking, age, gap, gapping, stale, sweptOne, sweptTo, sweeping}
 use Rattle.paper.specs.Reading.{heard, heldIn, holding, markOf, codeOf, hindrances, reasonOf, readingOf, readingAt, reading}
+use Rattle.paper.specs.Readings.{valuesAt, reasonsAt, inTurn, readings, trainReadings}
 use Rattle.paper.specs.Marshalling.{routed, marshalled, live, marshalling}
 use Rattle.paper.specs.Composing.{headed, composed, markFits, valueFits, composing}
 use Rattle.paper.specs.Relaying.{relayType, readLive, under, allLive, vouched, relayMark, relayValue, relaying}
@@ -38,7 +39,7 @@ use Rattle.paper.specs.Christening.{properties, described, vehiclesOf, christen
 use Rattle.paper.specs.Remedies.{start, twice, blockFault, firstFault, remedyReading, remedyBlock, remedyText, areaTo, blockOctets, blocksTo, frontOctets, telegramOf, sizeTo, handedFault, remedyWriting}
 use Rattle.paper.specs.Bench.{listL, listL2, listV, telegram, silent}
 use Rattle.tables.specs.Marked.{heardAt, rawAt}
-use Rattle.tables.specs.Cases.{joined, made, made2, bits, signal, code, route, Question, judges, judgesIn, faults, faultsIn, profilesIn, profiles, breaches, extends, extendsIn, serialsIn, movesTo2, movesTo1, readsIn, signalEntries, routeEntries, finds, pairs, signalChangesIn, changes, reroutes, gains, places, takes, gaps, sweeps, holds, reads, marshals, composes, relays, shows, resolves, eReads, eAnswers, gave, refuses, ask, christens, asksRow, asksDoors, checksStep, checksAll, remedyReads, remedyBlocks, remedyWrites, textsWrites}
+use Rattle.tables.specs.Cases.{joined, made, made2, bits, signal, code, route, Question, judges, judgesIn, faults, faultsIn, profilesIn, profiles, breaches, extends, extendsIn, serialsIn, movesTo2, movesTo1, readsIn, signalEntries, routeEntries, finds, pairs, signalChangesIn, changes, reroutes, gains, places, takes, gaps, sweeps, holds, reads, readsAll, readsTrain, marshals, composes, relays, shows, resolves, eReads, eAnswers, gave, refuses, ask, christens, asksRow, asksDoors, checksStep, checksAll, remedyReads, remedyBlocks, remedyWrites, textsWrites}
 use Rattle.tables.specs.DoorCases.{doorList, threeBits, otherList, checkedList, doorBit, saidBy, markedBy, aCoach, anEngine, summary, coaches, bothSides}
 use Rattle.tables.specs.RecordingCases.{twoRoutes, heardTwo, step, data2, first, later, isRight, wrongIn, wrongOut}
 use Rattle.tables.specs.RecordCases.{blank, only, unmarked, leads, follows, alone}
@@ -175,6 +176,25 @@ under-two = relay-list (16 ∷ 18 ∷ []) 2 1
 
 abbrev under-one : List ℕ
 under-one = relay-list (16 ∷ 18 ∷ []) 1 1
+
+-- a vehicle heard by an R3 of version 3 with these octets 3 and 4: vehicle 1 so, with these marks and the codes 2 and 3, and vehicle 2 with the marks ok and
+-- the codes 4 and 5
+abbrev heard-r3 : ℕ → ℕ → ℕ → List ℕ → List ℕ
+heard-r3 v o3 o4 store = after store (taking store v 0 (0x13 ∷ 0x03 ∷ o3 ∷ o4 ∷ replicate 36 0))
+
+abbrev coupled : ℕ → List ℕ
+coupled o3 = heard-r3 2 0x50 0x45 (heard-r3 1 o3 0x23 silent)
+
+-- both signals read, of a vehicle and of the two, with room for so many values and reasons
+abbrev read-all : List ℕ → ℕ → ℕ → ℕ → Question
+read-all store v values reasons = readsAll under-two store 0 v values reasons
+
+abbrev read-train : ℕ → ℕ → Question
+read-train values reasons = readsTrain under-two (coupled 0x50) 0 2 values reasons
+
+-- refused, with so many numbers left as they were
+abbrev unread : ℕ → ℕ → List ℕ
+unread n many = refuses n 0 ++ replicate many 0xEE
 
 -- an R1 composed with a value and a mark into octets EE: octets 1, 2, 41 and 54
 abbrev compose : List ℕ → ℕ → ℕ → Question
@@ -517,6 +537,17 @@ table =
     (reads listL (heardAt 0x10 0x40 1000) 999 1 0) (value 0 3)
     (reads listL (heardAt 0x10 0x40 1000) 1000 1 0) (value 4 0)
     ∷ asked-as "reads-the-first-vehicle" (reads listL (heardAt 0x10 0x40 0) 5000 2 0) (value 0 2) (read 0x10 0x40) (value 4 0)
+    -- reading every signal, of a vehicle and of a train: the values, then the reasons
+    ∷ saying "vehicle-before-store-read-all" (read-all (0 ∷ silent) 64 2 2) (unread 5 4) (unread 6 4)
+    ∷ saying "room-before-vehicle" (read-all (coupled 0x50) 64 1 1) (unread 6 2) (unread 13 2)
+    ∷ saying "reasons-room-untested" (read-all (coupled 0x50) 1 2 1) (unread 13 3) (gave (2 ∷ 3 ∷ 0 ∷ []))
+    ∷ saying "values-written-though-refused" (read-all (coupled 0x50) 1 2 1) (unread 13 3) (refuses 13 0 ++ (2 ∷ 3 ∷ 0xEE ∷ []))
+    ∷ saying "not-live-left-as-it-was" (read-all (coupled 0x40) 1 2 2) (gave (2 ∷ 1 ∷ 0 ∷ 6 ∷ [])) (gave (2 ∷ 0xEE ∷ 0 ∷ 6 ∷ []))
+    ∷ asked-as "one-vehicle-s-room-for-a-train" (read-train 2 2) (unread 13 4) (read-all (coupled 0x50) 1 2 2) (gave (2 ∷ 3 ∷ 0 ∷ 0 ∷ []))
+    ∷ saying "train-by-signal" (read-train 4 4) (gave (2 ∷ 3 ∷ 4 ∷ 5 ∷ replicate 4 0)) (gave (2 ∷ 4 ∷ 3 ∷ 5 ∷ replicate 4 0))
+    ∷ saying "train-ends-a-vehicle-early"
+    (read-train 4 4) (gave (2 ∷ 3 ∷ 4 ∷ 5 ∷ replicate 4 0))
+    (gave (2 ∷ 3 ∷ 0xEE ∷ 0xEE ∷ 0 ∷ 0 ∷ 0xEE ∷ 0xEE ∷ []))
     -- marshalling: the live count and the octet
     ∷ saying "leaves-the-data" (marshal listL) (filled 1 0x4B) (filled 1 0xAB)
     ∷ asked-as "first-route-only" (marshal two-routes) (filled 1 0x40) (marshal listL) (filled 1 0x4B)
@@ -815,7 +846,7 @@ unfolding table bits answered sameNumbers joined made made2 ask listL listL2 lis
     SignalList.judgeEntries SignalList.judgeSection SignalList.greatestSince SignalList.ending SignalList.fromRoutes SignalList.fromCodes
     SignalList.fromSignalsTo judgeTo faultIn faultFromRoutes faultFromCodes faultFromSignals faultOf hasCodes inRange knownIn knows placeOf version codesKept keeps stands newer Extending.extends extendsLists entryOf
     routeEntry signalFound finding has index nextPair pairing starts past changeAt codesCompared gained signalDiffers signalChange breaks routeDiffers routeChange nextSignal nextRoute nextGained signalChanges routeChanges codesGained slotOf taken taking age gap gapping stale sweptOne sweptTo sweeping heard heldIn holding markOf codeOf hindrances reasonOf readingOf
-    readingAt reading routed marshalled live marshalling headed composed markFits valueFits composing relayType readLive under allLive vouched relayMark relayValue relaying underTable signalBroken routeBroken firstBreach breachIn breachOf profiling listed showing ofBits round toBits consistRule meets member
+    readingAt reading valuesAt reasonsAt inTurn readings trainReadings routed marshalled live marshalling headed composed markFits valueFits composing relayType readLive under allLive vouched relayMark relayValue relaying underTable signalBroken routeBroken firstBreach breachIn breachOf profiling listed showing ofBits round toBits consistRule meets member
     setTo membersOf resolving requests isRequest isReport eLimit eReading answerTo answering
     doorList threeBits otherList checkedList stateOf sideOf doorsOf doors
     twoRoutes heardTwo routeWith located firstWrong Recordings.finding sameOctets checking onward judged recording

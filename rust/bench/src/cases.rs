@@ -2,6 +2,7 @@
 
 use crate::lists::{self, Handed, Step, NOW, STAMP};
 use crate::proved::{self, Said};
+use crate::readings;
 use crate::rust;
 use reference::{
     Change, CodeRange, Finding, Form, Kind, Profile, Property, Remedy, Shown, ShownReading, State,
@@ -27,7 +28,7 @@ const FIELDS: usize = 64;
 const BLOCKS: usize = 8;
 const LONGEST: usize = 2_110;
 
-fn leak<T>(of: Vec<T>) -> &'static [T] {
+pub fn leak<T>(of: Vec<T>) -> &'static [T] {
     Vec::leak(of)
 }
 
@@ -79,13 +80,13 @@ where
     case(name, lent, (proved, P::said), (rust, |answer| answer))
 }
 
-/// The calls whose cost grows with the list, under a list of so many units of [`lists::list`].
-pub fn growing(units: usize) -> [Case; 3] {
-    let list = leak(lists::list(units, 5_000));
-    let other = leak(lists::list(units, 6_000));
+/// Under the longest list: judged, extended by one with other time limits, and marshalled, where every route is live.
+fn longest() -> [Case; 3] {
+    let list = leak(lists::list(64, 5_000));
+    let other = leak(lists::list(64, 6_000));
     let store = leak(lists::store(&lists::telegram()));
     let live = reference::marshal(list, Form::One, store, NOW, &mut [0; 256]);
-    assert_eq!(live.ok(), Some(8 * units as u64), "every route is live");
+    assert_eq!(live.ok(), Some(512), "every route is live");
     let cases = [
         judge("judge", list, Form::One),
         said(
@@ -104,7 +105,7 @@ pub fn growing(units: usize) -> [Case; 3] {
 
 /// Form 1, which no side may know before it is called.
 #[inline(always)]
-fn one() -> Form {
+pub fn one() -> Form {
     black_box(Form::One)
 }
 
@@ -153,7 +154,7 @@ fn comparing() -> [Case; 2] {
     ]
 }
 
-fn proved_whole(a: &[u8], b: &[u8]) -> Whole {
+pub fn proved_whole(a: &[u8], b: &[u8]) -> Whole {
     let good = "the lists of the bench are good";
     let gained = |a, b, key, from| proved::codes_gained(a, one(), b, one(), key, from).said();
     whole(
@@ -172,7 +173,7 @@ fn proved_whole(a: &[u8], b: &[u8]) -> Whole {
     )
 }
 
-fn rust_whole(a: &[u8], b: &[u8]) -> Whole {
+pub fn rust_whole(a: &[u8], b: &[u8]) -> Whole {
     let good = "the lists of the bench are good";
     let gained = |a, b, key, from| rust::codes_gained(a, one(), b, one(), key, from);
     whole(
@@ -185,7 +186,7 @@ fn rust_whole(a: &[u8], b: &[u8]) -> Whole {
 
 /// How many signals and routes differ, how many ranges of codes were gained or lost, and all that was given, as one number.
 #[derive(Debug, Default, PartialEq)]
-struct Whole {
+pub struct Whole {
     signals: u64,
     routes: u64,
     ranges: u64,
@@ -222,6 +223,13 @@ fn whole(
         of.add([change.key, change.first, change.second]);
     }
     of
+}
+
+impl Said for Whole {
+    type As = Whole;
+    fn said(self) -> Whole {
+        self
+    }
 }
 
 impl Whole {
@@ -846,6 +854,7 @@ pub fn refused_alike() {
     records_refused_alike();
     steps_refused_alike();
     doors_refused_alike();
+    readings::refused_alike();
 }
 
 /// Steps too many, other data, too few of them, no store; and each bit of the data wrong alone.
@@ -975,10 +984,12 @@ fn refused_alike_in(form: Form, list: Vec<u8>) {
             reference::extends(&list, form, short, form)
         );
         compared_alike(&list, short, form);
+        looked_at_alike(short, form);
         assert_eq!(
             proved::read(short, form, &[], 0, 0, 0).said(),
             reference::read(short, form, &[], 0, 0, 0)
         );
+        readings::read_alike(short, form, &[], 0, [1, 1]);
         assert_eq!(
             proved::show(short, form, &[], 0, 0, 0, Kind::Speed).said(),
             reference::show(short, form, &[], 0, 0, 0, Kind::Speed)
@@ -1024,6 +1035,18 @@ fn refused_alike_in(form: Form, list: Vec<u8>) {
     }
 }
 
+/// A signal of a list that is refused.
+fn looked_at_alike(short: &[u8], form: Form) {
+    assert_eq!(
+        proved::signal_entry(short, form, 0).said(),
+        reference::signal_entry(short, form, 0)
+    );
+    assert_eq!(
+        proved::find_signal(short, form, 0, 18).said(),
+        reference::find_signal(short, form, 0, 18)
+    );
+}
+
 /// A list and one that is refused, compared in either order.
 fn compared_alike(list: &[u8], short: &[u8], form: Form) {
     for (a, b) in [(list, short), (short, list)] {
@@ -1044,13 +1067,13 @@ fn compared_alike(list: &[u8], short: &[u8], form: Form) {
 
 /// Every call of the table, in its order.
 pub fn all() -> Vec<Case> {
-    let [judge, extends, marshal] = growing(64);
+    let [judge, extends, marshal] = longest();
     let longest = leak(lists::list(64, 5_000));
     let telegram = lists::telegram();
     let r3 = [&[0x13], &telegram[1..40]].concat();
     let mut cases = vec![judge, judge_profile()];
     cases.extend(reads());
-    cases.extend(speeds());
+    cases.extend(speeds().into_iter().chain(readings::all()));
     cases.extend([
         marshal,
         compose(

@@ -13,16 +13,16 @@ pub const NOW: u32 = 4_000;
 pub const COACH: &[u8] = include_bytes!("../../../data/coach.list");
 pub const COACH_R1: &[u8] = include_bytes!("../../../data/scene/1-R1.telegram");
 
-const MOST_UNITS: usize = 64;
+pub const MOST_UNITS: usize = 64;
 const COMMON_UNITS: usize = 21;
-const WIDTHS: [u8; 4] = [2, 3, 3, 4];
+pub const WIDTHS: [u8; 4] = [2, 3, 3, 4];
 
-fn put16(list: &mut Vec<u8>, number: usize) {
+pub fn put16(list: &mut Vec<u8>, number: usize) {
     list.extend((number as u16).to_be_bytes());
 }
 
-/// Where the unit starts, in a list of so many units.
-fn unit(number: usize, units: usize) -> (u8, usize) {
+/// The type of a unit and where it starts, in a list of so many units.
+pub fn unit(number: usize, units: usize) -> (u8, usize) {
     let common = COMMON_UNITS * units / MOST_UNITS;
     match number.checked_sub(common) {
         None => (0, 16 + 14 * number),
@@ -73,9 +73,13 @@ pub fn half_changed() -> Vec<u8> {
 
 /// As [`list`], in form 2 and with no serial number.
 pub fn list_in_form_2(units: usize, limit: u32) -> Vec<u8> {
-    let list = list(units, limit);
-    let mut out = vec![0; list.len() + 4 * units * SERIAL_SIZE];
-    reference::to_form_2(&list, &mut out).expect("the list of the bench is moved");
+    in_form_2(&list(units, limit), 4 * units)
+}
+
+/// A list of so many signals, in form 2.
+pub fn in_form_2(list: &[u8], signals: usize) -> Vec<u8> {
+    let mut out = vec![0; list.len() + signals * SERIAL_SIZE];
+    reference::to_form_2(list, &mut out).expect("the list of the bench is moved");
     out
 }
 

@@ -5,6 +5,7 @@ use crate::cases::Run;
 use crate::lists::{self, NOW};
 use crate::measure::{self, Times};
 use crate::proved::{self, Said};
+use crate::random::Random;
 use crate::{head, time};
 use reference::Form;
 use std::hint::black_box;
@@ -91,19 +92,6 @@ impl Coded {
             // Behind two counts, a check and the signals.
             codes_at: 6 + 16 * signals,
         }
-    }
-}
-
-/// Numbers that look random, the same in every run.
-struct Random(u64);
-
-impl Random {
-    fn below(&mut self, bound: usize) -> usize {
-        self.0 = self
-            .0
-            .wrapping_mul(6_364_136_223_846_793_005)
-            .wrapping_add(1_442_695_040_888_963_407);
-        (self.0 >> 33) as usize % bound
     }
 }
 

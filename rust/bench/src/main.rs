@@ -3,29 +3,32 @@
 //!     bench                       times, and how they grow
 //!     bench count RUNS            makes every call so often between two marks, for what counts instructions
 //!     bench counted RUNS FILE ..  the counts, one for each mark, of one machine or more
+//!     bench worst SECONDS SEED FOLDER
+//!                                 the slowest input of each call that is found in so many seconds, and its list and store into the folder
 //!     bench lookup                with the feature `lookup`: known codes by halving and by the linear scan that stood before
 
+mod calls;
 mod cases;
+mod changes;
 mod counts;
+mod growth;
 mod lists;
 #[cfg(feature = "lookup")]
 mod lookup;
 mod measure;
 mod proved;
+mod random;
+mod readings;
 mod rust;
+mod shape;
+mod starts;
+mod worst;
 
 use cases::Case;
 use measure::Times;
 
-/// In eighths of the longest list.
-const PARTS: [usize; 4] = [1, 2, 4, 8];
-
-fn growing() -> Vec<Case> {
-    let call = |call: usize, part: usize| cases::growing(8 * part).into_iter().nth(call);
-    (0..3)
-        .flat_map(|number| PARTS.iter().filter_map(move |&part| call(number, part)))
-        .collect()
-}
+/// The calls whose growth is counted too.
+const COUNTED: [&str; 3] = ["judge", "extends", "marshal"];
 
 fn time(nanoseconds: f64) -> String {
     let places = |number: f64| {
@@ -35,10 +38,12 @@ fn time(nanoseconds: f64) -> String {
             usize::from(number < 100.0)
         }
     };
-    match nanoseconds / 1e3 {
-        micro if micro < 1.0 => format!("{nanoseconds:.*} ns", places(nanoseconds)),
-        micro => format!("{micro:.*} µs", places(micro)),
-    }
+    let (number, unit) = match nanoseconds {
+        ..1e3 => (nanoseconds, "ns"),
+        ..1e6 => (nanoseconds / 1e3, "µs"),
+        _ => (nanoseconds / 1e6, "ms"),
+    };
+    format!("{number:.*} {unit}", places(number))
 }
 
 fn row(name: &str, (proved, rust): (Times, Times)) {
@@ -54,7 +59,7 @@ fn row(name: &str, (proved, rust): (Times, Times)) {
 
 fn timed() {
     cases::refused_alike();
-    for cases in [cases::all(), growing()] {
+    for cases in [cases::all(), growth::cases(None)] {
         let times = ["proved, median", "Rust, median", "ratio"];
         let fastest = ["proved, fastest", "Rust, fastest", "ratio"];
         head(&[&["call"], &times[..], &fastest[..]].concat());
@@ -66,8 +71,15 @@ fn timed() {
     }
 }
 
+/// The calls that are counted, no name twice.
 fn all() -> Vec<Case> {
-    cases::all().into_iter().chain(growing()).collect()
+    let mut cases = cases::all();
+    for case in growth::cases(Some(&COUNTED)) {
+        if cases.iter().all(|other| other.name != case.name) {
+            cases.push(case);
+        }
+    }
+    cases
 }
 
 /// The table's head: a word for each column, of which all but the first are numbers.
@@ -96,7 +108,7 @@ fn counted(files: &[&str]) {
 }
 
 fn number(word: &str) -> u64 {
-    word.parse().expect("a number of runs")
+    word.parse().unwrap_or_else(|_| panic!("{word}: no number"))
 }
 
 fn main() {
@@ -108,6 +120,7 @@ fn main() {
         ["lookup"] => lookup::timed(),
         ["count", runs] => counts::run(all(), number(runs)),
         ["counted", ref files @ ..] => counted(files),
-        _ => panic!("usage: bench, bench count RUNS, or bench counted RUNS FILE .."),
+        ["worst", seconds, seed, folder] => worst::searched(number(seconds), number(seed), folder),
+        _ => panic!("usage: bench, bench count RUNS, bench counted RUNS FILE .., or bench worst SECONDS SEED FOLDER"),
     }
 }

@@ -4,6 +4,9 @@ use crate::cases::{Case, Run};
 use std::time::{Duration, Instant};
 
 const SAMPLES: usize = 1_001;
+/// Where a call takes longer than a millisecond.
+const FEWER: usize = 101;
+const LONG: Duration = Duration::from_millis(1);
 /// A sample is long enough for the clock and short enough that most are not interrupted.
 const SAMPLE: Duration = Duration::from_micros(20);
 
@@ -20,10 +23,15 @@ fn sample(run: &mut Run, runs: u64) -> Duration {
     start.elapsed()
 }
 
-/// How many runs a sample needs, told by the fastest of a few, since one may be interrupted; the doubling warms the side up.
+/// Of a few, since one may be interrupted.
+fn fastest(run: &mut Run, runs: u64) -> Duration {
+    let samples = (0..5).map(|_| sample(run, runs));
+    samples.min().unwrap_or_default()
+}
+
+/// How many runs a sample needs; the doubling warms the side up.
 fn runs_of(run: &mut Run) -> u64 {
-    let mut fastest = |runs| (0..5).map(|_| sample(run, runs)).min();
-    let enough = |runs: &u64| fastest(*runs) >= Some(SAMPLE);
+    let enough = |runs: &u64| fastest(run, *runs) >= SAMPLE;
     (0..).map(|power| 1 << power).find(enough).unwrap_or(1)
 }
 
@@ -39,8 +47,9 @@ fn times(mut samples: Vec<Duration>, calls: u64) -> Times {
 /// The times of each of these, which make so many calls a run, sampled in turn.
 pub fn each<const SIDES: usize>(mut sides: [&mut Run; SIDES], calls: u64) -> [Times; SIDES] {
     let runs = sides.each_mut().map(|side| runs_of(side));
+    let is_long = sides.iter_mut().any(|side| fastest(side, 1) > LONG);
     let mut samples = [const { Vec::new() }; SIDES];
-    for _ in 0..SAMPLES {
+    for _ in 0..if is_long { FEWER } else { SAMPLES } {
         for (number, side) in sides.iter_mut().enumerate() {
             samples[number].push(sample(side, runs[number]));
         }

@@ -2,13 +2,15 @@
 //! x86-64 that is what C does with such an answer; on other machines it is not, so it is said here.
 
 use reference::{
-    Change, CodeRange, Counts, Doors, EReading, Extends, Finding, Form, Kind, Level, Members,
-    Place, Profile, Property, Reading, Refusal, Refused, Remedies, Rule, Shown, ShownReading, Side,
-    State, WrongBit,
+    Change, CodeRange, Counts, Doors, EReading, Entry, Extends, Finding, Form, Kind, Level,
+    Members, Place, Profile, Property, Reading, Refusal, Refused, Remedies, Rule, Shown,
+    ShownReading, Side, State, WrongBit,
 };
 use std::mem::MaybeUninit;
 
 use crate::lists::{Handed, Step};
+
+pub use crate::cases::proved_whole as whole;
 
 #[repr(C)]
 pub struct Outcome {
@@ -55,6 +57,27 @@ pub struct Ranged {
     found: u32,
     low: u64,
     high: u64,
+}
+
+#[repr(C)]
+pub struct SignalEntry {
+    refusal: u32,
+    carried: u64,
+    start: u64,
+    width: u64,
+    kind: u64,
+    check: u64,
+    since: u64,
+    limit: u64,
+    replacement: u64,
+    place: u64,
+}
+
+#[repr(C)]
+pub struct Found {
+    refusal: u32,
+    carried: u64,
+    signal: u64,
 }
 
 #[repr(C)]
@@ -228,6 +251,23 @@ extern "C" {
         key: u64,
         from: u64,
     );
+    #[rustfmt::skip]
+    fn df_signal_entry(
+        to: To<SignalEntry>,
+        list: *const u8,
+        list_len: usize,
+        form: u8,
+        signal: u64,
+    );
+    #[rustfmt::skip]
+    fn df_find_signal(
+        to: To<Found>,
+        list: *const u8,
+        list_len: usize,
+        form: u8,
+        kind: u64,
+        start: u64,
+    );
     fn df_serial(to: To<Serial>, list: *const u8, list_len: usize, form: u8, signal: u64);
     fn df_to_form_2(list: *const u8, list_len: usize, out: *mut u8, out_len: usize) -> Outcome;
     fn df_to_form_1(list: *const u8, list_len: usize, out: *mut u8, out_len: usize) -> Outcome;
@@ -243,6 +283,34 @@ extern "C" {
         vehicle: u64,
         signal: u64,
     );
+    #[rustfmt::skip]
+    fn df_read_all(
+        list: *const u8,
+        list_len: usize,
+        form: u8,
+        store: *const u8,
+        store_len: usize,
+        clock: u32,
+        vehicle: u64,
+        values: *mut u64,
+        values_len: usize,
+        reasons: *mut u8,
+        reasons_len: usize,
+    ) -> Outcome;
+    #[rustfmt::skip]
+    fn df_read_train(
+        list: *const u8,
+        list_len: usize,
+        form: u8,
+        store: *const u8,
+        store_len: usize,
+        clock: u32,
+        last: u64,
+        values: *mut u64,
+        values_len: usize,
+        reasons: *mut u8,
+        reasons_len: usize,
+    ) -> Outcome;
     #[rustfmt::skip]
     fn df_show(
         to: To<Showing>,
@@ -418,6 +486,16 @@ pub fn codes_gained(a: &[u8], form: Form, b: &[u8], other: Form, key: u64, from:
 }
 
 #[inline(always)]
+pub fn signal_entry(list: &[u8], form: Form, signal: u64) -> SignalEntry {
+    answer(|to| unsafe { df_signal_entry(to, list.as_ptr(), list.len(), form as u8, signal) })
+}
+
+#[inline(always)]
+pub fn find_signal(list: &[u8], form: Form, kind: u64, start: u64) -> Found {
+    answer(|to| unsafe { df_find_signal(to, list.as_ptr(), list.len(), form as u8, kind, start) })
+}
+
+#[inline(always)]
 pub fn serial(list: &[u8], form: Form, signal: u64) -> Serial {
     answer(|to| unsafe { df_serial(to, list.as_ptr(), list.len(), form as u8, signal) })
 }
@@ -448,6 +526,60 @@ pub fn read(list: &[u8], form: Form, store: &[u8], now: u32, vehicle: u64, signa
             signal,
         )
     })
+}
+
+#[inline(always)]
+pub fn read_all(
+    list: &[u8],
+    form: Form,
+    store: &[u8],
+    now: u32,
+    vehicle: u64,
+    values: &mut [u64],
+    reasons: &mut [u8],
+) -> Outcome {
+    unsafe {
+        df_read_all(
+            list.as_ptr(),
+            list.len(),
+            form as u8,
+            store.as_ptr(),
+            store.len(),
+            now,
+            vehicle,
+            values.as_mut_ptr(),
+            values.len(),
+            reasons.as_mut_ptr(),
+            reasons.len(),
+        )
+    }
+}
+
+#[inline(always)]
+pub fn read_train(
+    list: &[u8],
+    form: Form,
+    store: &[u8],
+    now: u32,
+    last: u64,
+    values: &mut [u64],
+    reasons: &mut [u8],
+) -> Outcome {
+    unsafe {
+        df_read_train(
+            list.as_ptr(),
+            list.len(),
+            form as u8,
+            store.as_ptr(),
+            store.len(),
+            now,
+            last,
+            values.as_mut_ptr(),
+            values.len(),
+            reasons.as_mut_ptr(),
+            reasons.len(),
+        )
+    }
 }
 
 #[inline(always)]
@@ -764,6 +896,30 @@ impl Said for Ranged {
             high: self.high as u16,
         });
         unless_one_refused(self.refusal, self.which, self.carried, range)
+    }
+}
+
+impl Said for SignalEntry {
+    type As = Result<Entry, Refusal>;
+    fn said(self) -> Self::As {
+        let entry = Entry {
+            start: self.start as u16,
+            width: self.width as u8,
+            kind: self.kind as u8,
+            check: self.check as u8,
+            since: self.since as u8,
+            limit: self.limit as u32,
+            replacement: self.replacement,
+            place: self.place as u16,
+        };
+        unless_refused(self.refusal, self.carried, entry)
+    }
+}
+
+impl Said for Found {
+    type As = Result<u64, Refusal>;
+    fn said(self) -> Self::As {
+        unless_refused(self.refusal, self.carried, self.signal)
     }
 }
 

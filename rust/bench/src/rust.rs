@@ -2,9 +2,11 @@
 
 use crate::lists::{Handed, Step};
 use reference::{
-    Change, CodeRange, Counts, Doors, EReading, Extends, Finding, Form, Kind, Members, Profile,
-    Property, Reading, Refusal, Refused, Remedies, Remedy, ShownReading,
+    Change, CodeRange, Counts, Doors, EReading, Entry, Extends, Finding, Form, Kind, Members,
+    Profile, Property, Reading, Refusal, Refused, Remedies, Remedy, ShownReading,
 };
+
+pub use crate::cases::rust_whole as whole;
 
 #[inline(never)]
 pub fn judge(list: &[u8], form: Form) -> Result<Counts, Refusal> {
@@ -56,6 +58,16 @@ pub fn codes_gained(
 }
 
 #[inline(never)]
+pub fn signal_entry(list: &[u8], form: Form, signal: u64) -> Result<Entry, Refusal> {
+    reference::signal_entry(list, form, signal)
+}
+
+#[inline(never)]
+pub fn find_signal(list: &[u8], form: Form, kind: u64, start: u64) -> Result<u64, Refusal> {
+    reference::find_signal(list, form, kind, start)
+}
+
+#[inline(never)]
 pub fn serial(list: &[u8], form: Form, signal: u64) -> Result<u16, Refusal> {
     reference::serial(list, form, signal)
 }
@@ -80,6 +92,32 @@ pub fn read(
     signal: u64,
 ) -> Result<Reading, Refusal> {
     reference::read(list, form, store, now, vehicle, signal)
+}
+
+#[inline(never)]
+pub fn read_all(
+    list: &[u8],
+    form: Form,
+    store: &[u8],
+    now: u32,
+    vehicle: u64,
+    values: &mut [u64],
+    reasons: &mut [u8],
+) -> Result<(), Refusal> {
+    reference::read_all(list, form, store, now, vehicle, values, reasons)
+}
+
+#[inline(never)]
+pub fn read_train(
+    list: &[u8],
+    form: Form,
+    store: &[u8],
+    now: u32,
+    last: u64,
+    values: &mut [u64],
+    reasons: &mut [u8],
+) -> Result<(), Refusal> {
+    reference::read_train(list, form, store, now, last, values, reasons)
 }
 
 #[inline(never)]

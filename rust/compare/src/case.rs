@@ -22,6 +22,8 @@ pub enum Call {
     Gap,
     Sweep,
     Read,
+    ReadAll,
+    ReadTrain,
     Show,
     Marshal,
     Compose,
@@ -38,7 +40,8 @@ pub enum Call {
     WriteRemedies,
 }
 
-/// The parameters of a call: its areas of octets in order, which of them is written, and its numbers in order.
+/// The parameters of a call: its areas of octets in order, which of them is written, and its numbers in order. Whether it has values, and writes
+/// them, the call says itself.
 pub struct Parameters {
     pub name: &'static str,
     pub areas: &'static [&'static str],
@@ -61,7 +64,7 @@ const fn takes(
 }
 
 impl Call {
-    pub const ALL: [Call; 30] = [
+    pub const ALL: [Call; 32] = [
         Call::Judge,
         Call::JudgeProfile,
         Call::Extends,
@@ -78,6 +81,8 @@ impl Call {
         Call::Gap,
         Call::Sweep,
         Call::Read,
+        Call::ReadAll,
+        Call::ReadTrain,
         Call::Show,
         Call::Marshal,
         Call::Compose,
@@ -113,6 +118,8 @@ impl Call {
             Call::Gap => takes("gap", &["store"], None, &["vehicle"]),
             Call::Sweep => takes("sweep", &["store"], Some(0), &["clock"]),
             Call::Read => takes("read", &["list", "store"], None, &["form", "clock", "vehicle", "signal"]),
+            Call::ReadAll => takes("read_all", &["list", "store", "reasons"], Some(2), &["form", "clock", "vehicle"]),
+            Call::ReadTrain => takes("read_train", &["list", "store", "reasons"], Some(2), &["form", "clock", "last"]),
             Call::Show => takes("show", &["list", "store"], None, &["form", "clock", "vehicle", "signal", "kind"]),
             Call::Marshal => takes("marshal", &["list", "store", "data"], Some(2), &["form", "clock"]),
             Call::Compose => takes("compose", &["list", "marks", "out"], Some(2), &["form", "type"]),
@@ -128,6 +135,15 @@ impl Call {
             Call::RemedyBlock => takes("remedy_block", &["telegram"], None, &["block"]),
             Call::WriteRemedies => takes("write_remedies", &["octets 1-6", "octets 9-20", "keys", "texts", "out"], Some(4), &["language", "octet 23"]),
         }
+    }
+
+    /// Whether it writes its values.
+    pub fn writes_values(self) -> bool {
+        matches!(self, Call::ReadAll | Call::ReadTrain)
+    }
+
+    pub fn has_values(self) -> bool {
+        self == Call::Compose || self.writes_values()
     }
 }
 
@@ -146,7 +162,7 @@ pub struct Case {
     pub call: Call,
     /// The areas of octets, in the order of the parameters.
     pub areas: Vec<Vec<u8>>,
-    /// The values to compose; no other call has any.
+    /// The values to compose, or to be read into; no other call has any.
     pub values: Vec<u64>,
     /// The lengths of the texts to be written; no other call has any.
     pub lengths: Vec<u16>,
@@ -218,7 +234,7 @@ impl fmt::Display for Case {
         for (name, area) in takes.areas.iter().zip(&self.areas) {
             writeln!(f, "  {name}, {} octets:{}", area.len(), Hex(area))?;
         }
-        if self.call == Call::Compose {
+        if self.call.has_values() {
             writeln!(f, "  {} values: {:X?}", self.values.len(), self.values)?;
         }
         if self.call == Call::WriteRemedies {

@@ -6,6 +6,7 @@ use crate::bits;
 use crate::case::{Call, Case, KINDS};
 use crate::changes::{self, compared};
 use crate::christenings;
+use crate::cycles::{self, reading};
 use crate::generate::REQUESTS;
 use crate::list::{Code, List, Route, Signal};
 use crate::profiles::{self, by_profiles};
@@ -40,6 +41,7 @@ pub fn each(mut try_one: impl FnMut(Case)) {
     christenings::each(&mut try_one);
     bits::each(&mut try_one);
     summaries::each(&mut try_one);
+    cycles::each(&mut try_one);
     e_telegrams(&mut try_one);
     remedies::each(&mut try_one);
     telegrams(&mut try_one);
@@ -163,12 +165,11 @@ pub fn wide_l(serial: u16) -> Vec<u8> {
 fn forms(try_one: &mut impl FnMut(Case)) {
     for form in 0..=255 {
         for list in [L.to_vec(), wide_l(0x40C0)] {
-            let mut ask = |call, more: Vec<Vec<u8>>, numbers: &[u64]| {
+            let mut ask = |call: Call, more: Vec<Vec<u8>>, numbers: &[u64]| {
                 let areas = [vec![list.clone()], more].concat();
-                let values = if call == Call::Compose {
-                    vec![4]
-                } else {
-                    vec![]
+                let values = match call.has_values() {
+                    true => vec![4],
+                    false => vec![],
                 };
                 let numbers = [&[form], numbers].concat();
                 try_one(Case {
@@ -189,6 +190,9 @@ fn forms(try_one: &mut impl FnMut(Case)) {
             ask(Call::RouteChange, vec![wide_l(1)], &[2, 0]);
             ask(Call::CodesGained, vec![wide_l(1)], &[2, L_KEY, 0]);
             ask(Call::Read, vec![store.clone()], &[0, 1, 0]);
+            for call in [Call::ReadAll, Call::ReadTrain] {
+                ask(call, vec![store.clone(), vec![0xEE]], &[0, 1]);
+            }
             ask(Call::Show, vec![store.clone()], &[0, 1, 0, 0]);
             ask(Call::Show, vec![store.clone()], &[0, 1, 0, 1]);
             ask(Call::Marshal, vec![store, vec![0xAB]], &[0]);
@@ -346,11 +350,14 @@ pub fn l_heard(heard: u8, octets: [(usize, u8); 4]) -> Vec<u8> {
     store
 }
 
-/// The list L read, shown as a code and relayed, with every head, every version, every mark and every code, at the ages around its limit.
+/// The list L read, its signal and all of a vehicle and of a train, shown as a code and relayed, with every head, every version, every mark and
+/// every code, at the ages around its limit.
 fn readings(try_one: &mut impl FnMut(Case)) {
     let mut read = |heard: u8, octets: [(usize, u8); 4], clock: u64| {
         let areas = vec![L.to_vec(), l_heard(heard, octets)];
         try_one(Case::new(Call::Read, areas.clone(), vec![1, clock, 1, 0]));
+        try_one(reading(Call::ReadAll, &areas, [1, clock, 1], 1));
+        try_one(reading(Call::ReadTrain, &areas, [1, clock, 2], 2));
         try_one(Case::new(
             Call::Show,
             areas.clone(),
@@ -450,7 +457,7 @@ fn refused_shows(try_one: &mut impl FnMut(Case)) {
 }
 
 /// Two signals of R1 and one of R2 under one check, each live, or lost in a way of its own; with replacements that are known and that are
-/// not, and every mark, in every type.
+/// not, and every mark, in every type: read as a whole, and relayed.
 fn under_one_check(try_one: &mut impl FnMut(Case)) {
     let places = [(1, 424), (1, 428), (2, 424)];
     for states in 0..8 * 8 * 8 {
@@ -492,7 +499,9 @@ fn under_one_check(try_one: &mut impl FnMut(Case)) {
             for heard in [1, 2] {
                 let mut store = vec![0; STORE];
                 plant(&mut store, 1, heard, 0, &telegram[..len]);
-                let areas = vec![list.octets(), store, vec![0xEE; len]];
+                let mut areas = vec![list.octets(), store];
+                try_one(reading(Call::ReadAll, &areas, [1, 2, 1], places.len()));
+                areas.push(vec![0xEE; len]);
                 try_one(Case::new(Call::Relay, areas, vec![1, 2, 1]));
             }
         }
@@ -527,7 +536,10 @@ fn one_of_most(try_one: &mut impl FnMut(Case)) {
             plant(&mut store, 63, 1, 0, &said);
             for replacement in [0, s.top()] {
                 list.signals[number].replacement = replacement;
-                let areas = vec![list.octets(), store.clone(), vec![0xEE; len]];
+                let mut areas = vec![list.octets(), store.clone()];
+                let signals = list.signals.len();
+                try_one(reading(Call::ReadAll, &areas, [2, 0, 63], signals));
+                areas.push(vec![0xEE; len]);
                 try_one(Case::new(Call::Relay, areas, vec![2, 0, 63]));
             }
             list.signals[number].replacement = 0;
@@ -710,6 +722,7 @@ fn wide_field(try_one: &mut impl FnMut(Case), list: &List, value: u64) {
     for (heard, around) in [(0, 0xFF), (1, 0), (1, 0xFF)] {
         let areas = vec![octets.clone(), saying(signal, value, heard, around)];
         try_one(Case::new(Call::Read, areas.clone(), vec![1, 0, 1, 0]));
+        try_one(reading(Call::ReadAll, &areas, [1, 0, 1], 1));
         for kind in [0, 1] {
             let numbers = vec![1, 0, 1, 0, kind];
             try_one(Case::new(Call::Show, areas.clone(), numbers));

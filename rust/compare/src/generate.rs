@@ -6,7 +6,7 @@ use crate::case::{is_scaled, Call, Case, KINDS, PROFILES};
 use crate::damage::{any_list, damaged, mostly_good, said_form};
 use crate::list::List;
 use crate::random::Random;
-use crate::{doors, edited, make, narrow, pair, records, steps, store, texts};
+use crate::{doors, edited, make, narrow, pair, readings, records, steps, store, texts};
 use reference::{HEAD, SLOT, STORE, VEHICLES};
 
 /// The request codes of document 01.
@@ -17,8 +17,8 @@ pub const REQUESTS: [u16; 25] = [
 ];
 
 pub fn case(r: &Random) -> Case {
-    match r.below(277) {
-        0..=13 | 176..=179 | 216..=217 => {
+    match r.below(309) {
+        0..=13 | 176..=179 | 216..=217 | 302 => {
             let (list, form) = any_list(r);
             Case::new(Call::Judge, vec![list], vec![form])
         }
@@ -31,21 +31,21 @@ pub fn case(r: &Random) -> Case {
         35..=37 => check_place(r),
         38..=43 => take(r),
         44..=46 => sweep(r),
-        47..=61 | 180..=184 | 219..=220 => read(r),
+        47..=61 | 180..=184 | 219..=220 | 303..=304 => read(r),
         62..=70 => marshal(r),
         71..=82 => compose(r),
         83..=85 | 114..=122 => show(r),
-        123..=134 => relay(r),
-        135..=150 => judge_profile(r),
+        123..=134 | 308 => relay(r),
+        135..=150 | 306 => judge_profile(r),
         151..=159 => signal_change(r),
         160..=166 => route_change(r),
         167..=175 => codes_gained(r),
-        86..=91 | 187 => resolve(r),
+        86..=91 | 187 | 305 => resolve(r),
         92..=94 | 221..=222 => e_read(r),
         95..=99 => e_answer(r),
-        100..=102 => serial(r),
+        100..=102 | 301 => serial(r),
         103..=105 => moved(r, Call::ToForm2, [1, 2]),
-        106..=109 | 185..=186 | 218 => moved(r, Call::ToForm1, [2, 1]),
+        106..=109 | 185..=186 | 218 | 307 => moved(r, Call::ToForm1, [2, 1]),
         188..=197 => texts::read(r),
         198..=203 => texts::block(r),
         204..=215 => texts::write(r),
@@ -53,6 +53,8 @@ pub fn case(r: &Random) -> Case {
         232..=236 => records::property(r),
         237..=252 => doors::doors(r),
         253..=276 => steps::check_step(r),
+        277..=288 => readings::read_all(r),
+        289..=300 => readings::read_train(r),
         _ => gap(r),
     }
 }
@@ -211,7 +213,7 @@ fn check_place(r: &Random) -> Case {
     Case::new(Call::CheckPlace, vec![], vec![bit])
 }
 
-fn vehicle(r: &Random) -> u64 {
+pub fn vehicle(r: &Random) -> u64 {
     match r.below(24) {
         0 => r.of(&[0, 64, 65, 255, 256, u64::MAX]),
         1 => r.beyond(1),

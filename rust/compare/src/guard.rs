@@ -79,17 +79,17 @@ impl Arena {
         protect(self.page, READ);
     }
 
-    /// The octets placed last. A slice that may be written in Rust's eyes, also where the page forbids it: only the written area of a
-    /// call is ever written.
+    /// The octets placed last. A slice that may be written in Rust's eyes, also where the page forbids it: only what a call
+    /// writes is ever written.
     pub fn area(&mut self) -> &mut [u8] {
         // SAFETY: the area lies in the page and nothing else refers to it while `self` is borrowed.
         unsafe { slice::from_raw_parts_mut(self.area, self.len) }
     }
 
-    /// The octets placed last as numbers.
-    pub fn numbers(&self) -> &[u64] {
+    /// The octets placed last as numbers, which may be written as those of [`Arena::area`] may.
+    pub fn numbers(&mut self) -> &mut [u64] {
         // SAFETY: as above; both ends of the page are multiples of 8, and so is the length of what was placed.
-        unsafe { slice::from_raw_parts(self.area.cast(), self.len / 8) }
+        unsafe { slice::from_raw_parts_mut(self.area.cast(), self.len / 8) }
     }
 
     /// The octets placed last as numbers of 16 bits.

@@ -44,10 +44,10 @@ impl Memory {
 }
 
 pub fn on_heap(side: Side, case: &Case) -> After {
-    let mut areas = case.areas.clone();
+    let (mut areas, mut values) = (case.areas.clone(), case.values.clone());
     let lent = Lent {
         areas: areas.iter_mut().map(|area| &mut area[..]).collect(),
-        values: &case.values,
+        values: &mut values,
         lengths: &case.lengths,
         numbers: &case.numbers,
     };
@@ -55,15 +55,17 @@ pub fn on_heap(side: Side, case: &Case) -> After {
     After {
         answer,
         areas,
-        values: case.values.clone(),
+        values,
         lengths: case.lengths.clone(),
     }
 }
 
-/// Places what is lent for reading.
-fn place_read(arena: &mut Arena, octets: &[u8], edge: Edge) {
+/// Places what is lent, for writing or for reading alone.
+fn place(arena: &mut Arena, octets: &[u8], edge: Edge, written: bool) {
     arena.place(octets, edge);
-    arena.forbid_writing();
+    if !written {
+        arena.forbid_writing();
+    }
 }
 
 fn guarded(side: Side, case: &Case, edge: Edge, arenas: &mut Arenas) -> After {
@@ -73,15 +75,12 @@ fn guarded(side: Side, case: &Case, edge: Edge, arenas: &mut Arenas) -> After {
         lengths,
     } = arenas;
     let octets: Vec<u8> = case.values.iter().flat_map(|v| v.to_ne_bytes()).collect();
-    place_read(values, &octets, edge);
+    place(values, &octets, edge, case.call.writes_values());
     let octets: Vec<u8> = case.lengths.iter().flat_map(|l| l.to_ne_bytes()).collect();
-    place_read(lengths, &octets, edge);
+    place(lengths, &octets, edge, false);
     let written = case.call.parameters().written;
     for (i, (arena, area)) in areas.iter_mut().zip(&case.areas).enumerate() {
-        match written == Some(i) {
-            true => arena.place(area, edge),
-            false => place_read(arena, area, edge),
-        }
+        place(arena, area, edge, written == Some(i));
     }
     let areas = &mut areas[..case.areas.len()];
     let lent = Lent {

@@ -7,6 +7,7 @@ use crate::case::{is_scaled, Answer, Call, Case, KINDS};
 use crate::changed;
 use crate::checked;
 use crate::christened;
+use crate::gathered;
 use crate::list::{longest, sizes, Route, Signal, MOST};
 use crate::profiled;
 use crate::relayed;
@@ -141,6 +142,11 @@ fn wanted(call: Call) -> Vec<Row> {
             refusals(&[1, 2, 3, 4, 5, 6, 11]),
             // Reason 8 is for widths up to 16.
             each("above 48 bits, reason", &[0, 1, 2, 3, 4, 5, 6, 7]),
+        ],
+        Call::ReadAll | Call::ReadTrain => [
+            gathered::wanted(call),
+            refusals(&[1, 2, 3, 4, 5, 6, 13]),
+            in_forms,
         ],
         Call::Show => [
             [
@@ -277,7 +283,9 @@ fn rows(case: &Case, answer: &Answer) -> Vec<Row> {
         Call::Show => show_rows(case.numbers[4], answer),
         Call::Marshal => vec![(lives(case, first), 0)],
         Call::Compose => vec![("type", case.numbers[1])],
-        // What is told of these stands in `profiled`, in `relayed`, in `christened`, in `checked`, in `summed_up`, in `remedied` and in `changed`.
+        // What is told of these stands in `gathered`, in `profiled`, in `relayed`, in `christened`, in `checked`, in `summed_up`, in `remedied` and
+        // in `changed`.
+        Call::ReadAll | Call::ReadTrain => vec![],
         Call::JudgeProfile | Call::Relay | Call::Property | Call::Christen => vec![],
         Call::CheckStep | Call::Doors => vec![],
         Call::ReadRemedies | Call::RemedyBlock | Call::WriteRemedies => vec![],
@@ -624,6 +632,7 @@ impl Reached {
             form_rows,
             length_rows,
             scaled_rows,
+            gathered::rows,
             profiled::rows,
             relayed::rows,
             christened::rows,
@@ -682,6 +691,8 @@ fn named((what, number): Row) -> String {
             "route, bit",
             "step",
             "octets of data",
+            "6, vehicle",
+            "6, last",
         ]
         .iter()
         .any(|end| what.ends_with(end)) =>

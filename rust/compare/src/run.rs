@@ -48,8 +48,12 @@ pub fn print(case: &Case, memory: &mut Memory) {
             println!("{area} after the library:{}", Hex(given));
         }
     }
-    if wanted.values != given.values || wanted.lengths != given.lengths {
-        println!("the values or the lengths were changed");
+    if wanted.values != given.values {
+        println!("values after the reference: {:X?}", wanted.values);
+        println!("values after the library: {:X?}", given.values);
+    }
+    if wanted.lengths != given.lengths {
+        println!("the lengths were changed");
     }
 }
 

@@ -19,7 +19,9 @@ enum Step {
     Length(usize, u16),
     /// A block to be written goes, with its key, its length and its text.
     Block(usize),
-    /// A vehicle goes, with its record and its pair, or with its mark and its slot.
+    /// Values that are read into are 0.
+    Blank(Range<usize>),
+    /// A vehicle goes, with its record and its pair, or with its mark and its slot, or with its slot and what is lent for its signals.
     Vehicle(usize),
     /// A run of octets of the data of a step is left out, or set to 0, in the last one's, in those before and in those after.
     Shorter(Range<usize>),
@@ -73,9 +75,7 @@ fn steps(case: &Case) -> Vec<Step> {
     for (i, &n) in case.numbers.iter().enumerate() {
         steps.extend([0, 1, n / 2, n.wrapping_sub(1)].map(|to| Step::Number(i, to)));
     }
-    for (i, &n) in case.values.iter().enumerate() {
-        steps.extend([0, n / 2].map(|to| Step::Value(i, to)));
-    }
+    steps.extend(value_steps(case));
     for (i, &n) in case.lengths.iter().enumerate() {
         steps.push(Step::Block(i));
         steps.extend([0, n / 2, n.saturating_sub(1)].map(|to| Step::Length(i, to)));
@@ -83,6 +83,7 @@ fn steps(case: &Case) -> Vec<Step> {
     let vehicles = match case.call {
         Call::Christen => case.areas[1].len(),
         Call::Doors => case.areas[2].len(),
+        Call::ReadTrain => case.numbers[2].min(63) as usize,
         _ => 0,
     };
     steps.extend((0..vehicles).rev().map(Step::Vehicle));
@@ -93,6 +94,17 @@ fn steps(case: &Case) -> Vec<Step> {
     }
     (0..case.areas.len()).for_each(|i| steps.extend(area_steps(case, i)));
     steps
+}
+
+/// Of the values, which are many where they are read into.
+fn value_steps(case: &Case) -> Vec<Step> {
+    if case.call.writes_values() {
+        let runs = runs(case.values.len()).into_iter();
+        return runs.map(Step::Blank).collect();
+    }
+    let values = case.values.iter().enumerate();
+    let steps = values.flat_map(|(i, &n)| [0, n / 2].map(|to| Step::Value(i, to)));
+    steps.collect()
 }
 
 /// All of so many octets, each half of them, and so on to each alone.
@@ -133,7 +145,9 @@ fn taken(case: &Case, step: &Step) -> Case {
         &Step::Value(i, to) => case.values[i] = to,
         &Step::Length(i, to) => case.lengths[i] = to,
         &Step::Block(at) => without_block(&mut case, at),
+        Step::Blank(run) => case.values[run.clone()].fill(0),
         &Step::Vehicle(at) if case.call == Call::Doors => without_slot(&mut case, at),
+        &Step::Vehicle(at) if case.call == Call::ReadTrain => without_read(&mut case, at),
         &Step::Vehicle(at) => without_vehicle(&mut case, at),
         Step::Shorter(run) => for_data(&mut case, run, |data, run| drop(data.drain(run))),
         Step::Emptied(run) => for_data(&mut case, run, |data, run| data[run].fill(0)),
@@ -153,7 +167,7 @@ fn for_data(case: &mut Case, run: &Range<usize>, mut does: impl FnMut(&mut Vec<u
     }
 }
 
-/// The list less one entry, with whatever named it; to be composed, its mark or value goes too.
+/// The list less one entry, with whatever named it; to be composed, its mark or value goes too, and to be read, what is lent for it.
 fn without_entry(case: &mut Case, i: usize, section: usize, at: usize) {
     let Some(mut list) = case.list_at(i) else {
         return;
@@ -167,6 +181,10 @@ fn without_entry(case: &mut Case, i: usize, section: usize, at: usize) {
             }
         }
         1 => {
+            if case.call.writes_values() {
+                let signals = list.signals.len();
+                without_entries(case, |entry| entry % signals == at);
+            }
             list.remove_signal(at);
             if composed && at < case.values.len() {
                 case.values.remove(at);
@@ -200,14 +218,35 @@ fn without_vehicle(case: &mut Case, at: usize) {
     case.areas[1].remove(at);
 }
 
-/// One vehicle less; the slots of those behind it move up, if the store has any, and who was asked for by a number is asked for by the next lower.
-fn without_slot(case: &mut Case, at: usize) {
-    let (store, address) = (&mut case.areas[1], &mut case.numbers[2]);
+/// The slots behind a vehicle's move up over it, if the store has any.
+fn move_up(store: &mut [u8], at: usize) {
     let slot = SLOT * at;
     if store.len() == STORE && slot < STORE {
         store.copy_within(slot + SLOT.., slot);
         store[STORE - SLOT..].fill(0);
     }
+}
+
+/// Some of what is lent for signals to be read goes.
+fn without_entries(case: &mut Case, goes: impl Fn(usize) -> bool) {
+    let mut entry = 0..;
+    case.values.retain(|_| !entry.next().is_some_and(&goes));
+    let mut entry = 0..;
+    case.areas[2].retain(|_| !entry.next().is_some_and(&goes));
+}
+
+/// One vehicle less to be read.
+fn without_read(case: &mut Case, at: usize) {
+    let signals = case.list_at(0).map_or(0, |list| list.signals.len());
+    without_entries(case, |entry| entry.checked_div(signals) == Some(at));
+    move_up(&mut case.areas[1], at);
+    case.numbers[2] -= 1;
+}
+
+/// One vehicle less; the slots of those behind it move up, and who was asked for by a number is asked for by the next lower.
+fn without_slot(case: &mut Case, at: usize) {
+    move_up(&mut case.areas[1], at);
+    let address = &mut case.numbers[2];
     if (at as u64 + 2..=63).contains(address) {
         *address -= 1;
     }
@@ -221,7 +260,7 @@ mod tests {
     use crate::memory::on_heap;
     use crate::random::Random;
     use crate::sides::by_reference;
-    use crate::{doors, generate, make, steps};
+    use crate::{doors, generate, make, readings, steps};
     use reference::{Form, SIGNAL_SIZE};
 
     #[test]
@@ -243,7 +282,7 @@ mod tests {
     /// Of those that hold a side up, one is left, and both doors of the list.
     #[test]
     fn a_train_loses_its_vehicles() {
-        let open = |case: &Case| on_heap(by_reference, case).answer.gives[0] == 1;
+        let open = |case: &Case| on_heap(by_reference, case).answer.gives[0] == doors::OPEN;
         for number in 0..40 {
             let case = doors::doors(&Random::of_case(7, number));
             if case.numbers[2] == 66 && open(&case) {
@@ -253,6 +292,29 @@ mod tests {
                 assert_eq!(small.areas[0].len(), 4 * 2 + 2 * size);
             }
         }
+    }
+
+    /// Of a code that is not known, of one vehicle's signals behind another's, one signal is left, and both vehicles' entries of it.
+    #[test]
+    fn a_train_loses_its_readings() {
+        let unknown = |case: &Case| {
+            let after = on_heap(by_reference, case);
+            let second = after.areas[2].len() / case.numbers[2].max(1) as usize;
+            after.answer.refusal == 0 && after.areas[2][second..].contains(&8)
+        };
+        let mut tried = 0;
+        for number in 0..200 {
+            let case = readings::read_train(&Random::of_case(9, number));
+            if case.size() < 12_000 && case.numbers[2] < 64 && unknown(&case) {
+                tried += 1;
+                let small = shrunk(&case, unknown);
+                let list = small.list_at(0).unwrap();
+                assert_eq!([list.signals.len(), list.codes.len()], [1, 1]);
+                assert_eq!((&small.values[..], small.numbers[2]), (&[0; 2][..], 2));
+                assert_eq!(small.areas[2], [0; 2]);
+            }
+        }
+        assert!(tried > 2, "{tried}");
     }
 
     /// Of a wrong bit of a route, behind other steps, one route and the octets that it needs are left.

@@ -6,7 +6,7 @@ use dustferrule::raw;
 /// What a call is lent: its areas of octets, its values, its lengths, its numbers.
 pub struct Lent<'a> {
     pub areas: Vec<&'a mut [u8]>,
-    pub values: &'a [u64],
+    pub values: &'a mut [u64],
     pub lengths: &'a [u16],
     pub numbers: &'a [u64],
 }
@@ -169,6 +169,14 @@ macro_rules! side {
                 (Call::Read, [list, store], &[said, clock, vehicle, signal]) => {
                     $library::read(list, form(said), store, clock as u32, vehicle, signal)
                         .map(|r| Answer::gives([r.value, r.reason as u64]))
+                }
+                (Call::ReadAll, [list, store, reasons], &[said, clock, vehicle]) => {
+                    let (form, clock, values) = (form(said), clock as u32, &mut *lent.values);
+                    $library::read_all(list, form, store, clock, vehicle, values, reasons).map(done)
+                }
+                (Call::ReadTrain, [list, store, reasons], &[said, clock, last]) => {
+                    let (form, clock, values) = (form(said), clock as u32, &mut *lent.values);
+                    $library::read_train(list, form, store, clock, last, values, reasons).map(done)
                 }
                 (Call::Show, [list, store], &[said, clock, vehicle, signal, kind]) => {
                     let (form, clock, kind) = (form(said), clock as u32, kind_of(kind));
@@ -358,6 +366,21 @@ pub fn by_header(call: Call, mut lent: Lent) -> Answer {
             let r =
                 unsafe { raw::df_read(list, len, form, from, from_len, clock, vehicle, signal) };
             Answer::with(r.refusal, r.carried, [r.value, r.reason.into()])
+        }
+        (Call::ReadAll | Call::ReadTrain, [list, store, reasons], &[form, clock, of]) => {
+            let read = match call {
+                Call::ReadAll => raw::df_read_all,
+                _ => raw::df_read_train,
+            };
+            let (list, len, form) = (list.as_ptr(), list.len(), form as u8);
+            let (from, from_len, clock) = (store.as_ptr(), store.len(), clock as u32);
+            let (values, number) = (lent.values.as_mut_ptr(), lent.values.len());
+            let (why, why_len) = (reasons.as_mut_ptr(), reasons.len());
+            outcome(unsafe {
+                read(
+                    list, len, form, from, from_len, clock, of, values, number, why, why_len,
+                )
+            })
         }
         (Call::Show, [list, store], &[form, clock, vehicle, signal, kind]) => {
             let (list, len, form) = (list.as_ptr(), list.len(), form as u8);

@@ -143,20 +143,25 @@ pub fn store(r: &Random, list: &List, now: u32) -> Vec<u8> {
         _ => vec![0; STORE],
     };
     for vehicle in [1, 2, 3, r.within(1, 63) as usize] {
-        if r.one_in(12) {
-            continue;
-        }
-        let kind = kind(r, list);
-        let telegram = telegram(r, list, kind);
-        let stamp = now.wrapping_sub(age(r, list));
-        let heard = if r.one_in(5) { 2 } else { 1 };
-        let slot = plant(&mut store, vehicle, heard, stamp, &telegram);
-        precede(r, slot);
-        if r.one_in(8) {
-            unsettle(r, slot);
-        }
+        hear(r, &mut store, vehicle, list, now);
     }
     store
+}
+
+/// Lets a vehicle be heard, mostly: at an age around one of the list's limits, and at times with what no taking leaves.
+pub fn hear(r: &Random, store: &mut [u8], vehicle: usize, list: &List, now: u32) {
+    if r.one_in(12) {
+        return;
+    }
+    let kind = kind(r, list);
+    let telegram = telegram(r, list, kind);
+    let stamp = now.wrapping_sub(age(r, list));
+    let heard = if r.one_in(5) { 2 } else { 1 };
+    let slot = plant(store, vehicle, heard, stamp, &telegram);
+    precede(r, slot);
+    if r.one_in(8) {
+        unsettle(r, slot);
+    }
 }
 
 /// A store with all heard octets, at ages around the longest limit: some slots heard, one alone, all, or none.

@@ -289,6 +289,65 @@ pub fn read(
     unless_refused(r.refusal, r.carried, reading)
 }
 
+/// Reads every signal of one vehicle, with one judging of the list for all of them. `values` and `reasons` have an entry for each signal, in list
+/// order, and each is what [`read`] gives, a reason as its number: [`Reason::of`] has the reason. Refusals 1 to 4, then 5, 6, 13 where they are not
+/// one per signal.
+pub fn read_all(
+    list: &[u8],
+    form: Form,
+    store: &[u8],
+    now: u32,
+    vehicle: u64,
+    values: &mut [u64],
+    reasons: &mut [u8],
+) -> Result<(), Error> {
+    let r = unsafe {
+        raw::df_read_all(
+            list.as_ptr(),
+            list.len(),
+            form as u8,
+            store.as_ptr(),
+            store.len(),
+            now,
+            vehicle,
+            values.as_mut_ptr(),
+            values.len(),
+            reasons.as_mut_ptr(),
+            reasons.len(),
+        )
+    };
+    unless_refused(r.refusal, r.carried, ())
+}
+
+/// The same of the vehicles 1 to `last`, vehicle after vehicle: signal k, from 0, of vehicle v is entry (v - 1) * signals + k. Refusals 1 to 4, then
+/// 5, 6 where `last` is not 1 to 63, 13 where `values` or `reasons` are not `last` times as many as there are signals.
+pub fn read_train(
+    list: &[u8],
+    form: Form,
+    store: &[u8],
+    now: u32,
+    last: u64,
+    values: &mut [u64],
+    reasons: &mut [u8],
+) -> Result<(), Error> {
+    let r = unsafe {
+        raw::df_read_train(
+            list.as_ptr(),
+            list.len(),
+            form as u8,
+            store.as_ptr(),
+            store.len(),
+            now,
+            last,
+            values.as_mut_ptr(),
+            values.len(),
+            reasons.as_mut_ptr(),
+            reasons.len(),
+        )
+    };
+    unless_refused(r.refusal, r.carried, ())
+}
+
 /// Reads one signal (number from 0) of one vehicle and shows the value of the reading, live or replacement, as the kind asks. Refusals 1 to 4,
 /// then 5, 6, 11, 26.
 pub fn show(

@@ -328,6 +328,34 @@ extern "C" {
         signal: u64,
     ) -> df_reading;
 
+    pub fn df_read_all(
+        list: *const u8,
+        list_len: usize,
+        form: u8,
+        store: *const u8,
+        store_len: usize,
+        clock: u32,
+        vehicle: u64,
+        values: *mut u64,
+        values_len: usize,
+        reasons: *mut u8,
+        reasons_len: usize,
+    ) -> df_outcome;
+
+    pub fn df_read_train(
+        list: *const u8,
+        list_len: usize,
+        form: u8,
+        store: *const u8,
+        store_len: usize,
+        clock: u32,
+        last: u64,
+        values: *mut u64,
+        values_len: usize,
+        reasons: *mut u8,
+        reasons_len: usize,
+    ) -> df_outcome;
+
     pub fn df_show(
         list: *const u8,
         list_len: usize,

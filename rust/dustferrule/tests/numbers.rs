@@ -2,9 +2,9 @@
 
 use dustferrule::{
     check_step, christen, codes_gained, compose, doors, find_signal, judge, judge_profile,
-    property, read, read_remedies, route_change, show, signal_change, take, write_remedies, Doors,
-    Error, Finding, Form, Kind, Level, Members, Place, Profile, Property, Reason, Refusal, Refused,
-    Rule, Side, State, WrongBit, STORE_OCTETS,
+    property, read, read_all, read_remedies, read_train, route_change, show, signal_change, take,
+    write_remedies, Doors, Error, Finding, Form, Kind, Level, Members, Place, Profile, Property,
+    Reason, Refusal, Refused, Rule, Side, State, WrongBit, STORE_OCTETS,
 };
 
 /// The list L of document 01.
@@ -142,6 +142,67 @@ fn properties_of_both_levels() {
     assert_eq!(property(142), of(Level::Gateway, 23, 7, false));
     assert_eq!([property(133), property(u32::MAX)], [None, None]);
     assert_eq!([Level::Gateway as u8, Level::Vehicle as u8], [0, 1]);
+}
+
+/// Of L a value and a reason too few or too many, also for a train of three, and nobody to read them of.
+#[test]
+fn errors_of_readings() {
+    let store = [0; STORE_OCTETS];
+    let said = |error: Error| (error.refusal, error.carried, error.to_string());
+    let refused = |of: Refusal, said: &str| Err((of, 0, said.to_string()));
+    let misfit = refused(
+        Refusal::ValuesOrMarks,
+        "refused 13: values or marks not one per entry",
+    );
+    let nobody = refused(Refusal::Vehicle, "refused 6: vehicle not 1-63");
+    let (mut values, mut reasons) = ([7; 3], [7; 3]);
+    let mut all = |vehicle, v: usize, r: usize, store: &[u8]| {
+        let to = (&mut values[..v], &mut reasons[..r]);
+        read_all(&L, Form::One, store, 0, vehicle, to.0, to.1).map_err(said)
+    };
+    for (values, reasons) in [(0, 0), (0, 1), (1, 0), (2, 1), (1, 2)] {
+        assert_eq!(all(1, values, reasons, &store), misfit);
+        assert_eq!(all(64, values, reasons, &store), nobody);
+    }
+    let short = all(0, 0, 0, &store[1..]).map_err(|of| of.0);
+    assert_eq!(short, Err(Refusal::StoreLength));
+    let mut train = |last, v: usize, r: usize, list: &[u8]| {
+        let to = (&mut values[..v], &mut reasons[..r]);
+        read_train(list, Form::One, &store, 0, last, to.0, to.1).map_err(said)
+    };
+    assert_eq!(train(3, 2, 3, &L), misfit);
+    assert_eq!(train(2, 2, 3, &L), misfit);
+    assert_eq!(train(0, 0, 0, &L), nobody);
+    let cut = train(0, 0, 0, &L[..43]).map_err(|of| (of.0, of.1));
+    assert_eq!(cut, Err((Refusal::ListEnds, 36)));
+    assert_eq!((values, reasons), ([7; 3], [7; 3]));
+}
+
+/// The numbers that are written are those of [`Reason`].
+#[test]
+fn reasons_of_readings() {
+    let mut store = [0; STORE_OCTETS];
+    let mut telegram = [0; 128];
+    (telegram[0], telegram[53]) = (0x11, 0x40);
+    for (vehicle, octet_41) in [(1, 0x10), (3, 0x20), (4, 0x00)] {
+        telegram[40] = octet_41;
+        assert_eq!(take(&mut store, vehicle, 0, &telegram), Ok(()));
+    }
+    let (mut values, mut reasons) = ([7; 4], [7; 4]);
+    let read = read_train(&L, Form::One, &store, 0, 4, &mut values, &mut reasons);
+    assert_eq!((read, values), (Ok(()), [4, 0, 4, 0]));
+    let wanted = [
+        Reason::LiveOk,
+        Reason::NeverHeard,
+        Reason::LiveForced,
+        Reason::MarkError,
+    ];
+    let named = reasons.map(|number| Reason::of(number.into()));
+    assert_eq!(named, wanted.map(Some));
+    let (mut value, mut reason) = ([7], [7]);
+    let read = read_all(&L, Form::One, &store, 5_001, 3, &mut value, &mut reason);
+    assert_eq!((read, value), (Ok(()), [0]));
+    assert_eq!(Reason::of(reason[0].into()), Some(Reason::TooOld));
 }
 
 /// L, from AB: vehicle 1 was never heard, so that ours is 0B.

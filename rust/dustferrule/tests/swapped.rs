@@ -104,6 +104,8 @@ calls! { Refusal, plain:
     take(store: &mut [u8], vehicle: u64, now: u32, telegram: &[u8]) -> ();
     gap(store: &[u8], vehicle: u64) -> u32;
     sweep(store: &mut [u8], now: u32) -> ();
+    read_all(list: &[u8], form: Form, store: &[u8], now: u32, vehicle: u64, values: &mut [u64], reasons: &mut [u8]) -> ();
+    read_train(list: &[u8], form: Form, store: &[u8], now: u32, last: u64, values: &mut [u64], reasons: &mut [u8]) -> ();
     marshal(list: &[u8], form: Form, store: &[u8], now: u32, bus: &mut [u8]) -> u64;
     compose(list: &[u8], form: Form, kind: u64, values: &[u64], marks: &[u8], out: &mut [u8]) -> ();
     relay(list: &[u8], form: Form, store: &[u8], now: u32, vehicle: u64, out: &mut [u8]) -> ();
@@ -214,6 +216,8 @@ mod marshal;
 mod profile;
 #[path = "../../reference/tests/reading.rs"]
 mod reading;
+#[path = "../../reference/tests/readings.rs"]
+mod readings;
 #[path = "../../reference/tests/recordings.rs"]
 mod recordings;
 #[path = "../../reference/tests/relay.rs"]

@@ -1,8 +1,8 @@
 //! The gateway library of document 01, written a second time and independently: taking R-telegrams into
-//! a store, the gap between two of them, sweeping it, reading, showing and marshalling signals, checking a recording of marshalling, composing
-//! R-telegrams, also anew from what was taken, judging signal lists, also by a profile, comparing two of them and moving them from one form to
-//! the other, building the consist from christening records, resolving addresses, summing up the doors of a train, reading and answering
-//! E-telegrams, and reading and writing those with remedy texts.
+//! a store, the gap between two of them, sweeping it, reading signals, one or all of a vehicle or of a train, showing and marshalling them,
+//! checking a recording of marshalling, composing R-telegrams, also anew from what was taken, judging signal lists, also by a profile, comparing
+//! two of them and moving them from one form to the other, building the consist from christening records, resolving addresses, summing up the
+//! doors of a train, reading and answering E-telegrams, and reading and writing those with remedy texts.
 //!
 //! Every function is total: it answers or refuses for every input and never panics. Every public call
 //! tests its own input, and a refusal changes no lent octet.
@@ -46,7 +46,7 @@ pub use list::{judge, Counts};
 pub use marshal::marshal;
 pub use octets::{read_field, write_field};
 pub use profile::{judge_profile, Profile};
-pub use reading::{read, Reading};
+pub use reading::{read, read_all, read_train, Reading};
 pub use recordings::{check_step, Finding, Place, WrongBit};
 pub use refusal::Refusal;
 pub use relay::relay;

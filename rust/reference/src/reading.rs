@@ -55,6 +55,64 @@ pub(crate) fn read_under(
     ))
 }
 
+/// Reads every signal of `vehicle`, each as [`read`] does: its value and the number of its reason, in list order. Refusals 1 to 4, 5, 6, and 13
+/// where there is not one of each lent for every signal.
+pub fn read_all(
+    list: &[u8],
+    form: Form,
+    store: &[u8],
+    now: u32,
+    vehicle: u64,
+    values: &mut [u64],
+    reasons: &mut [u8],
+) -> Result<(), Refusal> {
+    let list = List::judged(list, form)?;
+    let slots = slots(store)?;
+    let slot = slot_of(vehicle)?;
+    read_slots(&list, &slots[slot..=slot], now, values, reasons)
+}
+
+/// The same of the vehicles 1 to `last`, vehicle after vehicle. Refusals 1 to 4, 5, 6, 13.
+pub fn read_train(
+    list: &[u8],
+    form: Form,
+    store: &[u8],
+    now: u32,
+    last: u64,
+    values: &mut [u64],
+    reasons: &mut [u8],
+) -> Result<(), Refusal> {
+    let list = List::judged(list, form)?;
+    let slots = slots(store)?;
+    let last = slot_of(last)?;
+    read_slots(&list, &slots[..=last], now, values, reasons)
+}
+
+/// Reads every signal of a judged list out of each slot. Refusal 13.
+#[inline]
+fn read_slots(
+    list: &List,
+    slots: &[Slot],
+    now: u32,
+    values: &mut [u64],
+    reasons: &mut [u8],
+) -> Result<(), Refusal> {
+    let entries = slots.len() * list.signals.len();
+    if values.len() != entries || reasons.len() != entries {
+        return Err(Refusal::plain(13));
+    }
+    let mut lent = values.iter_mut().zip(reasons);
+    for slot in slots {
+        let mut codes = list.codes_in_order();
+        let signals = list.signals.iter().map(Signal::of).enumerate();
+        for ((number, signal), (value, reason)) in signals.zip(lent.by_ref()) {
+            let reading = read_slot(list, signal, codes.next_of(number), slot, now);
+            (*value, *reason) = (reading.value, reading.reason);
+        }
+    }
+    Ok(())
+}
+
 /// Reads a signal of a judged list, with its known codes, out of one slot, and looks at no other.
 #[inline]
 pub(crate) fn read_slot(

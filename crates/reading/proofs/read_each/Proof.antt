@@ -6,6 +6,7 @@ use denote.Ref.{now}
 use borrow.Author.Needs.{needs}
 use Rattle.paper.specs.SignalList.{listOf}
 use Rattle.paper.specs.Reading as paper
+use Rattle.paper.specs.Readings.{valuesAt, reasonsAt}
 use Rattle.paper.proofs.LoopLaws.{Filled, filled-none, filled-more, filled-all}
 use Rattle.lists.specs.Judged.{countsOf}
 use Rattle.known.specs.Known.{From}
@@ -77,6 +78,7 @@ same-length-2 c =
     omega (arith, l .loop .inv .1 .long, start l .pre .0 .2)
 
 returns : tie.Need-returns Inv-loop μ-loop
+unfolding valuesAt reasonsAt
 returns c =
     let l = c .before .before in
     record { value = filled-all (l .loop .inv .0) (c .if1 .left); reason = filled-all (l .loop .inv .1) (c .if1 .left) }

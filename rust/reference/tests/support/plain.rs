@@ -1,6 +1,6 @@
 //! Document 01 in its plainest form.
 
-use std::ops::Range;
+use std::ops::{Range, RangeInclusive};
 
 use super::{HEAD, HEARD, SIGNAL_SIZE, SLOT, STAMP, STORE};
 use reference::{Counts, Level, Reading, Refusal};
@@ -502,6 +502,39 @@ pub fn read(list: &List, store: &[u8], now: u32, vehicle: u64, signal: u64) -> R
         value: if reason < 2 { value } else { s.replacement },
         reason,
     }
+}
+
+/// Entry by entry: which vehicle's and which signal's it is. The list has signal entries of so many octets.
+pub fn read_all(
+    list: &[u8],
+    size: usize,
+    store: &[u8],
+    now: u32,
+    vehicles: RangeInclusive<u64>,
+    values: &mut [u64],
+    reasons: &mut [u8],
+) -> Result<(), Refusal> {
+    let list = List::judged_of(list, size)?;
+    let refuse = |number| Err(Refusal { number, carried: 0 });
+    if store.len() != STORE {
+        return refuse(5);
+    }
+    let (&first, &last) = (vehicles.start(), vehicles.end());
+    if !(1..=63).contains(&last) {
+        return refuse(6);
+    }
+    let signals = list.signals.len() as u64;
+    let entries = (last - first + 1) * signals;
+    if values.len() as u64 != entries || reasons.len() as u64 != entries {
+        return refuse(13);
+    }
+    for entry in 0..entries {
+        let (vehicle, signal) = (first + entry / signals, entry % signals);
+        let reading = read(&list, store, now, vehicle, signal);
+        values[entry as usize] = reading.value;
+        reasons[entry as usize] = reading.reason;
+    }
+    Ok(())
 }
 
 pub fn marshal(list: &List, store: &[u8], now: u32, data: &mut [u8]) -> Result<u64, Refusal> {
