@@ -1,4 +1,6 @@
 // Fields, numbers and runs of octets in lent slices. What has a `requires` is inner: its caller in the library shows it.
+#![tactic(auto)]
+
 ghost use Rattle.std.specs.Prelude.{◌≡◌, ◌+◌, ◌-◌, ◌*◌, ◌%◌, ◌^◌, ◌<◌, ◌≤◌, min, length, replicate};
 ghost use Rattle.paper.specs.Octets.{field, fits, put, octets_of, over, field_of, with_field};
 ghost use Rattle.octets.specs.Fields.{Within, FieldRead, NumberRead, merged};

@@ -5,14 +5,10 @@ use native.Mathlib.Nat.{mod-eq_of_lt}
 use native.Mathlib.Omega.{arith}
 use borrow.Author.Rules.{rules}
 use lib.Bits.{bit_or, or_shifted}
-use Rattle.octets.proofs.join.Statement.{statement}
-use Rattle.octets.proofs.join.Tie as tie
+use Rattle.octets.proofs.join.Goals as goal
 
-returns : tie.Need-returns
+pub returns : goal.returns
 returns c =
     let a = c.args in
     let h : a.hi * 2 ^ a.n < 2 ^ 64 = omega arith in
     ap (λ (m : ℕ). bit_or m a.lo) (mod-eq_of_lt h) ∙ or_shifted a.hi a.n a.lo c.requires.1
-
-pub join-spec : {M : Type 1} → statement M
-join-spec = tie.close (tie.spec (λ c. search rules) returns)

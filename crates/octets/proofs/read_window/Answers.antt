@@ -3,17 +3,13 @@ use Prim.Native.Nat.{ℕ, ◌+◌, ◌-◌, ◌*◌, ◌/◌, ◌%◌, ◌^◌}
 use native.Mathlib.Omega.{arith}
 use Rattle.octets.proofs.Laws.{shifted, within}
 use borrow.Author.Rules.{rules}
-use Rattle.octets.proofs.read_window.Statement.{statement}
-use Rattle.octets.proofs.read_window.Tie as tie
+use Rattle.octets.proofs.read_window.Goals as goal
 
-returns : tie.Need-returns
+pub returns : goal.returns
 returns c =
-    let a = c.before.before.args in
+    let a = c.args in
     let k = 64 - (a.b + a.width) in
     let all : a.b + a.width + k ≡ 64 = omega arith in
     ap (λ (x : ℕ). x * 2 ^ a.b % 2 ^ 64 / 2 ^ (64 - a.width)) c.read64.ensures.value
     ∙ shifted a.b a.width k all _
-    ∙ within a.b a.width k all a.s.now a.q (λ i. (c.before.shared-slice-known.given i).fits)
-
-pub read-window-spec : {M : Type 1} → statement M
-read-window-spec = tie.close (tie.spec (λ c κs. search rules) (λ c. search rules) (λ c. search rules) (λ c. search rules) returns)
+    ∙ within a.b a.width k all a.s.now a.q (λ i. (c.shared_slice_known-1.given i).fits)
