@@ -1,4 +1,5 @@
 // What a gateway believes: every signal of the vehicles heard, with place, value and reason.
+#![tactic(auto)]
 use gateway::{
     Entry, EntryOutcome, HeldOutcome, Judged, LONGEST, ReadOutcome, Reading, STORE, Signal,
     VEHICLES,

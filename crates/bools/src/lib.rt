@@ -1,1 +1,2 @@
 // Laws of tests that are made of tests: no code.
+#![tactic(auto)]

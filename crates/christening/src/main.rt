@@ -1,4 +1,5 @@
 // Shows the train that christening records describe, and the properties of each vehicle by their rows and names.
+#![tactic(auto)]
 mod given;
 mod names;
 

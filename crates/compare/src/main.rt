@@ -1,4 +1,5 @@
 // Compares two signal lists: what the second adds, removes and changes, a line each, and whether it extends the first.
+#![tactic(auto)]
 mod route;
 mod signal;
 mod telling;

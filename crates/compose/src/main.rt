@@ -1,4 +1,5 @@
 // Composes a telegram out of a text file of values and marks.
+#![tactic(auto)]
 ghost use Rattle.std.specs.Prelude.{◌≡◌, ◌≤◌, length};
 
 mod place;

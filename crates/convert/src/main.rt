@@ -1,4 +1,5 @@
 // Moves a signal list to the other form, with serial numbers or without, into a new file.
+#![tactic(auto)]
 use gateway::{Counts, EntryOutcome, FORM_1, FORM_2, Judged, LONGEST, Outcome, Refusal};
 use libc::STDOUT_FILENO;
 use saying::Line;

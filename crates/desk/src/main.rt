@@ -1,4 +1,5 @@
 // What a driver sees: each side of the train locked, open or not known, and the vehicles that hold it up, each with its reason.
+#![tactic(auto)]
 use doors::{Doors, Side, State, SummaryOutcome};
 use gateway::{Found, LONGEST, ReadOutcome, STORE, VEHICLES};
 use libc::STDOUT_FILENO;

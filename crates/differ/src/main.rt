@@ -1,4 +1,5 @@
 // Which gateway believes what: one store, or each gateway's own, read by two gateways' lists, side by side.
+#![tactic(auto)]
 ghost use Rattle.std.specs.Prelude.{◌≤◌};
 
 use gateway::{

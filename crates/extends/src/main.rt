@@ -1,4 +1,5 @@
 // Says in one line whether the signal list at its second path extends the one at its first.
+#![tactic(auto)]
 use gateway::{ExtendsOutcome, LONGEST};
 use libc::STDOUT_FILENO;
 

@@ -2,6 +2,7 @@
 //
 // One guard stands before everything that a program writes (`begin`): a file is replaced only where it is a plain one, is not given as
 // another argument, may be written, and has one name alone. What its octets may be is the program's to say (`words::may_replace`).
+#![tactic(auto)]
 mod error;
 mod facts;
 mod lock;

@@ -1,4 +1,5 @@
 // Judges the signal list whose path is its argument, under a profile where one is named, and says in one line what was found.
+#![tactic(auto)]
 use gateway::{Counts, Judged, LONGEST, Profile};
 use libc::STDOUT_FILENO;
 use saying::Line;

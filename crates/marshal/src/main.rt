@@ -1,4 +1,5 @@
 // Marshals routed signals out of a store into a file of vehicle bus data, and shows each route.
+#![tactic(auto)]
 use files::Rules;
 use gateway::{
     Counts, EntryOutcome, Judged, LONGEST, Marshalled, ReadOutcome, Reading, Refusal, Route,

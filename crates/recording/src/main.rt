@@ -1,4 +1,5 @@
 // Judges a supplier's recording of marshalling step by step, and names the first wrong bit.
+#![tactic(auto)]
 mod pieces;
 mod telling;
 

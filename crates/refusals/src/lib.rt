@@ -1,4 +1,6 @@
 // The refusals of document 01: its number, and what it carries. A new one is a line here; its words for people stand in `words`.
+#![tactic(auto)]
+
 ghost use Rattle.std.specs.Prelude.{◌≡◌, ◌+◌, ◌^◌, ◌<◌};
 ghost use Rattle.refusals.specs.Refusal.{number_of, carried_of};
 

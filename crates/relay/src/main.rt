@@ -1,4 +1,5 @@
 // A gateway in the middle: what a vehicle was heard saying, composed anew under the gateway's own list.
+#![tactic(auto)]
 use gateway::{EntryOutcome, HeldOutcome, Judged, LONGEST, Outcome, ReadOutcome, STORE};
 use libc::STDOUT_FILENO;
 use saying::{Clock, Number};

@@ -1,4 +1,5 @@
 // Shows the remedy texts of a telegram 8.8A by their keys, or prints the text file that `write_remedies` writes it from.
+#![tactic(auto)]
 ghost use Rattle.io.specs.Counts.{IsPrefixLen};
 
 mod sheet;

@@ -1,5 +1,6 @@
 // How the programs say something and how they are spoken to: lines in columns, words and numbers as arguments, and lines of words in a text file.
 // No function that a program's input reaches has a `requires`.
+#![tactic(auto)]
 mod argument;
 mod line;
 mod page;

@@ -1,4 +1,5 @@
 // Marks in a store file, as expired, what is too old for any time limit.
+#![tactic(auto)]
 ghost use Rattle.std.specs.Prelude.{◌≤◌, ◌<◌};
 
 use files::Rules;

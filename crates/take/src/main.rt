@@ -1,4 +1,5 @@
 // Takes a telegram of a vehicle into a store file, or makes a new store.
+#![tactic(auto)]
 use files::Rules;
 use gateway::{HeldOutcome, Outcome, Refusal, STORE, TELEGRAM};
 use libc::STDOUT_FILENO;

@@ -1,4 +1,5 @@
 // Writes a telegram 8.8A, with remedy texts, out of a text file.
+#![tactic(auto)]
 mod text;
 mod why;
 
