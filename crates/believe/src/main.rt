@@ -9,7 +9,7 @@ use saying::{Clock, Line, Number, Page};
 use words::Totals;
 
 // How much is asked: with 3 words every vehicle, with 4 one, with 5 one signal of it; as lines for people, or as a table.
-#[derive(Drop)]
+#[derive(Clone, Copy)]
 struct Asked {
     words: usize,
     clock: u32,

@@ -11,7 +11,7 @@ const LEADING: u8 = 1;
 
 const LED: u8 = 8;
 
-#[derive(Drop)]
+#[derive(Clone, Copy)]
 pub struct Given {
     pub ok: bool,
     pub table: bool,

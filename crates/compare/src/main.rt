@@ -10,7 +10,7 @@ use libc::STDOUT_FILENO;
 use saying::Page;
 
 // What judging a list gives the program to go on with.
-#[derive(Drop)]
+#[derive(Clone, Copy)]
 enum Accepted {
     With(Counts),
     Not,

@@ -11,7 +11,7 @@ use saying::{Line, Page, empty, put, say, say_tab};
 const PAST_ROUTES: usize = 2048;
 
 // A route as one list has it, if it does, with its signal there.
-#[derive(Drop)]
+#[derive(Clone, Copy)]
 struct Routed {
     there: bool,
     start: usize,

@@ -10,7 +10,7 @@ use saying::{Line, Page, empty, put, say, say_number, say_tab};
 const PAST_CODES: usize = 65536;
 
 // A signal as one list has it, if it does.
-#[derive(Drop)]
+#[derive(Clone, Copy)]
 pub struct Side {
     pub there: bool,
     pub signal: Signal,

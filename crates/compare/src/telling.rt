@@ -4,7 +4,7 @@ use libc::STDOUT_FILENO;
 use saying::{Line, Page, empty, put, say, say_number};
 
 // What is compared, and how it is told.
-#[derive(Drop)]
+#[derive(Clone, Copy)]
 pub struct Asked {
     pub first_form: u8,
     pub second_form: u8,
@@ -15,7 +15,7 @@ pub struct Asked {
     pub column: usize,
 }
 
-#[derive(Drop)]
+#[derive(Clone, Copy)]
 pub enum Change {
     Added,
     Removed,
@@ -23,7 +23,7 @@ pub enum Change {
 }
 
 // What a number is, which says how it is shown.
-#[derive(Drop)]
+#[derive(Clone, Copy)]
 pub enum Field {
     Number,
     Check,

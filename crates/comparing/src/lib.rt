@@ -23,7 +23,7 @@ use refusals::Refusal;
 
 // A key (of signals type * 1024 + start, of routes the destination) with the entry of each list that has it, the number of its entries where a
 // list has none; and the rule of extending that the two break, 0 for none.
-#[derive(Drop)]
+#[derive(Clone, Copy)]
 pub struct Changed {
     pub key: usize,
     pub first: usize,
@@ -31,14 +31,14 @@ pub struct Changed {
     pub breaks: usize,
 }
 
-#[derive(Drop)]
+#[derive(Clone, Copy)]
 pub enum NextChanged {
     There(Changed),
     Nowhere,
 }
 
 // The next, if there is one, or the refusal of the first of the two lists that is refused.
-#[derive(Drop)]
+#[derive(Clone, Copy)]
 pub enum Changes {
     Changed(Changed),
     NoMore,
@@ -47,19 +47,19 @@ pub enum Changes {
 }
 
 // Codes, from `low` to `high`.
-#[derive(Drop)]
+#[derive(Clone, Copy)]
 pub struct Range {
     pub low: usize,
     pub high: usize,
 }
 
-#[derive(Drop)]
+#[derive(Clone, Copy)]
 pub enum NextRange {
     From(Range),
     Nowhere,
 }
 
-#[derive(Drop)]
+#[derive(Clone, Copy)]
 pub enum Gained {
     Codes(Range),
     NoMore,
@@ -77,7 +77,7 @@ fn least(x: usize, y: usize) -> usize
 }
 
 // Codes of a signal that are all known, or all not, up to before `until`.
-#[derive(Drop)]
+#[derive(Clone, Copy)]
 struct Stretch {
     known: bool,
     until: usize,
@@ -203,7 +203,7 @@ fn keep_number(s: Signal, p: usize, t: Signal, q: usize, lost: bool) -> usize
 }
 
 // What is told of a signal that both lists have.
-#[derive(Drop)]
+#[derive(Clone, Copy)]
 struct Compared {
     differs: bool,
     breaks: usize,

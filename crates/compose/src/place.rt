@@ -4,7 +4,7 @@ ghost use Rattle.std.specs.Prelude.{◌≤◌};
 use saying::{Number, find, word};
 
 // A field that a line names; width 0 where it says the start alone.
-#[derive(Drop)]
+#[derive(Clone, Copy)]
 pub struct Field {
     pub ok: bool,
     pub start: usize,

@@ -9,7 +9,7 @@ ghost use Rattle.consist.specs.Vehicles.{octet_of, vehicle_as};
 use refusals::Refusal;
 use train::Resolved;
 
-#[derive(Drop)]
+#[derive(Clone, Copy)]
 pub struct Vehicle {
     pub leading: bool,
     pub coach: bool,
@@ -32,7 +32,7 @@ fn octet(v: Vehicle) -> u8
 }
 
 // The octets of up to 63 entries, and zeros after them.
-#[derive(Drop)]
+#[derive(Clone, Copy)]
 struct Octets {
     at: [u8; 63],
 }

@@ -5,7 +5,7 @@ use libc::STDOUT_FILENO;
 use saying::Line;
 
 // The serial numbers of a list that are set: the first one's signal, and how many.
-#[derive(Drop)]
+#[derive(Clone, Copy)]
 struct Serials {
     first: usize,
     count: usize,

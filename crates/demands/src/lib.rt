@@ -10,7 +10,7 @@ use reading::ReadOutcome;
 use refusals::Outcome;
 
 // What each of the four calls answers.
-#[derive(Drop)]
+#[derive(Clone, Copy)]
 pub struct Answers {
     pub composed: Outcome,
     pub taken: Outcome,
@@ -50,7 +50,7 @@ pub fn told(
 }
 
 // What two takings answer, in the order in which they are made.
-#[derive(Drop)]
+#[derive(Clone, Copy)]
 pub struct Both {
     pub one: Outcome,
     pub two: Outcome,
@@ -73,7 +73,7 @@ pub fn take_both(
 }
 
 // What two marshallings answer that are asked the same.
-#[derive(Drop)]
+#[derive(Clone, Copy)]
 pub struct Twice {
     pub once: Marshalled,
     pub again: Marshalled,
@@ -88,7 +88,7 @@ pub fn marshal_twice(list: &[u8], form: u8, store: &[u8], clock: u32, bus: &mut 
 }
 
 // What the gateway in the middle answers, and what its telegram is answered by the last reader.
-#[derive(Drop)]
+#[derive(Clone, Copy)]
 pub struct Passed {
     pub relayed: Outcome,
     pub taken: Outcome,

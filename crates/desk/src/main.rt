@@ -13,7 +13,7 @@ const LEFT: usize = 156;
 
 const RIGHT: usize = 157;
 
-#[derive(Drop)]
+#[derive(Clone, Copy)]
 struct Asked {
     form: u8,
     clock: u32,

@@ -10,7 +10,7 @@ use libc::STDOUT_FILENO;
 use saying::{Clock, Line, Number, Page};
 
 // A signal as one gateway reads it, if its list has it.
-#[derive(Drop)]
+#[derive(Clone, Copy)]
 struct Side {
     there: bool,
     kind: usize,
@@ -25,14 +25,14 @@ struct Side {
 }
 
 // What judging a list gives the program to go on with.
-#[derive(Drop)]
+#[derive(Clone, Copy)]
 enum Accepted {
     With(Counts),
     Not,
 }
 
 // What is asked: of one vehicle or of all; only the lines that differ; as lines for people, or as a table; the form of each list.
-#[derive(Drop)]
+#[derive(Clone, Copy)]
 struct Asked {
     clock: u32,
     // whether the second gateway has a store of its own, and the clock at which it is read
@@ -50,7 +50,7 @@ struct Asked {
 }
 
 // The lines, and how many of them differ.
-#[derive(Drop)]
+#[derive(Clone, Copy)]
 struct Count {
     lines: u64,
     differ: u64,

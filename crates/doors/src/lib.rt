@@ -14,7 +14,7 @@ ghost use Rattle.doors.specs.Doors.{in_set, door_answer, door_on, state_as, said
 
 use gateway::{Counts, EntryOutcome, Found, GapOutcome, Judged, ReadOutcome, Refusal, Resolved};
 
-#[derive(Drop)]
+#[derive(Clone, Copy)]
 pub enum State {
     Locked,
     Open,
@@ -22,27 +22,27 @@ pub enum State {
 }
 
 // What is said of one side, and which vehicles kept it from saying locked: bit v of the set is vehicle v, and size counts them.
-#[derive(Drop)]
+#[derive(Clone, Copy)]
 pub struct Side {
     pub state: State,
     pub kept: u64,
     pub size: u32,
 }
 
-#[derive(Drop)]
+#[derive(Clone, Copy)]
 pub struct Doors {
     pub left: Side,
     pub right: Side,
 }
 
-#[derive(Drop)]
+#[derive(Clone, Copy)]
 pub enum SummaryOutcome {
     Doors(Doors),
     Refused(Refusal),
 }
 
 // The number of a door signal in the list.
-#[derive(Drop)]
+#[derive(Clone, Copy)]
 enum Door {
     At(usize),
     Missing,

@@ -54,14 +54,14 @@ use gateway::{
 
 // A call that only writes.
 #[repr(C)]
-#[derive(Drop)]
+#[derive(Clone, Copy)]
 pub struct DfOutcome {
     pub refusal: u32,
     pub carried: u64,
 }
 
 #[repr(C)]
-#[derive(Drop)]
+#[derive(Clone, Copy)]
 pub struct DfJudged {
     pub refusal: u32,
     pub carried: u64,
@@ -74,7 +74,7 @@ pub struct DfJudged {
 
 // which: 1 the first list was refused, 2 the second; extends: 1 yes, 0 no.
 #[repr(C)]
-#[derive(Drop)]
+#[derive(Clone, Copy)]
 pub struct DfExtending {
     pub refusal: u32,
     pub which: u32,
@@ -84,7 +84,7 @@ pub struct DfExtending {
 
 // which: as above; found: 1 a difference, 0 there is none more; breaks: the rule of extending that it breaks, 0 for none.
 #[repr(C)]
-#[derive(Drop)]
+#[derive(Clone, Copy)]
 pub struct DfChange {
     pub refusal: u32,
     pub which: u32,
@@ -98,7 +98,7 @@ pub struct DfChange {
 
 // Codes, from low to high.
 #[repr(C)]
-#[derive(Drop)]
+#[derive(Clone, Copy)]
 pub struct DfRange {
     pub refusal: u32,
     pub which: u32,
@@ -110,7 +110,7 @@ pub struct DfRange {
 
 // A signal's entry, kind being the paper's type, and the place of its check, 0 for none.
 #[repr(C)]
-#[derive(Drop)]
+#[derive(Clone, Copy)]
 pub struct DfEntry {
     pub refusal: u32,
     pub carried: u64,
@@ -125,7 +125,7 @@ pub struct DfEntry {
 }
 
 #[repr(C)]
-#[derive(Drop)]
+#[derive(Clone, Copy)]
 pub struct DfFound {
     pub refusal: u32,
     pub carried: u64,
@@ -133,7 +133,7 @@ pub struct DfFound {
 }
 
 #[repr(C)]
-#[derive(Drop)]
+#[derive(Clone, Copy)]
 pub struct DfSerial {
     pub refusal: u32,
     pub carried: u64,
@@ -141,14 +141,14 @@ pub struct DfSerial {
 }
 
 #[repr(C)]
-#[derive(Drop)]
+#[derive(Clone, Copy)]
 pub struct DfGap {
     pub refusal: u32,
     pub gap: u32,
 }
 
 #[repr(C)]
-#[derive(Drop)]
+#[derive(Clone, Copy)]
 pub struct DfMarshalled {
     pub refusal: u32,
     pub carried: u64,
@@ -156,14 +156,14 @@ pub struct DfMarshalled {
 }
 
 #[repr(C)]
-#[derive(Drop)]
+#[derive(Clone, Copy)]
 pub struct DfPlace {
     pub refusal: u32,
     pub place: u64,
 }
 
 #[repr(C)]
-#[derive(Drop)]
+#[derive(Clone, Copy)]
 pub struct DfReading {
     pub refusal: u32,
     pub reason: u32,
@@ -172,7 +172,7 @@ pub struct DfReading {
 }
 
 #[repr(C)]
-#[derive(Drop)]
+#[derive(Clone, Copy)]
 pub struct DfShown {
     pub refusal: u32,
     pub reason: u32,
@@ -183,7 +183,7 @@ pub struct DfShown {
 }
 
 #[repr(C)]
-#[derive(Drop)]
+#[derive(Clone, Copy)]
 pub struct DfMembers {
     pub refusal: u32,
     pub size: u32,
@@ -192,7 +192,7 @@ pub struct DfMembers {
 
 // found: 1 a row of table E.1, 0 there is none of this number; level: 0 gateway, 1 vehicle; its place; holds: 1 the bit is set.
 #[repr(C)]
-#[derive(Drop)]
+#[derive(Clone, Copy)]
 pub struct DfProperty {
     pub found: u32,
     pub level: u32,
@@ -203,7 +203,7 @@ pub struct DfProperty {
 
 // vehicles: how many marks were written.
 #[repr(C)]
-#[derive(Drop)]
+#[derive(Clone, Copy)]
 pub struct DfChristened {
     pub refusal: u32,
     pub vehicles: u64,
@@ -211,7 +211,7 @@ pub struct DfChristened {
 
 // left, right: 0 not known, 1 locked, 2 open; the vehicles that kept the side from locked, as in DfMembers.
 #[repr(C)]
-#[derive(Drop)]
+#[derive(Clone, Copy)]
 pub struct DfDoors {
     pub refusal: u32,
     pub left: u32,
@@ -226,7 +226,7 @@ pub struct DfDoors {
 // right: 1 the data after are what our rules give, 0 refused, or a bit is wrong: bit 0-7 of this octet from 0 is the first; in_route: 1 it lies in this route, whose
 // reading has this reason, 0 in none.
 #[repr(C)]
-#[derive(Drop)]
+#[derive(Clone, Copy)]
 pub struct DfChecked {
     pub refusal: u32,
     pub right: u32,
@@ -239,7 +239,7 @@ pub struct DfChecked {
 }
 
 #[repr(C)]
-#[derive(Drop)]
+#[derive(Clone, Copy)]
 pub struct DfERead {
     pub refusal: u32,
     pub code: u32,
@@ -249,7 +249,7 @@ pub struct DfERead {
 
 // What a telegram with remedy texts says beside its blocks; ordered: octet 23.
 #[repr(C)]
-#[derive(Drop)]
+#[derive(Clone, Copy)]
 pub struct DfRemedies {
     pub refusal: u32,
     pub language: u32,
@@ -259,7 +259,7 @@ pub struct DfRemedies {
 
 // found: 1 a block, 0 there is none more; at, size: where its text stands in the telegram, counted from 0, and its octets.
 #[repr(C)]
-#[derive(Drop)]
+#[derive(Clone, Copy)]
 pub struct DfRemedy {
     pub refusal: u32,
     pub found: u32,
@@ -270,7 +270,7 @@ pub struct DfRemedy {
 
 // size: the octets that were written.
 #[repr(C)]
-#[derive(Drop)]
+#[derive(Clone, Copy)]
 pub struct DfWrote {
     pub refusal: u32,
     pub size: u64,

@@ -20,7 +20,7 @@ pub const ROUTE_SIZE: usize = 6;
 // The greatest width of a field.
 pub const WIDEST: usize = 64;
 
-#[derive(Drop)]
+#[derive(Clone, Copy)]
 pub struct Signal {
     pub start: usize,
     pub width: usize,
@@ -32,14 +32,14 @@ pub struct Signal {
     pub replacement: u64,
 }
 
-#[derive(Drop)]
+#[derive(Clone, Copy)]
 pub struct Code {
     pub signal: usize,
     pub low: usize,
     pub high: usize,
 }
 
-#[derive(Drop)]
+#[derive(Clone, Copy)]
 pub struct Route {
     pub signal: usize,
     pub vehicle: usize,

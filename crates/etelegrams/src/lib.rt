@@ -8,14 +8,14 @@ ghost use Rattle.refusals.specs.Outcome.{Written};
 use refusals::{Outcome, Refusal};
 
 // What a telegram says: its code, whether that is a report's, and octet 9.
-#[derive(Drop)]
+#[derive(Clone, Copy)]
 pub struct EReading {
     pub code: u16,
     pub report: bool,
     pub status: u8,
 }
 
-#[derive(Drop)]
+#[derive(Clone, Copy)]
 pub enum ERead {
     Read(EReading),
     Refused(Refusal),

@@ -14,7 +14,7 @@ use lists::{Counts, Judged};
 use refusals::Refusal;
 
 // Whether B extends A, or the refusal of the first of the two that is refused.
-#[derive(Drop)]
+#[derive(Clone, Copy)]
 pub enum ExtendsOutcome {
     Yes,
     No,

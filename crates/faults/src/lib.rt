@@ -13,7 +13,7 @@ use lists::{MOST_CHECKS, MOST_CODES, MOST_ROUTES, MOST_SIGNALS, Section};
 
 // The entry at fault: its section, from 1, its number in it, from 0, and the first rule that it breaks, from 1; the number of the signal that it is or
 // names, with its type and field, all 0 where there is none (of a check: no signal, its own two bits); its offset in the list.
-#[derive(Drop)]
+#[derive(Clone, Copy)]
 pub struct Fault {
     pub section: usize,
     pub index: usize,
@@ -25,7 +25,7 @@ pub struct Fault {
     pub at: usize,
 }
 
-#[derive(Drop)]
+#[derive(Clone, Copy)]
 pub enum FaultOutcome {
     Entry(Fault),
     NoEntry,

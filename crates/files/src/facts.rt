@@ -6,7 +6,7 @@ use libc::PATH_MAX;
 use libc::types::{stat, timespec};
 
 // The number of the error where nothing is known of it, 0 where the rest is.
-#[derive(Drop)]
+#[derive(Clone, Copy)]
 pub struct Found {
     pub error: i32,
     pub mode: u32,

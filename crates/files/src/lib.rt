@@ -17,14 +17,14 @@ use path::beside;
 pub use path::{put_at, target_of};
 
 // How many octets were read; not ok where the file could not be read, which an error line has said.
-#[derive(Drop)]
+#[derive(Clone, Copy)]
 pub struct Input {
     pub octets: usize,
     pub ok: bool,
 }
 
 // What a program may write over: a file that is there, or a name that is free, and not the files of the two arguments (0 is none).
-#[derive(Drop)]
+#[derive(Clone, Copy)]
 pub struct Rules {
     pub is_old: bool,
     pub is_new: bool,

@@ -18,14 +18,14 @@ const MOST: usize = 3000;
 const PIDS: u64 = 2147483647;
 
 // Which process a lock names, 0 where it names none, and whether that one is gone.
-#[derive(Drop)]
+#[derive(Clone, Copy)]
 pub struct Owner {
     pub pid: u64,
     pub is_gone: bool,
 }
 
 // How the waiting goes: not over while others are at work, and an error's number where the lock can't be had at all.
-#[derive(Drop)]
+#[derive(Clone, Copy)]
 pub struct Waiting {
     pub is_over: bool,
     pub has: bool,

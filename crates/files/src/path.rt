@@ -10,7 +10,7 @@ const LAST: usize = PATH_MAX - 1;
 const LINKS: usize = 40;
 
 // A path of so many octets, and whether a link led there.
-#[derive(Drop)]
+#[derive(Clone, Copy)]
 struct Led {
     octets: usize,
     is_link: bool,

@@ -18,25 +18,25 @@ use refusals::Refusal;
 pub const PAST_KEYS: usize = 3072;
 
 // A signal, and the place of its check, 0 for none.
-#[derive(Drop)]
+#[derive(Clone, Copy)]
 pub struct Entry {
     pub signal: Signal,
     pub place: usize,
 }
 
-#[derive(Drop)]
+#[derive(Clone, Copy)]
 pub enum EntryOutcome {
     Entry(Entry),
     Refused(Refusal),
 }
 
-#[derive(Drop)]
+#[derive(Clone, Copy)]
 pub enum Found {
     At(usize),
     Refused(Refusal),
 }
 
-#[derive(Drop)]
+#[derive(Clone, Copy)]
 pub enum RouteOutcome {
     Route(Route),
     NoRoute,
@@ -44,7 +44,7 @@ pub enum RouteOutcome {
 }
 
 // A signal that a search by key reached, with its key; past the last, with PAST_KEYS.
-#[derive(Drop)]
+#[derive(Clone, Copy)]
 pub struct Reached {
     pub at: usize,
     pub key: usize,

@@ -12,7 +12,7 @@ use entries::{CHECK_SIZE, SERIAL_SIZE, SIGNAL_SIZE};
 use lists::{Counts, FORM_1, FORM_2, Judged};
 use refusals::{Outcome, Refusal};
 
-#[derive(Drop)]
+#[derive(Clone, Copy)]
 pub enum SerialOutcome {
     Serial(usize),
     Refused(Refusal),

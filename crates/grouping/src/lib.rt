@@ -7,14 +7,14 @@ ghost use Rattle.grouping.specs.Place.{place_answer};
 use refusals::Refusal;
 
 // A check place and the bits that it covers, from `from` up to and without `end`, all bit addresses.
-#[derive(Drop)]
+#[derive(Clone, Copy)]
 pub struct Row {
     pub place: usize,
     pub from: u64,
     pub end: u64,
 }
 
-#[derive(Drop)]
+#[derive(Clone, Copy)]
 pub enum Place {
     At(usize),
     Refused(Refusal),

@@ -5,7 +5,7 @@ use libc::STDOUT_FILENO;
 use saying::Line;
 
 // The rules that a list is judged by: the general ones, and those of a profile behind them.
-#[derive(Drop)]
+#[derive(Clone, Copy)]
 enum Rules {
     General,
     Of(Profile),

@@ -13,7 +13,7 @@ use entries::Code;
 use lists::Counts;
 
 // The code entries of a signal: from `from` to before `to`.
-#[derive(Drop)]
+#[derive(Clone, Copy)]
 pub struct Span {
     pub from: usize,
     pub to: usize,

@@ -40,7 +40,7 @@ pub const LONGEST: usize = 8
     + ROUTE_SIZE * MOST_ROUTES;
 
 // What an accepted list is reported with.
-#[derive(Drop)]
+#[derive(Clone, Copy)]
 pub struct Counts {
     pub checks: usize,
     pub signals: usize,
@@ -52,14 +52,14 @@ pub struct Counts {
 }
 
 // The answer for a list.
-#[derive(Drop)]
+#[derive(Clone, Copy)]
 pub enum Judged {
     Accepted(Counts),
     Refused(Refusal),
 }
 
 // The answer for a section's count: how many entries are present.
-#[derive(Drop)]
+#[derive(Clone, Copy)]
 pub enum Section {
     Entries(usize),
     Refused(Refusal),

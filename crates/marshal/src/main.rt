@@ -12,7 +12,7 @@ use words::Written;
 const MOST: usize = 4096;
 
 // What is asked beside the files: the clock, lines for the routes or a table of them, bus data of a telegram's length, and the list's form.
-#[derive(Drop)]
+#[derive(Clone, Copy)]
 struct Order {
     clock: u32,
     routes: bool,

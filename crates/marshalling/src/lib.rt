@@ -13,7 +13,7 @@ use known::Span;
 use lists::{Counts, Judged};
 use refusals::Refusal;
 
-#[derive(Drop)]
+#[derive(Clone, Copy)]
 pub enum Marshalled {
     // How many routes had reason 0 or 1.
     Live(usize),

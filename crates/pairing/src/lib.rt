@@ -11,21 +11,21 @@ use lists::{Counts, Judged};
 use refusals::Refusal;
 
 // A key, type * 1024 + start, with the signal of each list that has it; the number of its signals where a list has none.
-#[derive(Drop)]
+#[derive(Clone, Copy)]
 pub struct Pair {
     pub key: usize,
     pub first: usize,
     pub second: usize,
 }
 
-#[derive(Drop)]
+#[derive(Clone, Copy)]
 pub enum NextPair {
     Paired(Pair),
     NoMore,
 }
 
 // The next pair, if there is one, or the refusal of the first of the two lists that is refused.
-#[derive(Drop)]
+#[derive(Clone, Copy)]
 pub enum Pairing {
     Pair(Pair),
     NoMore,

@@ -19,7 +19,7 @@ use lists::{Counts, Judged};
 use refusals::Refusal;
 
 // Whose controllers: both allow 64 signals, limits to 5,000 ms and 16 octets of data.
-#[derive(Drop)]
+#[derive(Clone, Copy)]
 pub enum Profile {
     PlainCoach,
     DrivingTrailer,

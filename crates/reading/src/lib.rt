@@ -18,13 +18,13 @@ use lists::{Counts, Judged};
 use refusals::{Outcome, Refusal};
 
 // A value and the paper's number of the reason it is given for.
-#[derive(Drop)]
+#[derive(Clone, Copy)]
 pub struct Reading {
     pub value: u64,
     pub reason: u8,
 }
 
-#[derive(Drop)]
+#[derive(Clone, Copy)]
 pub enum ReadOutcome {
     Read(Reading),
     Refused(Refusal),

@@ -8,7 +8,7 @@ use libc::STDOUT_FILENO;
 use pieces::{Area, Head, Listed, Next, ROOM, Step, first};
 
 // How far the judging is: so many steps accepted, and so many octets in the last one's data after.
-#[derive(Drop)]
+#[derive(Clone, Copy)]
 struct Course {
     steps: usize,
     last: usize,

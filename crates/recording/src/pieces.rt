@@ -12,20 +12,20 @@ pub const ROOM: usize = 65536;
 pub type Area = [u8; ROOM];
 
 // What stands before the steps: the form of the list, and how many octets it has.
-#[derive(Drop)]
+#[derive(Clone, Copy)]
 pub struct Listed {
     pub form: u8,
     pub octets: usize,
 }
 
-#[derive(Drop)]
+#[derive(Clone, Copy)]
 pub enum Head {
     List(Listed),
     Not,
 }
 
 // A step: its clock, and how many octets its areas have.
-#[derive(Drop)]
+#[derive(Clone, Copy)]
 pub struct Step {
     pub clock: u32,
     pub store: usize,
@@ -33,7 +33,7 @@ pub struct Step {
     pub after: usize,
 }
 
-#[derive(Drop)]
+#[derive(Clone, Copy)]
 pub enum Next {
     Step(Step),
     End,

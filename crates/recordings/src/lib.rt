@@ -22,7 +22,7 @@ pub const MOST_STEPS: usize = 1000;
 
 // The first wrong bit: its octet, counted from 0, and its place in it, 0 to 7. Whether it lies in a route, and then the route's number and the reason of
 // what the route reads; both are 0 where it lies in none.
-#[derive(Drop)]
+#[derive(Clone, Copy)]
 pub struct WrongBit {
     pub octet: usize,
     pub bit: usize,
@@ -31,7 +31,7 @@ pub struct WrongBit {
     pub reason: u8,
 }
 
-#[derive(Drop)]
+#[derive(Clone, Copy)]
 pub enum Checked {
     Right,
     Wrong(WrongBit),
@@ -39,14 +39,14 @@ pub enum Checked {
 }
 
 // A bit by its octet and its place in it, as 8 times a length may not fit. Past the last octet: none.
-#[derive(Drop)]
+#[derive(Clone, Copy)]
 struct Spot {
     octet: usize,
     bit: usize,
 }
 
 // Where the field of a route ends, and the first wrong bit before that; `end` where there is none.
-#[derive(Drop)]
+#[derive(Clone, Copy)]
 struct Reach {
     at: usize,
     end: usize,

@@ -10,14 +10,14 @@ ghost use Rattle.records.specs.Records.{pair_of, level_as, below32, coach_of, tr
 
 use refusals::Refusal;
 
-#[derive(Drop)]
+#[derive(Clone, Copy)]
 pub enum Level {
     Gateway,
     Vehicle,
 }
 
 // A row of table E.1, its level and its place, and whether its property holds.
-#[derive(Drop)]
+#[derive(Clone, Copy)]
 pub struct Property {
     pub level: Level,
     pub octet: u8,
@@ -25,14 +25,14 @@ pub struct Property {
     pub holds: bool,
 }
 
-#[derive(Drop)]
+#[derive(Clone, Copy)]
 pub enum PropertyRead {
     Row(Property),
     NoRow,
 }
 
 // How many vehicles, whose marks were written.
-#[derive(Drop)]
+#[derive(Clone, Copy)]
 pub enum Christened {
     Vehicles(usize),
     Refused(Refusal),
@@ -234,7 +234,7 @@ fn is_set(octets: &[u8], o: usize, b: usize) -> bool
 }
 
 // A row's level and place.
-#[derive(Drop)]
+#[derive(Clone, Copy)]
 struct Placed {
     level: Level,
     octet: u8,
@@ -334,7 +334,7 @@ fn mark_octet(octets: &[u8], pair: u8) -> u8
 }
 
 // The mark octets of up to 63 vehicles, and zeros after them.
-#[derive(Drop)]
+#[derive(Clone, Copy)]
 struct Marks {
     at: [u8; 63],
 }

@@ -4,7 +4,7 @@
 ghost use Rattle.std.specs.Prelude.{◌≡◌, ◌+◌, ◌^◌, ◌<◌};
 ghost use Rattle.refusals.specs.Refusal.{number_of, carried_of};
 
-#[derive(Drop)]
+#[derive(Clone, Copy)]
 pub struct Refusal(pub u8, pub usize);
 
 // The numbers that carry something: 1-4 and 34 the offset of the count, of the entry or of the first octet too many, 15 the signal at fault.
@@ -112,7 +112,7 @@ pub fn shifted(f: Refusal, by: usize) -> Refusal
 }
 
 // The answer of a call that writes into what it was lent and has nothing else to give.
-#[derive(Drop)]
+#[derive(Clone, Copy)]
 pub enum Outcome {
     Done,
     Refused(Refusal),

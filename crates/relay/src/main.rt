@@ -4,7 +4,7 @@ use gateway::{EntryOutcome, HeldOutcome, Judged, LONGEST, Outcome, ReadOutcome, 
 use libc::STDOUT_FILENO;
 use saying::{Clock, Number};
 
-#[derive(Drop)]
+#[derive(Clone, Copy)]
 struct Asked {
     clock: u32,
     vehicle: usize,
@@ -12,7 +12,7 @@ struct Asked {
 }
 
 // The signals that the telegram carries, and how many of them were live.
-#[derive(Drop)]
+#[derive(Clone, Copy)]
 struct Count {
     carried: u64,
     live: u64,

@@ -4,13 +4,13 @@ ghost use Rattle.saying.specs.Numbers.{goes_on, number_in};
 
 use crate::line::{Line, empty, print, put, say, say_number};
 
-#[derive(Drop)]
+#[derive(Clone, Copy)]
 pub enum Number {
     Is(u64),
     Not,
 }
 
-#[derive(Drop)]
+#[derive(Clone, Copy)]
 pub enum Clock {
     At(u32),
     Not,

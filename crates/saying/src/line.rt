@@ -2,7 +2,7 @@
 const ROOM: usize = 240;
 
 // One octet more than there is room for: the line's end.
-#[derive(Drop)]
+#[derive(Clone, Copy)]
 pub struct Line {
     pub at: usize,
     pub text: [u8; 241],

@@ -13,7 +13,7 @@ use reading::{ReadOutcome, Reading};
 use refusals::Refusal;
 
 // What a raw value is shown as; a percentage is unsigned or two's complement.
-#[derive(Drop)]
+#[derive(Clone, Copy)]
 pub enum Kind {
     Code,
     Speed,
@@ -23,7 +23,7 @@ pub enum Kind {
 }
 
 // A reading as shown: a code is a whole number, a scaled one an exact f32.
-#[derive(Drop)]
+#[derive(Clone, Copy)]
 pub enum Shown {
     Code(u64),
     Speed(f32),
@@ -32,13 +32,13 @@ pub enum Shown {
 }
 
 // With the reason that it was read with.
-#[derive(Drop)]
+#[derive(Clone, Copy)]
 pub struct ShownReading {
     pub shown: Shown,
     pub reason: u8,
 }
 
-#[derive(Drop)]
+#[derive(Clone, Copy)]
 pub enum Showing {
     Shown(ShownReading),
     Refused(Refusal),

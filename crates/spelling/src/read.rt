@@ -15,7 +15,7 @@ pub const ABOVE: u8 = 3;
 pub const ESCAPE: u8 = 4;
 
 // A character, and how many octets spell it; where there is none, why.
-#[derive(Drop)]
+#[derive(Clone, Copy)]
 pub struct Character {
     pub fault: u8,
     pub unit: u16,
@@ -23,7 +23,7 @@ pub struct Character {
 }
 
 // How many characters were read, how many octets of the output they have, and why there are no more: END where all are read.
-#[derive(Drop)]
+#[derive(Clone, Copy)]
 pub struct Reading {
     pub characters: usize,
     pub octets: usize,

@@ -34,7 +34,7 @@ pub const STORE: usize = VEHICLES * SLOT;
 
 // Type, version and age of what was last heard of a vehicle; 0 where nothing was. What is expired was heard, and its age is 0: the clock may
 // have come round since.
-#[derive(Drop)]
+#[derive(Clone, Copy)]
 pub struct Held {
     pub heard: bool,
     pub expired: bool,
@@ -44,14 +44,14 @@ pub struct Held {
     pub age: u32,
 }
 
-#[derive(Drop)]
+#[derive(Clone, Copy)]
 pub enum HeldOutcome {
     Held(Held),
     Refused(Refusal),
 }
 
 // Stamp less previous stamp, in ms.
-#[derive(Drop)]
+#[derive(Clone, Copy)]
 pub enum GapOutcome {
     Gap(u32),
     Refused(Refusal),

@@ -11,28 +11,28 @@ ghost use Rattle.texts.specs.Texts.{holds, fault_at, Fault, faults_of, head_hold
 use refusals::Refusal;
 
 // What a telegram says beside its blocks; ordered: octet 23, 1 where the language is the one ordered.
-#[derive(Drop)]
+#[derive(Clone, Copy)]
 pub struct Remedies {
     pub language: u16,
     pub ordered: u8,
     pub count: u8,
 }
 
-#[derive(Drop)]
+#[derive(Clone, Copy)]
 pub enum RemediesRead {
     Read(Remedies),
     Refused(Refusal),
 }
 
 // A block's key, and where its text stands: `size` octets, the first of them at `at`, counted from 0.
-#[derive(Drop)]
+#[derive(Clone, Copy)]
 pub struct Remedy {
     pub key: u8,
     pub at: usize,
     pub size: usize,
 }
 
-#[derive(Drop)]
+#[derive(Clone, Copy)]
 pub enum RemedyRead {
     Found(Remedy),
     Nothing,

@@ -9,7 +9,7 @@ ghost use Rattle.textwriting.specs.Writing.{handed_at, count_holds, front_of, ha
 use refusals::Refusal;
 
 // How many octets were written, from the first octet of the output on.
-#[derive(Drop)]
+#[derive(Clone, Copy)]
 pub enum Wrote {
     Octets(usize),
     Refused(Refusal),

@@ -7,13 +7,13 @@ ghost use Rattle.train.specs.Marks.{vehicle_of, led_ok, consist_ok, with_mark, a
 use refusals::Refusal;
 
 // The vehicles that meet an address: bit v of the set, worth 2^v, is vehicle v, and size counts them.
-#[derive(Drop)]
+#[derive(Clone, Copy)]
 pub struct Members {
     pub set: u64,
     pub size: u32,
 }
 
-#[derive(Drop)]
+#[derive(Clone, Copy)]
 pub enum Resolved {
     Members(Members),
     Refused(Refusal),

@@ -150,7 +150,7 @@ pub fn print_never(page: &mut Page, store: &[u8]) {
 }
 
 // How often each reason was given.
-#[derive(Drop)]
+#[derive(Clone, Copy)]
 pub struct Totals {
     pub of: [u64; 9],
 }

@@ -4,7 +4,7 @@ use gateway::{FORM_1, FORM_2, Judged, Outcome, RemediesRead, STORE};
 use saying::print_word;
 
 // What is written. `Anyway` are bus data too, of which the caller has said that they may be as long as a telegram.
-#[derive(Drop)]
+#[derive(Clone, Copy)]
 pub enum Written {
     Data,
     Anyway,

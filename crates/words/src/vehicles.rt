@@ -4,7 +4,7 @@ ghost use Rattle.std.specs.Prelude.{◌<◌, ◌≤◌};
 use gateway::VEHICLES;
 use saying::{Line, put, say_number};
 
-#[derive(Drop)]
+#[derive(Clone, Copy)]
 pub struct Vehicles {
     pub count: usize,
     // 1 for each that is among them; 0 and 64, beside the ends, are no vehicles.

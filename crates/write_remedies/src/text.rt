@@ -25,7 +25,7 @@ const ESCAPE: u8 = 8;
 pub type Area = [u8; 2304];
 
 // What the lines have given so far beside octets, keys and lengths. A language or an octet 23 that was not given is one that none can be.
-#[derive(Drop)]
+#[derive(Clone, Copy)]
 pub struct Given {
     pub fault: u8,
     pub language: u32,
