@@ -33,6 +33,18 @@ first_in_order : (group start : ℕ) → in_order 0 0 group start ≡ true
 first_in_order zero start = rw (le-leb 0 start (omega arith))
 first_in_order (suc group) start = rw (lt-ltb 0 (suc group) (omega arith))
 
+low_only : (t : Bool) → cond t true false ≡ (t || false)
+low_only true = refl
+low_only false = refl
+
+high_only : (t : Bool) → cond t false true ≡ not t
+high_only true = refl
+high_only false = refl
+
+neither_one : (t : Bool) → cond t false false ≡ false
+neither_one true = refl
+neither_one false = refl
+
 -- the type's, the place's and the named check's rules by the number of common checks
 module _ {checks : ℕ} {check : ℕ → ℕ} {common : ℕ} (parted : Parted checks check common) where
   named_by : (t : Bool) (c : ℕ) → cond t (leb c common) ((eqb c 0 || ltb common c) && leb c checks)
@@ -44,11 +56,11 @@ module _ {checks : ℕ} {check : ℕ → ℕ} {common : ℕ} (parted : Parted ch
       rw (z, ne_eqb (suc c) 0 (λ e. omega arith)) (elim (dec_lt c common) [
         | yes h ↦
             rw (le-leb (suc c) common (omega arith), le-ltb common (suc c) (omega arith), le-leb (suc c) checks (omega (arith, parted.within)), lt-ltb (check c) 320 (parted.low c h))
-            (elim t [ true ↦ refl | false ↦ refl ])
+            (low_only t)
         | no h ↦
             rw (lt-leb (suc c) common (omega arith), lt-ltb common (suc c) (omega arith)) (elim (dec_lt c checks) [
-              | yes lt ↦ rw (le-leb (suc c) checks (omega arith), le-ltb (check c) 320 (parted.high c (omega arith) lt)) (elim t [ true ↦ refl | false ↦ refl ])
-              | no ge ↦ rw (lt-leb (suc c) checks (omega arith)) (elim t [ true ↦ refl | false ↦ refl ])
+              | yes lt ↦ rw (le-leb (suc c) checks (omega arith), le-ltb (check c) 320 (parted.high c (omega arith) lt)) (high_only t)
+              | no ge ↦ rw (lt-leb (suc c) checks (omega arith)) (neither_one t)
             ])
       ])
 

@@ -8,8 +8,7 @@ use Rattle.paper.specs.Octets.{number, Octets}
 use Rattle.paper.specs.SignalList.{entry, code_size, code_at}
 use Rattle.paper.proofs.NumberLaws.{number_lt, number_split}
 use Rattle.entries.specs.Entries.{CodeRead}
-use Rattle.entries.proofs.code_at.Statement.{statement}
-use Rattle.entries.proofs.code_at.Tie as tie
+use Rattle.entries.proofs.code_at.Goals as goal
 
 read : (xs : List ℕ) → Octets xs → (k x : ℕ) → x ≡ number xs (code_size * k) 8
     → CodeRead xs k (record { signal = x / 2 ^ 32 % 65536; low = x / 2 ^ 16 % 65536; high = x % 65536 })
@@ -28,10 +27,7 @@ read xs o k x is =
     let high : x % 65536 ≡ number xs (at + 4) 2 = omega arith in
     record { is = rw (signal, low, high); signal_small = omega arith; low_small = omega arith; high_small = omega arith }
 
-returns : tie.Need-returns
+pub returns : goal.returns
 returns c =
-    let a = c.before.before.args in
-    read a.tail.now (λ i. (c.before.shared-slice-known.given i).fits) a.k _ c.read64.ensures.value
-
-pub code-at-spec : {M : Type 1} → statement M
-code-at-spec = tie.close (tie.spec (λ c. search rules) (λ c κs. search rules) returns)
+    let a = c.args in
+    read a.tail.now (λ i. (c.shared_slice_known-1.given i).fits) a.k _ c.read64-x.ensures.value
