@@ -1,0 +1,24 @@
+use Prim.Native.Nat.{◌-◌}
+use borrow.Author.Rules.{rules}
+use Rattle.paper.specs.SignalList.{check_at, check_rule}
+use Rattle.paper.proofs.LoopLaws.{Passed, passed_none, passed_more, fails_here, fails_nowhere}
+use mathlib.Core.Bool.{not}
+use mathlib.Core.Path.{ap}
+use Rattle.lists.proofs.first_bad_check.Goals as goal
+
+pub returns-then-not-check_rule : goal.returns-then-not-check_rule
+returns-then-not-check_rule c =
+    let t = c in
+    fails_here t.loop-k.invariant t.loop-k-test.true c.check_rule.ensures (ap not c.if-not-check_rule.true)
+
+pub loop-k-preserved : goal.loop-k-preserved
+loop-k-preserved c =
+    let t = c in
+    passed_more t.loop-k.invariant t.loop-k-test.true c.check_rule.ensures (ap not c.if-not-check_rule.false)
+
+pub returns : goal.returns
+returns c = fails_nowhere c.loop-k.invariant c.loop-k-test.false
+
+pub loop-k-init : goal.loop-k-init
+loop-k-init c =
+    passed_none _ _
