@@ -1,6 +1,7 @@
 // The store: one slot a vehicle, taking a telegram into it, the age of what it holds, the gap between its last two telegrams, and the sweep that
 // marks what is too old for any limit. The layout of a slot stands in this crate alone.
 #![tactic(auto)]
+
 ghost use Rattle.std.specs.Prelude.{◌≡◌, ◌<◌, ◌≤◌, length, take, drop, if◌then◌else◌};
 ghost use Rattle.paper.specs.Store.{vehicles, telegram_octets, slot_octets, store_octets, is_store, is_vehicle, slot_start, slot_from, slot_to, ever_heard, moved, taken, taking, age, gap, gapping, in_time, stale, swept_one, swept, sweeping, expired, timely};
 ghost use Rattle.paper.specs.Octets.{over};
