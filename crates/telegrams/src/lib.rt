@@ -1,5 +1,6 @@
 // R-telegrams: their types, lengths and heads, and which signals each type carries.
 #![tactic(auto)]
+
 ghost use Rattle.std.specs.Prelude.{◌≡◌, ◌<◌, ◌≤◌, length};
 ghost use Rattle.paper.specs.Telegrams.{application_type, telegram_type, is_type, version_of, type_length, carries};
 
