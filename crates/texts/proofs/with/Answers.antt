@@ -6,12 +6,7 @@ use native.Mathlib.Omega.{arith}
 use lib.Bits.{bit_or}
 use lib.Dec.{lit<}
 use lib.Pow.{shl_exact}
-use borrow.Author.Rules.{rules}
-use Rattle.texts.proofs.with.Statement.{statement}
-use Rattle.texts.proofs.with.Tie as tie
+use Rattle.texts.proofs.with.Goals as goal
 
-returns : tie.Need-returns
+pub returns : goal.returns
 returns c = ap (bit_or c.args.set) (shl_exact 1 (c.args.key - 1) 8 (lit< tt) (omega (arith, c.requires.0, c.requires.1)) ∙ one-mul (2 ^ (c.args.key - 1)))
-
-pub with-spec : {M : Type 1} → statement M
-with-spec = tie.close (tie.spec (λ c. search rules) (λ c. search rules) returns)
