@@ -1,4 +1,5 @@
 -- `known::entries_from` meets its contract. Assumes nothing.
+use borrow.Author.Rules.{rules}
 use Rattle.lists.specs.Judged.{counts_of}
 use Rattle.known.proofs.Laws.{laid_ordered, reach_next, own_from}
 use Rattle.known.proofs.entries_from.Goals as goal

@@ -1,4 +1,5 @@
 -- `known::entries_of` meets its contract. Assumes nothing.
+use borrow.Author.Rules.{rules}
 use Rattle.paper.specs.SignalList.{list_of}
 use Rattle.lists.specs.Judged.{counts_of}
 use Rattle.known.specs.Known.{Ordered}

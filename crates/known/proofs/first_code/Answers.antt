@@ -1,8 +1,9 @@
 use Prim.Native.Nat.{◌+◌, ◌-◌, ◌/◌}
 use mathlib.Core.Path.{◌≡◌, ap, ◌∙◌}
 use native.Mathlib.Omega.{arith}
+use borrow.Author.Rules.{rules}
 use Rattle.paper.specs.SignalList.{list_of}
-use Rattle.paper.specs.Search.{Rises}
+use Rattle.paper.specs.Search.{Between, Rises}
 use Rattle.paper.proofs.SearchLaws.{none_between, low_raised, high_lowered}
 use Rattle.lists.specs.Judged.{counts_of}
 use Rattle.known.specs.Known.{code_key, code_keys}

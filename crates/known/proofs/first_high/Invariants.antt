@@ -1,9 +1,14 @@
 -- `known::first_high` meets its contract: every entry that it looks at is of the signal. Assumes nothing.
-use Prim.Native.Nat.{◌+◌, ◌-◌, ◌*◌, ◌≤◌}
-use Rattle.paper.specs.SignalList.{list_of}
+use Prim.Native.Nat.{◌+◌, ◌-◌, ◌*◌, ◌/◌, ◌≤◌}
+use mathlib.Core.Path.{◌≡◌, ap}
+use native.Mathlib.Omega.{arith}
+use borrow.Author.Rules.{rules}
+use Rattle.paper.specs.SignalList.{Code, list_of}
 use Rattle.paper.specs.Search.{Between}
+use Rattle.paper.proofs.SearchLaws.{none_between, low_raised, high_lowered}
 use Rattle.lists.specs.Judged.{counts_of}
-use Rattle.known.specs.Known.{code_keys}
+use Rattle.known.specs.Known.{Ordered, code_keys}
+use Rattle.known.proofs.Laws.{codes_rise, laid_ordered, own_between}
 use Rattle.known.proofs.first_high.Given as goal
 
 abbrev pub invariant-loop-low : goal.invariant-loop-low

@@ -2,6 +2,7 @@
 use mathlib.Core.Path.{ap, ◌∙◌}
 use native.Mathlib.Omega.{arith}
 use lib.Dec.{leb}
+use borrow.Author.Rules.{rules}
 use Rattle.paper.specs.SignalList.{Code, list_of, knows as listKnows}
 use Rattle.lists.specs.Judged.{counts_of}
 use Rattle.known.specs.Known.{Ordered}

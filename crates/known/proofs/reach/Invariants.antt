@@ -1,8 +1,13 @@
 -- `known::reach` meets its contract. Assumes nothing.
 use Prim.Native.Nat.{◌-◌}
-use Rattle.paper.specs.SignalList.{list_of}
+use mathlib.Core.Path.{ap}
+use native.Mathlib.Omega.{arith}
+use borrow.Author.Rules.{rules}
+use Rattle.paper.specs.SignalList.{Code, list_of}
+use Rattle.paper.proofs.SearchLaws.{none_between}
 use Rattle.lists.specs.Judged.{counts_of}
 use Rattle.known.specs.Known.{From}
+use Rattle.known.proofs.Laws.{laid_ordered, reach_more, reach_here}
 use Rattle.known.proofs.reach.Given as goal
 
 abbrev pub invariant-loop-e : goal.invariant-loop-e
