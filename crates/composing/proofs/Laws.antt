@@ -10,7 +10,7 @@ use borrow.Author.Tests.{leb-true, eqb-true, not-false}
 use Rattle.paper.specs.Octets.{over}
 use Rattle.paper.specs.Answer.{gives, and_then}
 use Rattle.paper.specs.Telegrams.{type_length, mark_width}
-use Rattle.paper.specs.SignalList.{SignalList, Counts, judge, list_of, version}
+use Rattle.paper.specs.SignalList.{SignalList, Counts, judge, list_of}
 use Rattle.paper.specs.Composing.{writes_signal, writes_check, headed, composing_by, composing}
 use Rattle.paper.proofs.ListLaws.{version_here}
 use Rattle.paper.proofs.AnswerLaws.{not_refused, past, same_then}

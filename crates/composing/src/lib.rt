@@ -1,5 +1,6 @@
 // Composing an R-telegram from one value per signal and one mark per check. Every test comes before the first write.
 #![tactic(auto)]
+
 ghost use Rattle.std.specs.Prelude.{◌≡◌, true, cond, ◌+◌, ◌*◌, ◌<◌, length, leb};
 ghost use Rattle.paper.specs.Octets.{put, puts};
 ghost use Rattle.paper.specs.First.{first_bad};

@@ -11,7 +11,6 @@ use lib.Dec.{leb, eqb}
 use lib.Pow.{pow_mono}
 use borrow.Author.Count.{below_none, below_more}
 use borrow.Author.Tests.{le-leb, lt-leb, eq-eqb, ne_eqb}
-use Rattle.paper.specs.First.{some}
 use Rattle.paper.specs.Search.{Rises, Between, Cut}
 use Rattle.paper.proofs.SearchLaws.{onward}
 use Rattle.paper.specs.SignalList.{Code, SignalList, Counts, list_of, code_at, codes_part, has_codes, in_range, known_in}

@@ -1,6 +1,7 @@
 // Known codes: whether a signal knows a code under the list's code entries. The entries are in order, so those of a signal are found by
 // halving, or by going on from those of a signal before. What has a `requires` is inner: its caller in the library shows it.
 #![tactic(auto)]
+
 ghost use Rattle.std.specs.Prelude.{◌≡◌, ◌+◌, ◌*◌, ◌<◌};
 ghost use Rattle.paper.specs.SignalList.{list_of, knows as listKnows};
 ghost use Rattle.paper.specs.Accepted.{Laid};

@@ -1,0 +1,42 @@
+-- `reading::read_all_under` meets its contract. Assumes nothing.
+use mathlib.Core.Path.{◌≡◌, sym, ap, ◌∙◌}
+use mathlib.Core.Bool.{true, not}
+use borrow.Author.Rules.{rules}
+use borrow.Author.Tests.{eqb-true, leb-true, not-false}
+use Rattle.bools.proofs.Tests.{both}
+use Rattle.paper.specs.Answer.{refuse_if}
+use Rattle.paper.specs.Store.{is_store, is_vehicle}
+use Rattle.reading.proofs.Laws.{into_refused, into_done, as_long}
+use Rattle.reading.proofs.read_all_under.Goals as goal
+use Rattle.reading.proofs.read_all_under.Goals.{Else-not-is_store, Else-not-is_vehicle, Start}
+
+pub returns-then-not-is_store : goal.returns-then-not-is_store
+unfolding refuse_if
+returns-then-not-is_store c = into_refused _ _ _ _ (simp (ap not (sym c.is_store.ensures) ∙ (ap not c.if-not-is_store.true)))
+
+pub returns-then-not-is_vehicle : goal.returns-then-not-is_vehicle
+unfolding refuse_if
+returns-then-not-is_vehicle c = into_refused _ _ _ _ (simp ((let the_whole : is_store c.args.store.now ≡ true = sym c.is_store.ensures ∙ c.if-not-is_store.false in the_whole), ap not (sym c.is_vehicle.ensures) ∙ (ap not c.if-not-is_vehicle.true)))
+
+pub returns-then-not-is_room : goal.returns-then-not-is_room
+unfolding refuse_if
+returns-then-not-is_room c =
+    let v = c in
+    into_refused _ _ _ _ (simp ((let the_whole : is_store c.args.store.now ≡ true = sym c.is_store.ensures ∙ c.if-not-is_store.false in the_whole), (let the_numbered : is_vehicle c.args.vehicle ≡ true = sym c.is_vehicle.ensures ∙ c.if-not-is_vehicle.false in the_numbered), (ap not c.if-not-is_room.true)))
+
+pub read_each-requires : goal.read_each-requires
+read_each-requires c =
+    let i = c in
+    let v = i in
+    let e = v in
+    let n = both _ _ ((let the_numbered : is_vehicle c.args.vehicle ≡ true = sym c.is_vehicle.ensures ∙ c.if-not-is_vehicle.false in the_numbered)) in
+    record { laid = (c.requires, (as_long _ _ _ (ap not i.if-not-is_room.false)).0, (as_long _ _ _ (ap not i.if-not-is_room.false)).1); store_len = (eqb-true _ _ ((let the_whole : is_store c.args.store.now ≡ true = sym c.is_store.ensures ∙ c.if-not-is_store.false in the_whole)), leb-true _ _ n.0, leb-true _ _ n.1) }
+
+pub returns : goal.returns
+unfolding refuse_if
+returns c =
+    let r = c in
+    let i = r in
+    let v = i in
+    rw (r.read_each.ensures.value, r.read_each.ensures.reason)
+    (into_done _ _ _ _ (simp ((let the_whole : is_store c.args.store.now ≡ true = sym c.is_store.ensures ∙ c.if-not-is_store.false in the_whole), (let the_numbered : is_vehicle c.args.vehicle ≡ true = sym c.is_vehicle.ensures ∙ c.if-not-is_vehicle.false in the_numbered), (ap not i.if-not-is_room.false))))
