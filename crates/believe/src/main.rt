@@ -1,11 +1,12 @@
 // What a gateway believes: every signal of the vehicles heard, with place, value and reason.
 #![tactic(auto)]
+
+use files::Host;
 use gateway::{
     Entry, EntryOutcome, HeldOutcome, Judged, LONGEST, ReadOutcome, Reading, STORE, Signal,
     VEHICLES,
 };
-use libc::STDOUT_FILENO;
-use saying::{Clock, Line, Number, Page};
+use saying::{Clock, Line, Number, Page, STDOUT};
 use words::Totals;
 
 // How much is asked: with 3 words every vehicle, with 4 one, with 5 one signal of it; as lines for people, or as a table.
@@ -23,7 +24,7 @@ struct Asked {
 
 fn help() {
     io::write_all(
-        STDOUT_FILENO,
+        STDOUT,
         b"believe LIST STORE CLOCK [VEHICLE [SIGNAL]] [table] [form2]
 
 What a gateway with the signal list LIST believes at CLOCK of the vehicles in
@@ -245,14 +246,14 @@ fn judge(list: &[u8], store: &[u8], asked: Asked) {
     }
 }
 
-fn read_files(asked: Asked) {
+fn read_files(rt: &impl Host, asked: Asked) {
     let mut list = [0u8; LONGEST + 1];
-    let l = files::read(1, b"LIST", &mut list);
+    let l = files::read(rt, 1, b"LIST", &mut list);
     if !l.ok {
         return;
     }
     let mut store = [0u8; STORE + 1];
-    let s = files::read(2, b"STORE", &mut store);
+    let s = files::read(rt, 2, b"STORE", &mut store);
     if !s.ok {
         return;
     }
@@ -261,39 +262,42 @@ fn read_files(asked: Asked) {
     judge(&list[..n], &store[..m], asked);
 }
 
-fn ask(words: usize, table: bool, form: u8) {
-    let Clock::At(clock) = saying::clock_argument(3) else {
+fn ask(rt: &impl Host, words: usize, table: bool, form: u8) {
+    let Clock::At(clock) = saying::clock_argument(rt, 3) else {
         return;
     };
-    let Number::Is(vehicle) = saying::number_or(words, 4, b"VEHICLE", 1) else {
+    let Number::Is(vehicle) = saying::number_or(rt, words, 4, b"VEHICLE", 1) else {
         return;
     };
-    let Number::Is(signal) = saying::number_or(words, 5, b"SIGNAL", 0) else {
+    let Number::Is(signal) = saying::number_or(rt, words, 5, b"SIGNAL", 0) else {
         return;
     };
-    read_files(Asked {
-        words,
-        clock,
-        vehicle: vehicle as usize,
-        signal: signal as usize,
-        table,
-        form,
-        column: 0,
-    });
+    read_files(
+        rt,
+        Asked {
+            words,
+            clock,
+            vehicle: vehicle as usize,
+            signal: signal as usize,
+            table,
+            form,
+            column: 0,
+        },
+    );
 }
 
-fn main() {
-    let n = os::arg_count();
-    if saying::asks_help(n) {
+fn main(rt: HostRuntime) {
+    let n = saying::argument_count(&rt);
+    if saying::asks_help(&rt, n) {
         help();
         return;
     }
-    let table = saying::has_option(4, n, b"table");
-    let is_form_2 = saying::has_option(4, n, b"form2");
+    let table = saying::has_option(&rt, 4, n, b"table");
+    let is_form_2 = saying::has_option(&rt, 4, n, b"form2");
     let options = saying::one_if(table) + saying::one_if(is_form_2);
     let words = saying::words_before(n, options);
     if (3 <= words) & (words <= 5) {
-        ask(words, table, words::form_of(is_form_2));
+        ask(&rt, words, table, words::form_of(is_form_2));
         return;
     }
     saying::print_usage(b"believe LIST STORE CLOCK [VEHICLE [SIGNAL]] [table] [form2]");

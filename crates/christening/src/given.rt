@@ -1,5 +1,6 @@
 // What the program is given: the words behind RECORDS, and the records of the file.
 use saying::Number;
+use std::rt::Env;
 
 // As many records as are read; a train has 63 at most.
 pub const RECORDS: usize = 1170;
@@ -66,20 +67,25 @@ fn add_mark(pairs: &mut [u8; RECORDS], v: usize, mark: u8) {
     }
 }
 
-fn no_vehicle(i: usize, g: Given) -> Given {
-    saying::print_word(i, b"vehicle", b"not a whole number from 1 to 4294967295");
+fn no_vehicle(rt: &impl Env, i: usize, g: Given) -> Given {
+    saying::print_word(
+        rt,
+        i,
+        b"vehicle",
+        b"not a whole number from 1 to 4294967295",
+    );
     not_ok(g)
 }
 
 // Word i as the vehicle of the mark that is due.
-fn take_vehicle(i: usize, pairs: &mut [u8; RECORDS], g: Given) -> Given {
+fn take_vehicle(rt: &impl Env, i: usize, pairs: &mut [u8; RECORDS], g: Given) -> Given {
     let mut g = g;
-    let Number::Is(n) = saying::number_of(i, 4294967295) else {
-        return no_vehicle(i, g);
+    let Number::Is(n) = saying::number_of(rt, i, 4294967295) else {
+        return no_vehicle(rt, i, g);
     };
     let v = n as usize;
     if v == 0 {
-        return no_vehicle(i, g);
+        return no_vehicle(rt, i, g);
     }
     add_mark(pairs, v, g.due);
     g.due = 0;
@@ -90,40 +96,40 @@ fn take_vehicle(i: usize, pairs: &mut [u8; RECORDS], g: Given) -> Given {
     g
 }
 
-fn take_name(i: usize, g: Given) -> Given {
+fn take_name(rt: &impl Env, i: usize, g: Given) -> Given {
     let mut g = g;
-    if saying::is_word(i, b"leading") {
+    if saying::is_word(rt, i, b"leading") {
         g.due = LEADING;
-    } else if saying::is_word(i, b"led") {
+    } else if saying::is_word(rt, i, b"led") {
         g.due = LED;
-    } else if saying::is_word(i, b"table") {
+    } else if saying::is_word(rt, i, b"table") {
         g.table = true;
     } else {
-        saying::print_word(i, b"word", b"neither leading, led nor table");
+        saying::print_word(rt, i, b"word", b"neither leading, led nor table");
         g.ok = false;
     }
     g
 }
 
-fn take_word(i: usize, pairs: &mut [u8; RECORDS], g: Given) -> Given {
+fn take_word(rt: &impl Env, i: usize, pairs: &mut [u8; RECORDS], g: Given) -> Given {
     if g.due == 0 {
-        return take_name(i, g);
+        return take_name(rt, i, g);
     }
-    take_vehicle(i, pairs, g)
+    take_vehicle(rt, i, pairs, g)
 }
 
 // Where the last word wants a vehicle behind it.
-fn ended(n: usize, g: Given) -> Given {
+fn ended(rt: &impl Env, n: usize, g: Given) -> Given {
     if g.due == 0 {
         return g;
     }
     let last = std::num::wrapping_sub_usize(n, 1);
-    saying::print_word(last, b"word", b"no vehicle behind it");
+    saying::print_word(rt, last, b"word", b"no vehicle behind it");
     not_ok(g)
 }
 
 // The words of n, the program's own name among them, behind RECORDS. Where one is no good, an error line has said so.
-pub fn read_words(n: usize, pairs: &mut [u8; RECORDS]) -> Given {
+pub fn read_words(rt: &impl Env, n: usize, pairs: &mut [u8; RECORDS]) -> Given {
     let mut g = Given {
         ok: true,
         table: false,
@@ -133,21 +139,21 @@ pub fn read_words(n: usize, pairs: &mut [u8; RECORDS]) -> Given {
     };
     let mut i = 2;
     while i < n {
-        g = take_word(i, pairs, g);
+        g = take_word(rt, i, pairs, g);
         if !g.ok {
             return g;
         }
         i += 1;
     }
-    ended(n, g)
+    ended(rt, n, g)
 }
 
 // Whether every vehicle that was named is one of n; where not, an error line names the highest.
-pub fn has_vehicles(g: Given, n: usize) -> bool {
+pub fn has_vehicles(rt: &impl Env, g: Given, n: usize) -> bool {
     if g.vehicle <= n {
         return true;
     }
-    let l = saying::say_error(g.at, b"vehicle", b"");
+    let l = saying::say_error(rt, g.at, b"vehicle", b"");
     saying::print(saying::say_number(saying::say(l, b"above the number of records, "), n as u64));
     false
 }

@@ -1,16 +1,18 @@
 // Shows the train that christening records describe, and the properties of each vehicle by their rows and names.
 #![tactic(auto)]
+
 mod given;
 mod names;
 
+use files::Host;
 use gateway::{Christened, Level, Property, PropertyRead};
 use given::{Given, OCTETS, RECORDS};
-use libc::STDOUT_FILENO;
-use saying::{Line, Page};
+use saying::{Line, Page, STDOUT};
+use std::rt::Env;
 
 fn help() {
     io::write_all(
-        STDOUT_FILENO,
+        STDOUT,
         b"christening RECORDS [leading V] [led V].. [table]
 
 Shows the train that christening records describe, and what holds of each
@@ -163,43 +165,43 @@ fn answer(records: &[u8], pairs: &[u8], table: bool) {
 }
 
 // As many pairs as records, so that 31 tells of the file alone; it comes before a vehicle that the file does not have.
-fn judge(records: &[u8], pairs: &[u8; RECORDS], g: Given) {
+fn judge(rt: &impl Env, records: &[u8], pairs: &[u8; RECORDS], g: Given) {
     let n = records.len() / 56;
     if records.len() % 56 == 0 {
-        if !given::has_vehicles(g, n) {
+        if !given::has_vehicles(rt, g, n) {
             return;
         }
     }
     answer(records, given::first(pairs, n), g.table);
 }
 
-fn ask(n: usize) {
+fn ask(rt: &impl Host, n: usize) {
     let mut pairs = [0u8; RECORDS];
-    let g = given::read_words(n, &mut pairs);
+    let g = given::read_words(rt, n, &mut pairs);
     if !g.ok {
         return;
     }
     let mut records = [0u8; OCTETS + 1];
-    let r = files::read(1, b"RECORDS", &mut records);
+    let r = files::read(rt, 1, b"RECORDS", &mut records);
     if !r.ok {
         return;
     }
     let n = r.octets;
     if n == OCTETS + 1 {
-        files::print_long(1, b"RECORDS", OCTETS as u64);
+        files::print_long(rt, 1, b"RECORDS", OCTETS as u64);
         return;
     }
-    judge(&records[..n], &pairs, g);
+    judge(rt, &records[..n], &pairs, g);
 }
 
-fn main() {
-    let n = os::arg_count();
-    if saying::asks_help(n) {
+fn main(rt: HostRuntime) {
+    let n = saying::argument_count(&rt);
+    if saying::asks_help(&rt, n) {
         help();
         return;
     }
     if 2 <= n {
-        ask(n);
+        ask(&rt, n);
         return;
     }
     saying::print_usage(b"christening RECORDS [leading V] [led V].. [table]");

@@ -1,13 +1,15 @@
 // Compares two signal lists: what the second adds, removes and changes, a line each, and whether it extends the first.
 #![tactic(auto)]
+
 mod route;
 mod signal;
 mod telling;
 
 use crate::telling::Asked;
+use files::Host;
 use gateway::{Counts, ExtendsOutcome, FORM_2, Judged, LONGEST};
-use libc::STDOUT_FILENO;
-use saying::Page;
+use saying::{Page, STDOUT};
+use std::rt::Env;
 
 // What judging a list gives the program to go on with.
 #[derive(Clone, Copy)]
@@ -18,7 +20,7 @@ enum Accepted {
 
 fn help() {
     io::write_all(
-        STDOUT_FILENO,
+        STDOUT,
         b"compare FIRST SECOND [first-form2] [second-form2] [table]
 
 Compares the signal lists FIRST and SECOND, and says in the last line whether
@@ -125,14 +127,14 @@ fn compare(a: &[u8], b: &[u8], asked: Asked) {
 }
 
 // One octet more than the longest list: what follows cannot change the answer.
-fn read_lists(asked: Asked) {
+fn read_lists(rt: &impl Host, asked: Asked) {
     let mut a = [0u8; LONGEST + 1];
-    let first = files::read(1, b"FIRST", &mut a);
+    let first = files::read(rt, 1, b"FIRST", &mut a);
     if !first.ok {
         return;
     }
     let mut b = [0u8; LONGEST + 1];
-    let second = files::read(2, b"SECOND", &mut b);
+    let second = files::read(rt, 2, b"SECOND", &mut b);
     if !second.ok {
         return;
     }
@@ -141,11 +143,11 @@ fn read_lists(asked: Asked) {
     compare(&a[..m], &b[..n], asked);
 }
 
-fn options(n: usize) -> Asked {
+fn options(rt: &impl Env, n: usize) -> Asked {
     Asked {
-        first_form: words::form_of(saying::has_option(3, n, b"first-form2")),
-        second_form: words::form_of(saying::has_option(3, n, b"second-form2")),
-        is_table: saying::has_option(3, n, b"table"),
+        first_form: words::form_of(saying::has_option(rt, 3, n, b"first-form2")),
+        second_form: words::form_of(saying::has_option(rt, 3, n, b"second-form2")),
+        is_table: saying::has_option(rt, 3, n, b"table"),
         version: 0,
         column: 0,
     }
@@ -157,15 +159,15 @@ fn words_of(n: usize, o: Asked) -> usize {
     saying::words_before(n, first + second + saying::one_if(o.is_table))
 }
 
-fn main() {
-    let n = os::arg_count();
-    if saying::asks_help(n) {
+fn main(rt: HostRuntime) {
+    let n = saying::argument_count(&rt);
+    if saying::asks_help(&rt, n) {
         help();
         return;
     }
-    let o = options(n);
+    let o = options(&rt, n);
     if words_of(n, o) == 2 {
-        read_lists(o);
+        read_lists(&rt, o);
         return;
     }
     saying::print_usage(b"compare FIRST SECOND [first-form2] [second-form2] [table]");

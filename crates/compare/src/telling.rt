@@ -1,7 +1,6 @@
 // How a difference is told: a line of the page, with all its fields behind each other, or rows of the table, a field each.
 use gateway::FORM_2;
-use libc::STDOUT_FILENO;
-use saying::{Line, Page, empty, put, say, say_number};
+use saying::{Line, Page, STDOUT, empty, put, say, say_number};
 
 // What is compared, and how it is told.
 #[derive(Clone, Copy)]
@@ -66,7 +65,7 @@ fn write(line: Line) {
     let text = line.text;
     let at = line.at;
     if at <= 240 {
-        io::write_all(STDOUT_FILENO, &text[..at]);
+        io::write_all(STDOUT, &text[..at]);
     }
 }
 

@@ -1,17 +1,19 @@
 // Composes a telegram out of a text file of values and marks.
 #![tactic(auto)]
+
 ghost use Rattle.std.specs.Prelude.{◌≡◌, ◌≤◌, length};
 
 mod place;
 mod text;
 
+use files::Host;
 use gateway::{Counts, EntryOutcome, Judged, LONGEST, Outcome};
-use libc::STDOUT_FILENO;
-use saying::Number;
+use saying::{Number, STDOUT};
+use std::rt::Env;
 
 fn help() {
     io::write_all(
-        STDOUT_FILENO,
+        STDOUT,
         b"compose LIST TYPE VALUES OUT [form2]
 
 Composes an R-telegram under the signal list LIST and writes it to OUT.
@@ -75,6 +77,7 @@ fn print_composed(kind: usize, version: usize, octets: usize) {
 }
 
 fn compose_out(
+    rt: &impl Host,
     list: &[u8],
     form: u8,
     n: Counts,
@@ -90,7 +93,7 @@ fn compose_out(
             false
         }
         Outcome::Done => {
-            let ok = words::write_telegram(4, 1, 3, out);
+            let ok = words::write_telegram(rt, 4, 1, 3, out);
             if ok {
                 print_composed(kind, n.version, out.len());
             }
@@ -101,6 +104,7 @@ fn compose_out(
 
 // A telegram of the type's length; the type itself is tested by the composing.
 fn compose_kind(
+    rt: &impl Host,
     list: &[u8],
     form: u8,
     n: Counts,
@@ -110,14 +114,15 @@ fn compose_kind(
 ) -> bool {
     if kind == 3 {
         let mut out = [0u8; 40];
-        compose_out(list, form, n, kind, values, marks, &mut out)
+        compose_out(rt, list, form, n, kind, values, marks, &mut out)
     } else {
         let mut out = [0u8; 128];
-        compose_out(list, form, n, kind, values, marks, &mut out)
+        compose_out(rt, list, form, n, kind, values, marks, &mut out)
     }
 }
 
 fn compose_given(
+    rt: &impl Host,
     list: &[u8],
     form: u8,
     n: Counts,
@@ -127,11 +132,11 @@ fn compose_given(
     marks: &mut [u8],
 ) {
     replacements(list, form, values);
-    if !text::read_lines(list, form, given, values, marks) {
+    if !text::read_lines(rt, list, form, given, values, marks) {
         return;
     }
-    if compose_kind(list, form, n, kind, values, marks) {
-        text::print_notes(list, form, given, kind);
+    if compose_kind(rt, list, form, n, kind, values, marks) {
+        text::print_notes(rt, list, form, given, kind);
     }
 }
 
@@ -147,7 +152,7 @@ fn all_ok() -> [u8; 64]
     [1u8; 64]
 }
 
-fn compose_under(list: &[u8], form: u8, n: Counts, kind: usize, given: &[u8])
+fn compose_under(rt: &impl Host, list: &[u8], form: u8, n: Counts, kind: usize, given: &[u8])
     requires { (n.signals ≤ 256) × (n.checks ≤ 64) }
 {
     let signals = n.signals;
@@ -155,6 +160,7 @@ fn compose_under(list: &[u8], form: u8, n: Counts, kind: usize, given: &[u8])
     let mut values = no_values();
     let mut marks = all_ok();
     compose_given(
+        rt,
         list,
         form,
         n,
@@ -165,72 +171,72 @@ fn compose_under(list: &[u8], form: u8, n: Counts, kind: usize, given: &[u8])
     );
 }
 
-fn judge(list: &[u8], form: u8, kind: usize, given: &[u8]) {
+fn judge(rt: &impl Host, list: &[u8], form: u8, kind: usize, given: &[u8]) {
     let judged = gateway::judge(list, form);
     match judged {
         Judged::Refused(f) => words::print_refused(f),
-        Judged::Accepted(n) => compose_under(list, form, n, kind, given),
+        Judged::Accepted(n) => compose_under(rt, list, form, n, kind, given),
     }
 }
 
-fn read_values(list: &[u8], form: u8, kind: usize) {
+fn read_values(rt: &impl Host, list: &[u8], form: u8, kind: usize) {
     let mut given = [0u8; 65537];
-    let v = files::read(3, b"VALUES", &mut given);
+    let v = files::read(rt, 3, b"VALUES", &mut given);
     if !v.ok {
         return;
     }
     let n = v.octets;
     if n == 65537 {
-        files::print_long(3, b"VALUES", 65536);
+        files::print_long(rt, 3, b"VALUES", 65536);
         return;
     }
-    judge(list, form, kind, &given[..n]);
+    judge(rt, list, form, kind, &given[..n]);
 }
 
-fn read_files(kind: usize, form: u8) {
+fn read_files(rt: &impl Host, kind: usize, form: u8) {
     let mut list = [0u8; LONGEST + 1];
-    let l = files::read(1, b"LIST", &mut list);
+    let l = files::read(rt, 1, b"LIST", &mut list);
     if !l.ok {
         return;
     }
     let n = l.octets;
-    read_values(&list[..n], form, kind);
+    read_values(rt, &list[..n], form, kind);
 }
 
 // R1, R2 or R3, or the type's number. A number that is no type's is refused by the composing.
-fn type_argument() -> Number {
-    if saying::is_word(2, b"R1") {
+fn type_argument(rt: &impl Env) -> Number {
+    if saying::is_word(rt, 2, b"R1") {
         return Number::Is(1);
     }
-    if saying::is_word(2, b"R2") {
+    if saying::is_word(rt, 2, b"R2") {
         return Number::Is(2);
     }
-    if saying::is_word(2, b"R3") {
+    if saying::is_word(rt, 2, b"R3") {
         return Number::Is(3);
     }
-    let n = saying::number_of(2, 4294967295);
+    let n = saying::number_of(rt, 2, 4294967295);
     if let Number::Not = n {
-        saying::print_word(2, b"TYPE", b"not R1, R2 or R3, nor 1 to 3");
+        saying::print_word(rt, 2, b"TYPE", b"not R1, R2 or R3, nor 1 to 3");
     }
     n
 }
 
-fn ask(form: u8) {
-    let Number::Is(kind) = type_argument() else {
+fn ask(rt: &impl Host, form: u8) {
+    let Number::Is(kind) = type_argument(rt) else {
         return;
     };
-    read_files(kind as usize, form);
+    read_files(rt, kind as usize, form);
 }
 
-fn main() {
-    let n = os::arg_count();
-    if saying::asks_help(n) {
+fn main(rt: HostRuntime) {
+    let n = saying::argument_count(&rt);
+    if saying::asks_help(&rt, n) {
         help();
         return;
     }
-    let is_form_2 = saying::has_option(5, n, b"form2");
+    let is_form_2 = saying::has_option(&rt, 5, n, b"form2");
     if saying::words_before(n, saying::one_if(is_form_2)) == 4 {
-        ask(words::form_of(is_form_2));
+        ask(&rt, words::form_of(is_form_2));
         return;
     }
     saying::print_usage(b"compose LIST TYPE VALUES OUT [form2]");

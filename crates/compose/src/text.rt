@@ -4,6 +4,7 @@ ghost use Rattle.std.specs.Prelude.{◌≤◌};
 use crate::place::{Field, field_at, type_of};
 use gateway::{EntryOutcome, Found};
 use saying::{Line, Number, find, word, word_count};
+use std::rt::Env;
 
 // What can be wrong with a line.
 const FINE: u8 = 0;
@@ -24,8 +25,8 @@ const CHECK_PLACE: u8 = 7;
 
 const UNNAMED: u8 = 8;
 
-fn say_line(what: &[u8], line: u64) -> Line {
-    let l = saying::say_argument(saying::say(saying::empty(), what), 3, b"");
+fn say_line(rt: &impl Env, what: &[u8], line: u64) -> Line {
+    let l = saying::say_argument(rt, saying::say(saying::empty(), what), 3, b"");
     saying::say(saying::say_number(saying::say(l, b" line "), line), b": ")
 }
 
@@ -45,8 +46,8 @@ fn say_fault(line: Line, fault: u8) -> Line {
     }
 }
 
-fn print_fault(line: u64, fault: u8) {
-    saying::print(say_fault(say_line(b"error: VALUES ", line), fault));
+fn print_fault(rt: &impl Env, line: u64, fault: u8) {
+    saying::print(say_fault(say_line(rt, b"error: VALUES ", line), fault));
 }
 
 // A number above 3 is refused by the composing, where the mark is written.
@@ -226,6 +227,7 @@ fn read_line(list: &[u8], form: u8, line: &[u8], values: &mut [u64], marks: &mut
 
 // Whether every line was read; where one is at fault, an error line names it.
 pub fn read_lines(
+    rt: &impl Env,
     list: &[u8],
     form: u8,
     text: &[u8],
@@ -238,7 +240,7 @@ pub fn read_lines(
         let e = find(text, at, b'\n');
         let fault = read_line(list, form, &text[at..e], values, marks);
         if fault != FINE {
-            print_fault(line, fault);
+            print_fault(rt, line, fault);
             return false;
         }
         at = e + 1;
@@ -248,7 +250,7 @@ pub fn read_lines(
 }
 
 // The signal k, which a telegram of the type does not carry, is named by a line of its own.
-fn note_signal(list: &[u8], form: u8, k: usize, kind: usize, line: u64) {
+fn note_signal(rt: &impl Env, list: &[u8], form: u8, k: usize, kind: usize, line: u64) {
     let entry = gateway::signal_entry(list, form, k);
     let EntryOutcome::Entry(e) = entry else {
         return;
@@ -258,33 +260,33 @@ fn note_signal(list: &[u8], form: u8, k: usize, kind: usize, line: u64) {
         return;
     }
     let serial = words::serial_at(list, form, k);
-    let l = words::say_signal(say_line(b"note: VALUES ", line), form, s, serial);
+    let l = words::say_signal(say_line(rt, b"note: VALUES ", line), form, s, serial);
     saying::print(words::say_telegram(saying::say(l, b" is not carried by "), kind));
 }
 
-fn note_words(list: &[u8], form: u8, line: &[u8], kind: usize, number: u64) {
+fn note_words(rt: &impl Env, list: &[u8], form: u8, line: &[u8], kind: usize, number: u64) {
     let n = word_count(line);
     if check::same(word(line, 0), b"value") {
         let found = signal_of(list, form, line, n);
         if let Number::Is(k) = found {
-            note_signal(list, form, k as usize, kind, number);
+            note_signal(rt, list, form, k as usize, kind, number);
         }
     }
 }
 
-fn note_line(list: &[u8], form: u8, line: &[u8], kind: usize, number: u64) {
+fn note_line(rt: &impl Env, list: &[u8], form: u8, line: &[u8], kind: usize, number: u64) {
     let a = 0;
     let e = find(line, a, b'#');
-    note_words(list, form, &line[a..e], kind, number);
+    note_words(rt, list, form, &line[a..e], kind, number);
 }
 
 // A line for each value that a telegram of the type does not carry.
-pub fn print_notes(list: &[u8], form: u8, text: &[u8], kind: usize) {
+pub fn print_notes(rt: &impl Env, list: &[u8], form: u8, text: &[u8], kind: usize) {
     let mut at = 0;
     let mut line: u64 = 1;
     while at < text.len() {
         let e = find(text, at, b'\n');
-        note_line(list, form, &text[at..e], kind, line);
+        note_line(rt, list, form, &text[at..e], kind, line);
         at = e + 1;
         line = std::num::wrapping_add_u64(line, 1);
     }

@@ -1,5 +1,6 @@
 // Addresses resolved over the vehicle entries themselves: each entry's marks become one octet, and `train` answers over the octets.
 #![tactic(auto)]
+
 ghost use Rattle.std.specs.Prelude.{◌≡◌, ◌≤◌, cond, map, ltb, set, replicate, take};
 ghost use Rattle.paper.specs.Answer.{refuse_if};
 ghost use Rattle.paper.specs.Train.{resolving};

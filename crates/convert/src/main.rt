@@ -1,8 +1,9 @@
 // Moves a signal list to the other form, with serial numbers or without, into a new file.
 #![tactic(auto)]
+
+use files::Host;
 use gateway::{Counts, EntryOutcome, FORM_1, FORM_2, Judged, LONGEST, Outcome, Refusal};
-use libc::STDOUT_FILENO;
-use saying::Line;
+use saying::{Line, STDOUT};
 
 // The serial numbers of a list that are set: the first one's signal, and how many.
 #[derive(Clone, Copy)]
@@ -13,7 +14,7 @@ struct Serials {
 
 fn help() {
     io::write_all(
-        STDOUT_FILENO,
+        STDOUT,
         b"convert LIST FORM OUT
 
 Moves the signal list LIST to the other form, and writes it to OUT.
@@ -97,24 +98,24 @@ fn print_moved(form: u8, n: Counts, octets: usize) {
     saying::print(saying::say(l, b" octets"));
 }
 
-fn end(outcome: Outcome, list: &[u8], n: Counts, form: u8, out: &[u8]) {
+fn end(rt: &impl Host, outcome: Outcome, list: &[u8], n: Counts, form: u8, out: &[u8]) {
     match outcome {
         Outcome::Refused(f) => print_refused(f, list, n),
         Outcome::Done => {
-            if files::make(3, b"OUT", out) {
+            if files::make(rt, 3, b"OUT", out) {
                 print_moved(form, n, out.len());
             }
         }
     }
 }
 
-fn move_into(list: &[u8], n: Counts, form: u8, out: &mut [u8]) {
+fn move_into(rt: &impl Host, list: &[u8], n: Counts, form: u8, out: &mut [u8]) {
     if form == FORM_2 {
         let outcome = gateway::to_form_2(list, out);
-        end(outcome, list, n, form, out);
+        end(rt, outcome, list, n, form, out);
     } else {
         let outcome = gateway::to_form_1(list, out);
-        end(outcome, list, n, form, out);
+        end(rt, outcome, list, n, form, out);
     }
 }
 
@@ -132,50 +133,50 @@ fn needed(octets: usize, signals: usize, form: u8) -> isize {
     n as isize
 }
 
-fn move_list(list: &[u8], n: Counts, form: u8) {
+fn move_list(rt: &impl Host, list: &[u8], n: Counts, form: u8) {
     let mut out = [0u8; LONGEST];
     let k = io::count(needed(list.len(), n.signals, form), &out);
-    move_into(list, n, form, &mut out[..k]);
+    move_into(rt, list, n, form, &mut out[..k]);
 }
 
 // The list is in the form that it is not moved to.
-fn judge(list: &[u8], form: u8) {
+fn judge(rt: &impl Host, list: &[u8], form: u8) {
     let from = words::form_of(form == FORM_1);
     let judged = gateway::judge(list, from);
     match judged {
         Judged::Refused(f) => words::print_refused_list(list, from, f),
-        Judged::Accepted(n) => move_list(list, n, form),
+        Judged::Accepted(n) => move_list(rt, list, n, form),
     }
 }
 
-fn read_list(form: u8) {
+fn read_list(rt: &impl Host, form: u8) {
     let mut list = [0u8; LONGEST + 1];
-    let l = files::read(1, b"LIST", &mut list);
+    let l = files::read(rt, 1, b"LIST", &mut list);
     if !l.ok {
         return;
     }
     let n = l.octets;
-    judge(&list[..n], form);
+    judge(rt, &list[..n], form);
 }
 
-fn ask() {
-    let to_1 = saying::is_word(2, b"form1");
-    let to_2 = saying::is_word(2, b"form2");
+fn ask(rt: &impl Host) {
+    let to_1 = saying::is_word(rt, 2, b"form1");
+    let to_2 = saying::is_word(rt, 2, b"form2");
     if to_1 | to_2 {
-        read_list(words::form_of(to_2));
+        read_list(rt, words::form_of(to_2));
         return;
     }
-    saying::print_word(2, b"FORM", b"neither form1 nor form2");
+    saying::print_word(rt, 2, b"FORM", b"neither form1 nor form2");
 }
 
-fn main() {
-    let n = os::arg_count();
-    if saying::asks_help(n) {
+fn main(rt: HostRuntime) {
+    let n = saying::argument_count(&rt);
+    if saying::asks_help(&rt, n) {
         help();
         return;
     }
     if n == 4 {
-        ask();
+        ask(&rt);
         return;
     }
     saying::print_usage(b"convert LIST FORM OUT");

@@ -1,9 +1,10 @@
 // What a driver sees: each side of the train locked, open or not known, and the vehicles that hold it up, each with its reason.
 #![tactic(auto)]
+
 use doors::{Doors, Side, State, SummaryOutcome};
+use files::Host;
 use gateway::{Found, LONGEST, ReadOutcome, STORE, VEHICLES};
-use libc::STDOUT_FILENO;
-use saying::{Clock, Line, Number, Page};
+use saying::{Clock, Line, Number, Page, STDOUT};
 
 // The address of every vehicle in the consist.
 const EVERY: u64 = 66;
@@ -22,7 +23,7 @@ struct Asked {
 
 fn help() {
     io::write_all(
-        STDOUT_FILENO,
+        STDOUT,
         b"desk LIST STORE CLOCK CONSIST [ADDRESS] [form2]
 
 What a driver sees of the doors at CLOCK: each side of the train LOCKED, OPEN or
@@ -161,9 +162,9 @@ fn answer(list: &[u8], store: &[u8], marks: &[u8], asked: Asked) {
 }
 
 // A longer consist is cut behind the first octet too many, which 17 refuses.
-fn with_consist(list: &[u8], store: &[u8], asked: Asked) {
+fn with_consist(rt: &impl Host, list: &[u8], store: &[u8], asked: Asked) {
     let mut marks = [0u8; VEHICLES + 1];
-    let c = files::read(4, b"CONSIST", &mut marks);
+    let c = files::read(rt, 4, b"CONSIST", &mut marks);
     if !c.ok {
         return;
     }
@@ -171,46 +172,49 @@ fn with_consist(list: &[u8], store: &[u8], asked: Asked) {
     answer(list, store, &marks[..n], asked);
 }
 
-fn read_files(asked: Asked) {
+fn read_files(rt: &impl Host, asked: Asked) {
     let mut list = [0u8; LONGEST + 1];
-    let l = files::read(1, b"LIST", &mut list);
+    let l = files::read(rt, 1, b"LIST", &mut list);
     if !l.ok {
         return;
     }
     let mut store = [0u8; STORE + 1];
-    let s = files::read(2, b"STORE", &mut store);
+    let s = files::read(rt, 2, b"STORE", &mut store);
     if !s.ok {
         return;
     }
     let n = l.octets;
     let m = s.octets;
-    with_consist(&list[..n], &store[..m], asked);
+    with_consist(rt, &list[..n], &store[..m], asked);
 }
 
-fn ask(words: usize, form: u8) {
-    let Clock::At(clock) = saying::clock_argument(3) else {
+fn ask(rt: &impl Host, words: usize, form: u8) {
+    let Clock::At(clock) = saying::clock_argument(rt, 3) else {
         return;
     };
-    let Number::Is(address) = saying::number_or(words, 5, b"ADDRESS", EVERY) else {
+    let Number::Is(address) = saying::number_or(rt, words, 5, b"ADDRESS", EVERY) else {
         return;
     };
-    read_files(Asked {
-        form,
-        clock,
-        address,
-    });
+    read_files(
+        rt,
+        Asked {
+            form,
+            clock,
+            address,
+        },
+    );
 }
 
-fn main() {
-    let n = os::arg_count();
-    if saying::asks_help(n) {
+fn main(rt: HostRuntime) {
+    let n = saying::argument_count(&rt);
+    if saying::asks_help(&rt, n) {
         help();
         return;
     }
-    let is_form_2 = saying::has_option(5, n, b"form2");
+    let is_form_2 = saying::has_option(&rt, 5, n, b"form2");
     let words = saying::words_before(n, saying::one_if(is_form_2));
     if (4 <= words) & (words <= 5) {
-        ask(words, words::form_of(is_form_2));
+        ask(&rt, words, words::form_of(is_form_2));
         return;
     }
     saying::print_usage(b"desk LIST STORE CLOCK CONSIST [ADDRESS] [form2]");

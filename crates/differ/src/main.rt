@@ -1,13 +1,15 @@
 // Which gateway believes what: one store, or each gateway's own, read by two gateways' lists, side by side.
 #![tactic(auto)]
+
 ghost use Rattle.std.specs.Prelude.{◌≤◌};
 
+use files::Host;
 use gateway::{
     Counts, EntryOutcome, FORM_2, HeldOutcome, Judged, LONGEST, PAST_KEYS, Pair, Pairing,
     ReadOutcome, STORE, Shown, VEHICLES,
 };
-use libc::STDOUT_FILENO;
-use saying::{Clock, Line, Number, Page};
+use saying::{Clock, Line, Number, Page, STDOUT};
+use std::rt::Env;
 
 // A signal as one gateway reads it, if its list has it.
 #[derive(Clone, Copy)]
@@ -58,7 +60,7 @@ struct Count {
 
 fn help() {
     io::write_all(
-        STDOUT_FILENO,
+        STDOUT,
         b"differ LIST LIST STORE CLOCK [behind STORE2 CLOCK2] [VEHICLE] [only] [table]
        [first-form2] [second-form2]
 
@@ -462,8 +464,8 @@ fn none() -> Count {
     }
 }
 
-fn print_list(page: &mut Page, name: &[u8], i: usize, n: Counts) {
-    let l = saying::say_argument(saying::say(saying::empty(), name), i, b"");
+fn print_list(rt: &impl Env, page: &mut Page, name: &[u8], i: usize, n: Counts) {
+    let l = saying::say_argument(rt, saying::say(saying::empty(), name), i, b"");
     let l = saying::say_number(saying::say(l, b" signals "), n.signals as u64);
     saying::add(
         page,
@@ -498,16 +500,17 @@ fn print_names(page: &mut Page, form: u8, is_behind: bool) {
 }
 
 // What stands above the lines: the two lists, or the names of the columns.
-fn print_above(page: &mut Page, m: Counts, n: Counts, asked: Asked) {
+fn print_above(rt: &impl Env, page: &mut Page, m: Counts, n: Counts, asked: Asked) {
     if asked.table {
         print_names(page, form_of_table(asked), asked.behind);
         return;
     }
-    print_list(page, b"first  ", 1, m);
-    print_list(page, b"second ", 2, n);
+    print_list(rt, page, b"first  ", 1, m);
+    print_list(rt, page, b"second ", 2, n);
 }
 
 fn print_asked(
+    rt: &impl Env,
     first: &[u8],
     m: Counts,
     second: &[u8],
@@ -517,7 +520,7 @@ fn print_asked(
     asked: Asked,
 ) {
     let mut page = saying::new_page();
-    print_above(&mut page, m, n, asked);
+    print_above(rt, &mut page, m, n, asked);
     if asked.all {
         let count = all_vehicles(&mut page, first, second, store, other, asked);
         print_count(&mut page, asked, count);
@@ -564,7 +567,7 @@ fn are_held(store: &[u8], other: &[u8], asked: Asked) -> bool {
 }
 
 // Refused as a reading is: 1 to 4 of either list, then 5 and 6.
-fn compare(first: &[u8], second: &[u8], store: &[u8], other: &[u8], asked: Asked) {
+fn compare(rt: &impl Env, first: &[u8], second: &[u8], store: &[u8], other: &[u8], asked: Asked) {
     let Accepted::With(m) = judge(first, asked.first_form, b" (first list)") else {
         return;
     };
@@ -575,53 +578,53 @@ fn compare(first: &[u8], second: &[u8], store: &[u8], other: &[u8], asked: Asked
         return;
     }
     let placed = in_columns(asked, first, second, n, store);
-    print_asked(first, m, second, n, store, other, placed);
+    print_asked(rt, first, m, second, n, store, other, placed);
 }
 
 // The store of the second gateway is the first's, where it has none of its own.
-fn read_behind(first: &[u8], second: &[u8], store: &[u8], asked: Asked) {
+fn read_behind(rt: &impl Host, first: &[u8], second: &[u8], store: &[u8], asked: Asked) {
     if !asked.behind {
-        compare(first, second, store, store, asked);
+        compare(rt, first, second, store, store, asked);
         return;
     }
     let mut other = [0u8; STORE + 1];
-    let s = files::read(6, b"second STORE", &mut other);
+    let s = files::read(rt, 6, b"second STORE", &mut other);
     if !s.ok {
         return;
     }
     let m = s.octets;
-    compare(first, second, store, &other[..m], asked);
+    compare(rt, first, second, store, &other[..m], asked);
 }
 
-fn read_others(first: &[u8], asked: Asked) {
+fn read_others(rt: &impl Host, first: &[u8], asked: Asked) {
     let mut second = [0u8; LONGEST + 1];
-    let l = files::read(2, b"second LIST", &mut second);
+    let l = files::read(rt, 2, b"second LIST", &mut second);
     if !l.ok {
         return;
     }
     let mut store = [0u8; STORE + 1];
-    let s = files::read(3, b"STORE", &mut store);
+    let s = files::read(rt, 3, b"STORE", &mut store);
     if !s.ok {
         return;
     }
     let n = l.octets;
     let m = s.octets;
-    read_behind(first, &second[..n], &store[..m], asked);
+    read_behind(rt, first, &second[..n], &store[..m], asked);
 }
 
-fn read_files(asked: Asked) {
+fn read_files(rt: &impl Host, asked: Asked) {
     let mut first = [0u8; LONGEST + 1];
-    let l = files::read(1, b"first LIST", &mut first);
+    let l = files::read(rt, 1, b"first LIST", &mut first);
     if !l.ok {
         return;
     }
     let n = l.octets;
-    read_others(&first[..n], asked);
+    read_others(rt, &first[..n], asked);
 }
 
 // Whether the words next to the clock name a second store and its clock.
-fn is_behind(n: usize) -> bool {
-    (7 < n) & saying::is_word(5, b"behind")
+fn is_behind(rt: &impl Env, n: usize) -> bool {
+    (7 < n) & saying::is_word(rt, 5, b"behind")
 }
 
 // The place of the vehicle, if it is given, and of the options if it is not.
@@ -632,19 +635,19 @@ fn vehicle_at(is_behind: bool) -> usize
 }
 
 // What the words behind the clocks say, but for the vehicle.
-fn options(n: usize) -> Asked {
-    let behind = is_behind(n);
+fn options(rt: &impl Env, n: usize) -> Asked {
+    let behind = is_behind(rt, n);
     let from = vehicle_at(behind);
-    let first = saying::has_option(from, n, b"first-form2");
-    let second = saying::has_option(from, n, b"second-form2");
+    let first = saying::has_option(rt, from, n, b"first-form2");
+    let second = saying::has_option(rt, from, n, b"second-form2");
     Asked {
         clock: 0,
         behind,
         second_clock: 0,
         vehicle: 1,
         all: true,
-        only: saying::has_option(from, n, b"only"),
-        table: saying::has_option(from, n, b"table"),
+        only: saying::has_option(rt, from, n, b"only"),
+        table: saying::has_option(rt, from, n, b"table"),
         first_form: words::form_of(first),
         second_form: words::form_of(second),
         left: 0,
@@ -660,14 +663,14 @@ fn words_of(n: usize, o: Asked) -> usize {
 }
 
 // The last word before the options is the place of the vehicle, or the one before it.
-fn ask(words: usize, at: usize, o: Asked) {
-    let Clock::At(clock) = saying::clock_argument(4) else {
+fn ask(rt: &impl Host, words: usize, at: usize, o: Asked) {
+    let Clock::At(clock) = saying::clock_argument(rt, 4) else {
         return;
     };
-    let Clock::At(second_clock) = saying::clock_argument(if o.behind { 7 } else { 4 }) else {
+    let Clock::At(second_clock) = saying::clock_argument(rt, if o.behind { 7 } else { 4 }) else {
         return;
     };
-    let Number::Is(vehicle) = saying::number_or(words, at, b"VEHICLE", 1) else {
+    let Number::Is(vehicle) = saying::number_or(rt, words, at, b"VEHICLE", 1) else {
         return;
     };
     let mut asked = o;
@@ -675,20 +678,20 @@ fn ask(words: usize, at: usize, o: Asked) {
     asked.second_clock = second_clock;
     asked.vehicle = vehicle as usize;
     asked.all = words < at;
-    read_files(asked);
+    read_files(rt, asked);
 }
 
-fn main() {
-    let n = os::arg_count();
-    if saying::asks_help(n) {
+fn main(rt: HostRuntime) {
+    let n = saying::argument_count(&rt);
+    if saying::asks_help(&rt, n) {
         help();
         return;
     }
-    let o = options(n);
+    let o = options(&rt, n);
     let words = words_of(n, o);
     let at = vehicle_at(o.behind);
     if (words == at) | (words == at - 1) {
-        ask(words, at, o);
+        ask(&rt, words, at, o);
         return;
     }
     saying::print_usage(

@@ -1,5 +1,6 @@
 // E-telegrams: reading the code of one, and composing the short answer to a request.
 #![tactic(auto)]
+
 ghost use Rattle.std.specs.Prelude.{◌≡◌};
 ghost use Rattle.paper.specs.ETelegrams.{is_request, is_report, e_limit, e_reading, answering};
 ghost use Rattle.etelegrams.specs.Answers.{e_reading_of, e_read_answer, answer_on};

@@ -1,11 +1,13 @@
 // Says in one line whether the signal list at its second path extends the one at its first.
 #![tactic(auto)]
+
+use files::Host;
 use gateway::{ExtendsOutcome, LONGEST};
-use libc::STDOUT_FILENO;
+use saying::STDOUT;
 
 fn help() {
     io::write_all(
-        STDOUT_FILENO,
+        STDOUT,
         b"extends FIRST SECOND [first-form2] [second-form2]
 
 Whether the signal list SECOND extends the signal list FIRST, so that gateways
@@ -31,14 +33,14 @@ fn show(found: ExtendsOutcome) {
 }
 
 // One octet more than the longest list: what follows cannot change the answer.
-fn compare(first_form: u8, second_form: u8) {
+fn compare(rt: &impl Host, first_form: u8, second_form: u8) {
     let mut a = [0u8; LONGEST + 1];
-    let first = files::read(1, b"FIRST", &mut a);
+    let first = files::read(rt, 1, b"FIRST", &mut a);
     if !first.ok {
         return;
     }
     let mut b = [0u8; LONGEST + 1];
-    let second = files::read(2, b"SECOND", &mut b);
+    let second = files::read(rt, 2, b"SECOND", &mut b);
     if !second.ok {
         return;
     }
@@ -47,17 +49,17 @@ fn compare(first_form: u8, second_form: u8) {
     show(gateway::extends(&a[..m], first_form, &b[..n], second_form));
 }
 
-fn main() {
-    let n = os::arg_count();
-    if saying::asks_help(n) {
+fn main(rt: HostRuntime) {
+    let n = saying::argument_count(&rt);
+    if saying::asks_help(&rt, n) {
         help();
         return;
     }
-    let first = saying::has_option(3, n, b"first-form2");
-    let second = saying::has_option(3, n, b"second-form2");
+    let first = saying::has_option(&rt, 3, n, b"first-form2");
+    let second = saying::has_option(&rt, 3, n, b"second-form2");
     let options = saying::one_if(first) + saying::one_if(second);
     if saying::words_before(n, options) == 2 {
-        compare(words::form_of(first), words::form_of(second));
+        compare(&rt, words::form_of(first), words::form_of(second));
         return;
     }
     saying::print_usage(b"extends FIRST SECOND [first-form2] [second-form2]");

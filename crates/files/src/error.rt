@@ -1,8 +1,28 @@
 // What is wrong with a file, in an error line.
+use crate::host::Host;
 use crate::lock::Owner;
 use saying::{Line, print, say, say_error, say_number, say_quoted};
 
-// No numbers of errno: what these programs themselves have against a file.
+// The system's numbers.
+pub const EPERM: i32 = 1;
+
+pub const ENOENT: i32 = 2;
+
+pub const EACCES: i32 = 13;
+
+pub const EEXIST: i32 = 17;
+
+pub const ENOTDIR: i32 = 20;
+
+pub const EISDIR: i32 = 21;
+
+pub const EROFS: i32 = 30;
+
+pub const ENAMETOOLONG: i32 = 36;
+
+pub const ELOOP: i32 = 40;
+
+// No numbers of the system: what these programs themselves have against a file.
 pub const UNWRITTEN: i32 = -1;
 
 pub const LEFT: i32 = -2;
@@ -16,6 +36,18 @@ pub const READ_ONLY: i32 = -5;
 pub const SEVERAL: i32 = -6;
 
 pub const NOT_KEPT: i32 = -7;
+
+pub const NOT_TEXT: i32 = -8;
+
+const UNUSABLE: i32 = -9;
+
+// The system's number of an error that came through std; one that std found itself has none.
+pub fn number_of(e: std::io::Error) -> i32 {
+    match e.raw_os_error() {
+        Some(n) => n,
+        None => UNUSABLE,
+    }
+}
 
 fn say_own(line: Line, error: i32) -> Line {
     if error == UNWRITTEN {
@@ -42,40 +74,43 @@ fn say_own(line: Line, error: i32) -> Line {
     if error == NOT_KEPT {
         return say(line, b"its owner and mode cannot be kept");
     }
+    if error == NOT_TEXT {
+        return say(line, b"the path is no text in UTF-8");
+    }
     say(line, b"cannot be used")
 }
 
 fn say_why(line: Line, error: i32) -> Line {
-    if error == libc::ENOENT {
+    if error == ENOENT {
         return say(line, b"no such file or folder");
     }
-    if (error == libc::EACCES) | (error == libc::EPERM) {
+    if (error == EACCES) | (error == EPERM) {
         return say(line, b"not permitted");
     }
-    if error == libc::EROFS {
+    if error == EROFS {
         return say(line, b"is read-only");
     }
-    if error == libc::EEXIST {
+    if error == EEXIST {
         return say(line, b"exists already");
     }
-    if error == libc::EISDIR {
+    if error == EISDIR {
         return say(line, b"is a folder");
     }
-    if error == libc::ENOTDIR {
+    if error == ENOTDIR {
         return say(line, b"not in a folder");
     }
-    if error == libc::ENAMETOOLONG {
+    if error == ENAMETOOLONG {
         return say(line, b"the path is too long");
     }
-    if error == libc::ELOOP {
+    if error == ELOOP {
         return say(line, b"too many links");
     }
     say_own(line, error)
 }
 
 // The error line on the file of argument i.
-pub fn print_error(i: usize, name: &[u8], error: i32) {
-    print(say_why(say_error(i, name, b""), error));
+pub fn print_error(rt: &impl Host, i: usize, name: &[u8], error: i32) {
+    print(say_why(say_error(rt, i, name, b""), error));
 }
 
 // The error line on a file beside it, whose path is given up to its ending.
@@ -107,7 +142,7 @@ pub fn print_busy(name: &[u8], path: &[u8], owner: Owner) {
 }
 
 // The error line for a file that is longer than it can be.
-pub fn print_long(i: usize, name: &[u8], most: u64) {
-    let l = say_number(say(say_error(i, name, b""), b"more than "), most);
+pub fn print_long(rt: &impl Host, i: usize, name: &[u8], most: u64) {
+    let l = say_number(say(say_error(rt, i, name, b""), b"more than "), most);
     print(say(l, b" octets"));
 }

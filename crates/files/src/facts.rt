@@ -1,9 +1,16 @@
 // What is known of the file at a path, as numbers.
-ghost use Rattle.libc.specs.Io.{Ended};
+use crate::error;
+use crate::host::Host;
+use crate::path::{path_of, text_of};
+use std::fs;
+use std::os::unix::fs::MetadataExt;
 
-use crate::path::{ended, path_of};
-use libc::PATH_MAX;
-use libc::types::{stat, timespec};
+// The bits of a mode that tell the kind of a file, a folder's and a plain file's.
+const KIND: u32 = 0o170000;
+
+const FOLDER: u32 = 0o040000;
+
+const PLAIN: u32 = 0o100000;
 
 // The number of the error where nothing is known of it, 0 where the rest is.
 #[derive(Clone, Copy)]
@@ -15,40 +22,6 @@ pub struct Found {
     pub names: u64,
     pub device: u64,
     pub inode: u64,
-}
-
-// What `stat` fills, by value: only here does a reference to its struct stand, so that only this function is walked by hand.
-fn filled(path: &[u8; PATH_MAX], s: stat) -> stat
-    requires { Ended path.now }
-{
-    let mut f = s;
-    libc::stat(path, &mut f);
-    f
-}
-
-fn nothing() -> stat {
-    let t = timespec {
-        tv_sec: 0,
-        tv_nsec: 0,
-    };
-    let u = [0i64; 3];
-    stat {
-        st_dev: 0,
-        st_ino: 0,
-        st_nlink: 0,
-        st_mode: 0,
-        st_uid: 0,
-        st_gid: 0,
-        __pad: 0,
-        st_rdev: 0,
-        st_size: 0,
-        st_blksize: 0,
-        st_blocks: 0,
-        st_atim: t,
-        st_mtim: t,
-        st_ctim: t,
-        __unused: u,
-    }
 }
 
 fn unknown(error: i32) -> Found {
@@ -64,44 +37,42 @@ fn unknown(error: i32) -> Found {
 }
 
 // What stands at the path, by way of links. It is not opened, so that a pipe or a device notices nothing.
-pub fn look_at(path: &[u8]) -> Found {
-    if PATH_MAX <= path.len() {
-        return unknown(libc::ENAMETOOLONG);
-    }
-    let path = ended(path);
-    let s = filled(&path, nothing());
-    // No file has the mode 0: the kind is among its bits.
-    if s.st_mode == 0 {
-        return unknown(os::errno());
-    }
-    Found {
-        error: 0,
-        mode: s.st_mode,
-        owner: s.st_uid,
-        group: s.st_gid,
-        names: s.st_nlink,
-        device: s.st_dev,
-        inode: s.st_ino,
+pub fn look_at(rt: &impl Host, path: &[u8]) -> Found {
+    let path = match text_of(path) {
+        Ok(path) => path,
+        Err(error) => return unknown(error),
+    };
+    match fs::metadata(rt, path) {
+        Ok(m) => Found {
+            error: 0,
+            mode: m.mode(),
+            owner: m.uid(),
+            group: m.gid(),
+            names: m.nlink(),
+            device: m.dev(),
+            inode: m.ino(),
+        },
+        Err(e) => unknown(error::number_of(e)),
     }
 }
 
 // Whether it is the file of argument i, under whichever name; there is no argument 0.
-pub fn is_given(f: Found, i: usize) -> bool {
+pub fn is_given(rt: &impl Host, f: Found, i: usize) -> bool {
     if i == 0 {
         return false;
     }
     let mut path = io::buffer();
-    let n = path_of(i, &mut path);
-    let g = look_at(&path[..n]);
+    let n = path_of(rt, i, &mut path);
+    let g = look_at(rt, &path[..n]);
     (g.error == 0) & (f.device == g.device) & (f.inode == g.inode)
 }
 
 pub fn is_folder(f: Found) -> bool {
-    f.mode & libc::S_IFMT == libc::S_IFDIR
+    f.mode & KIND == FOLDER
 }
 
 pub fn is_plain(f: Found) -> bool {
-    f.mode & libc::S_IFMT == libc::S_IFREG
+    f.mode & KIND == PLAIN
 }
 
 // Whether nobody may write it. Root could, and is held to the mode all the same.

@@ -3,8 +3,10 @@
 // One guard stands before everything that a program writes (`begin`): a file is replaced only where it is a plain one, is not given as
 // another argument, may be written, and has one name alone. What its octets may be is the program's to say (`words::may_replace`).
 #![tactic(auto)]
+
 mod error;
 mod facts;
+mod host;
 mod lock;
 mod path;
 
@@ -13,8 +15,13 @@ ghost use Rattle.io.specs.Counts.{IsPrefixLen};
 pub use error::print_long;
 use error::{print_beside, print_busy, print_error};
 use facts::{Found, look_at};
-use path::beside;
+pub use host::Host;
+use path::{beside, text_of};
 pub use path::{put_at, target_of};
+use std::fs;
+use std::fs::{File, OpenOptions, Permissions};
+use std::io::{Read, Write};
+use std::os::unix::fs::{PermissionsExt, fchown};
 
 // How many octets were read; not ok where the file could not be read, which an error line has said.
 #[derive(Clone, Copy)]
@@ -32,83 +39,127 @@ pub struct Rules {
     pub second: usize,
 }
 
-// A short count leaves open whether the file ended or a read failed: one more read tells.
-fn is_at_end(fd: i32) -> bool {
-    let mut one = [0u8; 1];
-    libc::read(fd, &mut one) == 0
+// How many octets a file gave, and the number of the error that ended it; 0 where there was none.
+#[derive(Clone, Copy)]
+struct Filled {
+    octets: usize,
+    error: i32,
+}
+
+// Reads until buf is full, the file ends or a read fails.
+fn fill(file: &mut File, buf: &mut [u8]) -> Filled
+    ensures { IsPrefixLen result.octets buf.new }
+{
+    let mut octets = 0;
+    while octets < buf.len() {
+        match file.read(&mut buf[octets..]) {
+            Ok(0) => break,
+            Ok(n) => octets += n,
+            Err(e) => {
+                return Filled {
+                    octets,
+                    error: error::number_of(e),
+                };
+            }
+        }
+    }
+    Filled { octets, error: 0 }
 }
 
 // Reads the file of argument i into buf, up to its end or buf's. An octet more than the longest that can be shows a file too long.
-pub fn read(i: usize, name: &[u8], buf: &mut [u8]) -> Input
+pub fn read(rt: &impl Host, i: usize, name: &[u8], buf: &mut [u8]) -> Input
     ensures { IsPrefixLen result.octets buf.new }
 {
     let mut path = io::buffer();
-    let n = path::path_of(i, &mut path);
-    read_at(i, name, &path[..n], buf)
+    let n = path::path_of(rt, i, &mut path);
+    read_at(rt, i, name, &path[..n], buf)
 }
 
 // The same of the path to which argument i leads.
-pub fn read_at(i: usize, name: &[u8], path: &[u8], buf: &mut [u8]) -> Input
+pub fn read_at(rt: &impl Host, i: usize, name: &[u8], path: &[u8], buf: &mut [u8]) -> Input
     ensures { IsPrefixLen result.octets buf.new }
 {
-    let fd = open_at(i, name, path);
-    if fd < 0 {
-        return Input {
+    match open_at(rt, i, name, path) {
+        Some(file) => read_whole(rt, i, name, file, buf),
+        None => Input {
             octets: 0,
             ok: false,
-        };
+        },
     }
-    let input = read_piece(i, name, fd, buf);
-    libc::close(fd);
-    input
 }
 
-fn open_at(i: usize, name: &[u8], path: &[u8]) -> i32 {
-    let fd = os::open_read(path);
-    if fd < 0 {
-        print_error(i, name, os::errno());
-    }
-    fd
-}
-
-// Opens the file of argument i, to be read a piece at a time; negative where it can't be, which an error line has said.
-pub fn open(i: usize, name: &[u8]) -> i32 {
-    let mut path = io::buffer();
-    let n = path::path_of(i, &mut path);
-    open_at(i, name, &path[..n])
-}
-
-// Reads the next piece of the file of argument i, which is open as fd, into buf: fewer octets than buf has where the file ends.
-pub fn read_piece(i: usize, name: &[u8], fd: i32, buf: &mut [u8]) -> Input
+fn read_whole(rt: &impl Host, i: usize, name: &[u8], file: File, buf: &mut [u8]) -> Input
     ensures { IsPrefixLen result.octets buf.new }
 {
-    let octets = io::read_full(fd, buf);
-    // Not where buf is full: a pipe that is held open would keep the read waiting.
-    let ok = if octets == buf.len() {
-        true
-    } else {
-        is_at_end(fd)
-    };
-    if !ok {
-        print_error(i, name, os::errno());
-    }
-    Input { octets, ok }
+    let mut file = file;
+    read_piece(rt, i, name, &mut file, buf)
 }
 
-pub fn is_there(path: &[u8]) -> bool {
-    let f = look_at(path);
+// The file at the path, to be read, or the number of the error.
+fn opened(rt: &impl Host, path: &[u8]) -> Result<File, i32> {
+    match fs::open(rt, text_of(path)?) {
+        Ok(file) => Ok(file),
+        Err(e) => Err(error::number_of(e)),
+    }
+}
+
+fn open_at(rt: &impl Host, i: usize, name: &[u8], path: &[u8]) -> Option<File> {
+    match opened(rt, path) {
+        Ok(file) => Some(file),
+        Err(error) => {
+            print_error(rt, i, name, error);
+            None
+        }
+    }
+}
+
+// Opens the file of argument i, to be read a piece at a time; none where it can't be, which an error line has said.
+pub fn open(rt: &impl Host, i: usize, name: &[u8]) -> Option<File> {
+    let mut path = io::buffer();
+    let n = path::path_of(rt, i, &mut path);
+    open_at(rt, i, name, &path[..n])
+}
+
+// Reads the next piece of the file of argument i, which is open, into buf: fewer octets than buf has where the file ends.
+pub fn read_piece(rt: &impl Host, i: usize, name: &[u8], file: &mut File, buf: &mut [u8]) -> Input
+    ensures { IsPrefixLen result.octets buf.new }
+{
+    let f = fill(file, buf);
+    if f.error != 0 {
+        print_error(rt, i, name, f.error);
+    }
+    Input {
+        octets: f.octets,
+        ok: f.error == 0,
+    }
+}
+
+pub fn is_there(rt: &impl Host, path: &[u8]) -> bool {
+    let f = look_at(rt, path);
     f.error == 0
 }
 
+// Why the system lets this process not write the file at the path, as an error's number; 0 where it does. The file is opened and left as it is.
+fn against_writing(rt: &impl Host, path: &[u8]) -> i32 {
+    let path = match text_of(path) {
+        Ok(path) => path,
+        Err(error) => return error,
+    };
+    match OpenOptions::new().write(true).open(rt, path) {
+        Ok(_) => 0,
+        Err(e) => error::number_of(e),
+    }
+}
+
 // Why a file that is there is not to be replaced, as an error's number; 0 where it may be.
-fn against_old(path: &[u8], f: Found, rules: Rules) -> i32 {
+fn against_old(rt: &impl Host, path: &[u8], f: Found, rules: Rules) -> i32 {
     if facts::is_folder(f) {
-        return libc::EISDIR;
+        return error::EISDIR;
     }
     if !facts::is_plain(f) {
         return error::NOT_PLAIN;
     }
-    if facts::is_given(f, rules.first) | facts::is_given(f, rules.second) {
+    if facts::is_given(rt, f, rules.first) | facts::is_given(rt, f, rules.second) {
         return error::GIVEN;
     }
     if facts::is_read_only(f) {
@@ -117,80 +168,104 @@ fn against_old(path: &[u8], f: Found, rules: Rules) -> i32 {
     if 1 < f.names {
         return error::SEVERAL;
     }
-    let path = path::ended(path);
-    if libc::access(&path, libc::W_OK) < 0 {
-        return os::errno();
-    }
-    0
+    against_writing(rt, path)
 }
 
-fn against(path: &[u8], f: Found, rules: Rules) -> i32 {
-    if (f.error == libc::ENOENT) & rules.is_new & (path.len() != 0) {
+fn against(rt: &impl Host, path: &[u8], f: Found, rules: Rules) -> i32 {
+    if (f.error == error::ENOENT) & rules.is_new & (path.len() != 0) {
         return 0;
     }
     if f.error != 0 {
         return f.error;
     }
     if !rules.is_old {
-        return libc::EEXIST;
+        return error::EEXIST;
     }
-    against_old(path, f, rules)
+    against_old(rt, path, f, rules)
 }
 
-fn may_go(i: usize, name: &[u8], path: &[u8], rules: Rules) -> bool {
-    let f = look_at(path);
-    let error = against(path, f, rules);
+fn may_go(rt: &impl Host, i: usize, name: &[u8], path: &[u8], rules: Rules) -> bool {
+    let f = look_at(rt, path);
+    let error = against(rt, path, f, rules);
     if error != 0 {
-        print_error(i, name, error);
+        print_error(rt, i, name, error);
     }
     error == 0
 }
 
-fn remove_new(path: &[u8]) {
-    let mut new = io::buffer();
-    let n = beside(path, b".new", &mut new);
-    os::unlink(&new[..n]);
+// Makes the file at the path, which is not there yet, to be written, or gives the number of the error.
+fn create(rt: &impl Host, path: &[u8]) -> Result<File, i32> {
+    let path = text_of(path)?;
+    match OpenOptions::new()
+        .write(true)
+        .create_new(true)
+        .open(rt, path)
+    {
+        Ok(file) => Ok(file),
+        Err(e) => Err(error::number_of(e)),
+    }
 }
 
-fn create_new(path: &[u8]) -> i32 {
-    let mut new = io::buffer();
-    let n = beside(path, b".new", &mut new);
-    os::create(&new[..n])
+// Whether the file at the path could be taken away.
+fn unlink(rt: &impl Host, path: &[u8]) -> bool {
+    let Ok(path) = text_of(path) else {
+        return false;
+    };
+    fs::remove_file(rt, path).is_ok()
 }
 
-fn rename_new(path: &[u8]) -> bool {
+fn rename(rt: &impl Host, from: &[u8], to: &[u8]) -> Result<(), i32> {
+    match fs::rename(rt, text_of(from)?, text_of(to)?) {
+        Ok(()) => Ok(()),
+        Err(e) => Err(error::number_of(e)),
+    }
+}
+
+fn remove_new(rt: &impl Host, path: &[u8]) {
     let mut new = io::buffer();
     let n = beside(path, b".new", &mut new);
-    os::rename(&new[..n], path) == 0
+    unlink(rt, &new[..n]);
+}
+
+fn create_new(rt: &impl Host, path: &[u8]) -> Result<File, i32> {
+    let mut new = io::buffer();
+    let n = beside(path, b".new", &mut new);
+    create(rt, &new[..n])
+}
+
+fn rename_new(rt: &impl Host, path: &[u8]) -> Result<(), i32> {
+    let mut new = io::buffer();
+    let n = beside(path, b".new", &mut new);
+    rename(rt, &new[..n], path)
 }
 
 // A rename lasts once its folder is flushed; a folder that can't be read can't be flushed either.
-fn flush_folder(path: &[u8]) {
+fn flush_folder(rt: &impl Host, path: &[u8]) {
     let n = path::folder_of(path);
-    let fd = if n == 0 {
-        os::open_read(b".")
+    let folder = if n == 0 {
+        opened(rt, b".")
     } else {
-        os::open_read(&path[..n])
+        opened(rt, &path[..n])
     };
-    if 0 <= fd {
-        libc::fsync(fd);
-        libc::close(fd);
+    if let Ok(folder) = folder {
+        let _ = folder.sync_all();
     }
 }
 
 // Gives the new file the owner, group and mode of the old one, before an octet stands in it.
-fn is_kept(fd: i32, f: Found) -> bool {
+fn is_kept(file: &File, f: Found) -> bool {
     if f.error != 0 {
         return true;
     }
-    if libc::fchown(fd, f.owner, f.group) < 0 {
+    if fchown(file, Some(f.owner), Some(f.group)).is_err() {
         return false;
     }
-    libc::fchmod(fd, f.mode & 0o7777) == 0
+    file.set_permissions(Permissions::from_mode(f.mode & 0o7777))
+        .is_ok()
 }
 
 fn left(error: i32) -> i32 {
-    if error == libc::EEXIST {
+    if error == error::EEXIST {
         error::LEFT
     } else {
         error
@@ -198,24 +273,35 @@ fn left(error: i32) -> i32 {
 }
 
 // Makes the new file, under the lock. A new file that is there is not this program's, and stays.
-fn begin_new(i: usize, name: &[u8], path: &[u8]) -> i32 {
-    let f = look_at(path);
-    let fd = create_new(path);
-    if fd < 0 {
-        print_beside(name, path, b".new", left(os::errno()));
-        return fd;
+fn begin_new(rt: &impl Host, i: usize, name: &[u8], path: &[u8]) -> Option<File> {
+    let f = look_at(rt, path);
+    match create_new(rt, path) {
+        Ok(file) => keep_new(rt, i, name, path, file, f),
+        Err(error) => {
+            print_beside(name, path, b".new", left(error));
+            None
+        }
     }
-    if !is_kept(fd, f) {
-        libc::close(fd);
-        remove_new(path);
-        print_error(i, name, error::NOT_KEPT);
-        return -1;
-    }
-    fd
 }
 
-fn is_locked(name: &[u8], path: &[u8]) -> bool {
-    let w = lock::wait(path);
+fn keep_new(
+    rt: &impl Host,
+    i: usize,
+    name: &[u8],
+    path: &[u8],
+    file: File,
+    f: Found,
+) -> Option<File> {
+    if is_kept(&file, f) {
+        return Some(file);
+    }
+    remove_new(rt, path);
+    print_error(rt, i, name, error::NOT_KEPT);
+    None
+}
+
+fn is_locked(rt: &impl Host, name: &[u8], path: &[u8]) -> bool {
+    let w = lock::wait(rt, path);
     if w.has {
         return true;
     }
@@ -227,78 +313,83 @@ fn is_locked(name: &[u8], path: &[u8]) -> bool {
     false
 }
 
-// Begins to replace the file to which argument i leads: waits for its lock, and makes the file with `.new` behind its name. Negative where
+// Begins to replace the file to which argument i leads: waits for its lock, and makes the file with `.new` behind its name. None where
 // that is not to be or cannot be, which an error line has said. The guard stands before the lock, which is made beside no device, and
 // behind it, since the file may be another one by then.
-pub fn begin(i: usize, name: &[u8], path: &[u8], rules: Rules) -> i32 {
-    if !may_go(i, name, path, rules) {
-        return -1;
+pub fn begin(rt: &impl Host, i: usize, name: &[u8], path: &[u8], rules: Rules) -> Option<File> {
+    if !may_go(rt, i, name, path, rules) {
+        return None;
     }
-    if !is_locked(name, path) {
-        return -1;
+    if !is_locked(rt, name, path) {
+        return None;
     }
-    let fd = if may_go(i, name, path, rules) {
-        begin_new(i, name, path)
+    let file = if may_go(rt, i, name, path, rules) {
+        begin_new(rt, i, name, path)
     } else {
-        -1
+        None
     };
-    if fd < 0 {
-        lock::give_back(path);
+    if file.is_none() {
+        lock::give_back(rt, path);
     }
-    fd
+    file
 }
 
-// Whether all octets have reached the file. The descriptor is closed either way.
-fn write_closed(fd: i32, octets: &[u8]) -> bool {
-    let is_written = io::write_all(fd, octets);
-    let is_kept = libc::fsync(fd) == 0;
-    let is_closed = libc::close(fd) == 0;
-    is_written & is_kept & is_closed
+// Whether all octets have reached the file, which is closed either way.
+fn write_closed(file: File, octets: &[u8]) -> bool {
+    let mut file = file;
+    let is_written = file.write_all(octets).is_ok();
+    let is_kept = file.sync_all().is_ok();
+    is_written & is_kept
 }
 
-fn put(i: usize, name: &[u8], path: &[u8], fd: i32, octets: &[u8]) -> bool {
-    if !write_closed(fd, octets) {
-        remove_new(path);
+fn put(rt: &impl Host, i: usize, name: &[u8], path: &[u8], file: File, octets: &[u8]) -> bool {
+    if !write_closed(file, octets) {
+        remove_new(rt, path);
         print_beside(name, path, b".new", error::UNWRITTEN);
         return false;
     }
-    if !rename_new(path) {
-        let error = os::errno();
-        remove_new(path);
-        print_error(i, name, error);
+    if let Err(error) = rename_new(rt, path) {
+        remove_new(rt, path);
+        print_error(rt, i, name, error);
         return false;
     }
-    flush_folder(path);
+    flush_folder(rt, path);
     true
 }
 
 // Ends what `begin` began: the new file takes the old one's name once all octets are written. Otherwise the old one stays as it was.
-pub fn commit(i: usize, name: &[u8], path: &[u8], fd: i32, octets: &[u8]) -> bool {
-    let ok = put(i, name, path, fd, octets);
-    lock::give_back(path);
+pub fn commit(
+    rt: &impl Host,
+    i: usize,
+    name: &[u8],
+    path: &[u8],
+    file: File,
+    octets: &[u8],
+) -> bool {
+    let ok = put(rt, i, name, path, file, octets);
+    lock::give_back(rt, path);
     ok
 }
 
 // Ends what `begin` began, with the old file as it was.
-pub fn drop_new(path: &[u8], fd: i32) {
-    libc::close(fd);
-    remove_new(path);
-    lock::give_back(path);
+pub fn drop_new(rt: &impl Host, path: &[u8], file: File) {
+    drop(file);
+    remove_new(rt, path);
+    lock::give_back(rt, path);
 }
 
 // Makes the file of argument i, which is not there yet: whole, or not at all.
-pub fn make(i: usize, name: &[u8], octets: &[u8]) -> bool {
+pub fn make(rt: &impl Host, i: usize, name: &[u8], octets: &[u8]) -> bool {
     let mut path = io::buffer();
-    let n = target_of(i, &mut path);
+    let n = target_of(rt, i, &mut path);
     let rules = Rules {
         is_old: false,
         is_new: true,
         first: 0,
         second: 0,
     };
-    let fd = begin(i, name, &path[..n], rules);
-    if fd < 0 {
-        return false;
+    match begin(rt, i, name, &path[..n], rules) {
+        Some(file) => commit(rt, i, name, &path[..n], file, octets),
+        None => false,
     }
-    commit(i, name, &path[..n], fd, octets)
 }

@@ -1,15 +1,18 @@
 // One writer of a file at a time: FILE.lock names the process that is at work, and the next one waits for it.
 ghost use Rattle.io.specs.Counts.{IsPrefixLen};
 
-use crate::path::{beside, link_text, put_at};
-use libc::types::timespec;
+use crate::host::Host;
+use crate::path::{beside, link_text, put_at, text_of};
+use crate::{create, error, fill, opened, unlink};
 use saying::Number;
-
-// No process has this number any more; libc has no name for it.
-const ESRCH: i32 = 3;
+use std::fs::{File, Permissions};
+use std::io::Write;
+use std::os::unix::fs::PermissionsExt;
+use std::time::Duration;
+use std::{fs, thread};
 
 // A writer looks again after 20 ms by the clock, and gives up after five seconds with one and the same owner, or after a minute.
-const PAUSE: i64 = 20000000;
+const PAUSE: u64 = 20;
 
 const SAME: usize = 250;
 
@@ -34,18 +37,8 @@ pub struct Waiting {
     same: usize,
 }
 
-// Sleeps by value: only here does a reference to a time stand, so that only this function is walked by hand.
-fn sleep(t: timespec) -> i32 {
-    let asked = t;
-    let mut left = t;
-    libc::nanosleep(&asked, &mut left)
-}
-
-fn pause() {
-    sleep(timespec {
-        tv_sec: 0,
-        tv_nsec: PAUSE,
-    });
+fn pause(rt: &impl Host) {
+    thread::sleep(rt, Duration::from_millis(PAUSE));
 }
 
 // How many octets stand before the first of that value, or all of them.
@@ -62,117 +55,142 @@ fn before(text: &[u8], octet: u8) -> usize
     i
 }
 
-fn put_host(buf: &mut [u8], from: usize) -> usize
+// What stands at the path, as far as there is room; nothing where it can't be read.
+fn read_into(rt: &impl Host, path: &[u8], text: &mut [u8]) -> usize
+    ensures { IsPrefixLen result text.new }
+{
+    match opened(rt, path) {
+        Ok(file) => {
+            let mut file = file;
+            fill(&mut file, text).octets
+        }
+        Err(_) => 0,
+    }
+}
+
+fn put_host(rt: &impl Host, buf: &mut [u8], from: usize) -> usize
     ensures { IsPrefixLen result buf.new }
 {
     let mut host = [0u8; 65];
-    libc::gethostname(&mut host);
-    let n = before(&host, 0);
-    put_at(buf, from, &host[..n])
+    let n = read_into(rt, b"/proc/sys/kernel/hostname", &mut host);
+    let k = before(&host[..n], b'\n');
+    put_at(buf, from, &host[..k])
 }
 
 // The set of processes whose numbers this one sees: the same number in another container is another process.
-fn put_space(buf: &mut [u8], from: usize) -> usize
+fn put_space(rt: &impl Host, buf: &mut [u8], from: usize) -> usize
     ensures { IsPrefixLen result buf.new }
 {
     let mut space = [0u8; 40];
-    let n = link_text(b"/proc/self/ns/pid", &mut space);
+    let n = link_text(rt, b"/proc/self/ns/pid", &mut space);
     put_at(buf, from, &space[..n])
 }
 
 // A space, the machine's name and that set: where a process's number means something.
-fn put_place(buf: &mut [u8], from: usize) -> usize
+fn put_place(rt: &impl Host, buf: &mut [u8], from: usize) -> usize
     ensures { IsPrefixLen result buf.new }
 {
     let n = put_at(buf, from, b" ");
-    let n = put_host(buf, n);
+    let n = put_host(rt, buf, n);
     let n = put_at(buf, n, b" ");
-    let n = put_space(buf, n);
+    let n = put_space(rt, buf, n);
     put_at(buf, n, b"\n")
 }
 
-fn number(pid: i32) -> u64 {
-    if pid < 0 {
-        return 0;
-    }
-    pid as u64
+fn own_pid(rt: &impl Host) -> u64 {
+    rt.pid() as u64
 }
 
-fn own_pid() -> u64 {
-    number(libc::getpid())
+fn put_number(buf: &mut [u8], from: usize, n: u64) -> usize
+    ensures { IsPrefixLen result buf.new }
+{
+    let mut digits = [0u8; 20];
+    let k = io::decimal(n, &mut digits);
+    put_at(buf, from, &digits[..k])
 }
 
 // Writes into a lock whose it is.
-fn sign(fd: i32) -> bool {
+fn sign(rt: &impl Host, file: File) -> bool {
+    let mut file = file;
     let mut text = [0u8; 160];
-    let mut digits = [0u8; 20];
-    let k = io::decimal(own_pid(), &mut digits);
-    let n = put_at(&mut text, 0, &digits[..k]);
-    let n = put_place(&mut text, n);
+    let n = put_number(&mut text, 0, own_pid(rt));
+    let n = put_place(rt, &mut text, n);
     // Whoever waits has to read it, whatever the umask.
-    libc::fchmod(fd, 0o644);
-    let is_written = io::write_all(fd, &text[..n]);
-    let is_closed = libc::close(fd) == 0;
-    is_written & is_closed
+    let _ = file.set_permissions(Permissions::from_mode(0o644));
+    file.write_all(&text[..n]).is_ok()
 }
 
-fn remove(path: &[u8], ending: &[u8]) -> bool {
+fn remove(rt: &impl Host, path: &[u8], ending: &[u8]) -> bool {
     let mut name = io::buffer();
     let n = beside(path, ending, &mut name);
-    os::unlink(&name[..n]) == 0
+    unlink(rt, &name[..n])
 }
 
 // Makes the lock; 0, or the number of the error. A lock that could not be signed is taken away again.
-fn make(path: &[u8]) -> i32 {
+fn make(rt: &impl Host, path: &[u8]) -> i32 {
     let mut name = io::buffer();
     let n = beside(path, b".lock", &mut name);
-    let fd = os::create(&name[..n]);
-    if fd < 0 {
-        return os::errno();
-    }
-    if !sign(fd) {
-        os::unlink(&name[..n]);
-        return crate::error::UNWRITTEN;
+    let file = match create(rt, &name[..n]) {
+        Ok(file) => file,
+        Err(error) => return error,
+    };
+    if !sign(rt, file) {
+        unlink(rt, &name[..n]);
+        return error::UNWRITTEN;
     }
     0
 }
 
 // What stands in the lock; nothing where it is gone by now.
-fn read(path: &[u8], text: &mut [u8]) -> usize
+fn read(rt: &impl Host, path: &[u8], text: &mut [u8]) -> usize
     ensures { IsPrefixLen result text.new }
 {
     let mut name = io::buffer();
     let n = beside(path, b".lock", &mut name);
-    let fd = os::open_read(&name[..n]);
-    if fd < 0 {
-        return 0;
-    }
-    let n = io::read_full(fd, text);
-    libc::close(fd);
-    n
+    read_into(rt, &name[..n], text)
+}
+
+// Whether the system's list of processes has the number, or None where it can't be asked.
+fn is_listed(rt: &impl Host, pid: u64) -> Option<bool> {
+    let mut name = [0u8; 40];
+    let n = put_at(&mut name, 0, b"/proc/");
+    let n = put_number(&mut name, n, pid);
+    let Ok(path) = text_of(&name[..n]) else {
+        return None;
+    };
+    fs::exists(rt, path).ok()
+}
+
+// Whether that list tells of every process: it numbers this one as the system does, and does not hide those of others, of which 1 is one.
+fn is_whole(rt: &impl Host) -> bool {
+    let mut digits = [0u8; 20];
+    let k = io::decimal(own_pid(rt), &mut digits);
+    let mut own = [0u8; 20];
+    let n = link_text(rt, b"/proc/self", &mut own);
+    check::same(&own[..n], &digits[..k]) & (is_listed(rt, 1) == Some(true))
 }
 
 // Whether no process has the number. This one waits for the lock, so one that names it was left by another.
-fn is_gone(pid: u64) -> bool {
-    if PIDS < pid {
+fn is_gone(rt: &impl Host, pid: u64) -> bool {
+    if (pid == 0) | (PIDS < pid) {
         return false;
     }
-    if pid == own_pid() {
+    if pid == own_pid(rt) {
         return true;
     }
-    (libc::getpgid(pid as i32) < 0) & (os::errno() == ESRCH)
+    is_whole(rt) & (is_listed(rt, pid) == Some(false))
 }
 
 // Whether a lock was signed where this process runs: of another machine's processes it knows nothing.
-fn is_here(place: &[u8]) -> bool {
+fn is_here(rt: &impl Host, place: &[u8]) -> bool {
     let mut here = [0u8; 160];
-    let n = put_place(&mut here, 0);
+    let n = put_place(rt, &mut here, 0);
     check::same(place, &here[..n])
 }
 
-fn owner_of(path: &[u8]) -> Owner {
+fn owner_of(rt: &impl Host, path: &[u8]) -> Owner {
     let mut text = [0u8; 160];
-    let n = read(path, &mut text);
+    let n = read(rt, path, &mut text);
     let t = &text[..n];
     let k = before(t, b' ');
     let Number::Is(pid) = saying::parse(&t[..k], PIDS) else {
@@ -183,28 +201,27 @@ fn owner_of(path: &[u8]) -> Owner {
     };
     Owner {
         pid,
-        is_gone: is_here(&t[k..]) & is_gone(pid),
+        is_gone: is_here(rt, &t[k..]) & is_gone(rt, pid),
     }
 }
 
 // Whether what a process left that is gone could be taken away. FILE.unlock keeps two from doing so at once, where the slower one would
 // take away the lock that the quicker one has made by then.
-fn free(path: &[u8]) -> bool {
+fn free(rt: &impl Host, path: &[u8]) -> bool {
     let mut name = io::buffer();
     let n = beside(path, b".unlock", &mut name);
-    let fd = os::create(&name[..n]);
-    if fd < 0 {
-        return false;
+    match create(rt, &name[..n]) {
+        Ok(file) => drop(file),
+        Err(_) => return false,
     }
-    libc::close(fd);
-    let owner = owner_of(path);
+    let owner = owner_of(rt, path);
     let ok = if owner.is_gone {
-        remove(path, b".new");
-        remove(path, b".lock")
+        remove(rt, path, b".new");
+        remove(rt, path, b".lock")
     } else {
         true
     };
-    os::unlink(&name[..n]);
+    unlink(rt, &name[..n]);
     ok
 }
 
@@ -220,8 +237,8 @@ fn over(w: Waiting, error: i32) -> Waiting {
 }
 
 // One turn more with that owner, after a pause.
-fn waited(w: Waiting, owner: Owner) -> Waiting {
-    pause();
+fn waited(rt: &impl Host, w: Waiting, owner: Owner) -> Waiting {
+    pause(rt);
     let was = w.owner;
     let same = if was.pid == owner.pid { w.same } else { 0 };
     Waiting {
@@ -233,22 +250,22 @@ fn waited(w: Waiting, owner: Owner) -> Waiting {
     }
 }
 
-fn turn(path: &[u8], w: Waiting) -> Waiting {
-    let error = make(path);
-    if error != libc::EEXIST {
+fn turn(rt: &impl Host, path: &[u8], w: Waiting) -> Waiting {
+    let error = make(rt, path);
+    if error != error::EEXIST {
         return over(w, error);
     }
-    let owner = owner_of(path);
+    let owner = owner_of(rt, path);
     if owner.is_gone {
-        if free(path) {
+        if free(rt, path) {
             return w;
         }
     }
-    waited(w, owner)
+    waited(rt, w, owner)
 }
 
 // Waits for the lock of a path, and makes it.
-pub fn wait(path: &[u8]) -> Waiting {
+pub fn wait(rt: &impl Host, path: &[u8]) -> Waiting {
     let mut w = Waiting {
         is_over: false,
         has: false,
@@ -261,7 +278,7 @@ pub fn wait(path: &[u8]) -> Waiting {
     };
     let mut turns = 0;
     while turns < MOST {
-        w = turn(path, w);
+        w = turn(rt, path, w);
         if w.is_over {
             break;
         }
@@ -270,6 +287,6 @@ pub fn wait(path: &[u8]) -> Waiting {
     w
 }
 
-pub fn give_back(path: &[u8]) {
-    remove(path, b".lock");
+pub fn give_back(rt: &impl Host, path: &[u8]) {
+    remove(rt, path, b".lock");
 }

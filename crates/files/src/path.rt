@@ -1,10 +1,16 @@
 // Paths as octets: that of an argument, where links lead from there, the folder of one, and names beside one.
 ghost use Rattle.io.specs.Counts.{IsPrefixLen};
-ghost use Rattle.libc.specs.Io.{Ended};
 
-use libc::PATH_MAX;
+use crate::error;
+use crate::host::Host;
+use std::env::FillError;
+use std::fs;
 
-const LAST: usize = PATH_MAX - 1;
+// The system takes no longer path, an octet less.
+const PATH_MAX: usize = 4096;
+
+// An octet that stands in no text.
+const NO_TEXT: &[u8] = b"\xff";
 
 // As many links as the system itself follows.
 const LINKS: usize = 40;
@@ -17,24 +23,25 @@ struct Led {
 }
 
 // The path of argument i; all of the buffer, which is no path, where it is longer.
-pub fn path_of(i: usize, path: &mut [u8]) -> usize
+pub fn path_of(rt: &impl Host, i: usize, path: &mut [u8]) -> usize
     ensures { IsPrefixLen result path.new }
 {
-    let n = os::arg(i, path);
-    if os::errno() == libc::ENAMETOOLONG {
-        return path.len();
+    match rt.arg(i, path) {
+        Ok(n) => n,
+        Err(FillError::TooLong) => path.len(),
+        Err(FillError::NotPresent) => 0,
     }
-    n
 }
 
-// As C takes a path: as much of it as leaves room for a 0, and then zeros.
-pub fn ended(path: &[u8]) -> [u8; PATH_MAX]
-    ensures { Ended result }
-{
-    let mut ended = io::buffer();
-    put_at(&mut ended, 0, path);
-    ended[LAST] = 0;
-    ended
+// The path as std takes it, or why that is none: the number of an error.
+pub fn text_of(path: &[u8]) -> Result<&str, i32> {
+    if PATH_MAX <= path.len() {
+        return Err(error::ENAMETOOLONG);
+    }
+    match std::str::from_utf8(path) {
+        Ok(text) => Ok(text),
+        Err(_) => Err(error::NOT_TEXT),
+    }
 }
 
 // Puts a text into the buffer, and answers where it ends: where there is no room, at the buffer's end, and nothing is put.
@@ -80,25 +87,27 @@ pub fn folder_of(path: &[u8]) -> usize
     n
 }
 
-// The text of a link; empty where the path names none.
-pub fn link_text(path: &[u8], text: &mut [u8]) -> usize
+// The text of a link; empty where the path names none, and no text where the link's is none.
+pub fn link_text(rt: &impl Host, path: &[u8], text: &mut [u8]) -> usize
     ensures { IsPrefixLen result text.new }
 {
-    if PATH_MAX <= path.len() {
+    let Ok(path) = text_of(path) else {
         return 0;
+    };
+    match fs::read_link(rt, path) {
+        Ok(link) => put_at(text, 0, link.as_str().as_bytes()),
+        Err(e) if e.raw_os_error().is_some() => 0,
+        Err(_) => put_at(text, 0, NO_TEXT),
     }
-    let path = ended(path);
-    let got = libc::readlink(&path, text);
-    io::count(got, text)
 }
 
 // Where the link of that path leads, put in its place.
-fn follow(path: &mut [u8], n: usize) -> Led
+fn follow(rt: &impl Host, path: &mut [u8], n: usize) -> Led
     requires { IsPrefixLen n path.old }
     ensures { IsPrefixLen result.octets path.new }
 {
     let mut text = io::buffer();
-    let k = link_text(&path[..n], &mut text);
+    let k = link_text(rt, &path[..n], &mut text);
     if k == 0 {
         return Led {
             octets: n,
@@ -117,13 +126,13 @@ fn follow(path: &mut [u8], n: usize) -> Led
 }
 
 // The path of the file that argument i names, by way of all links: what is replaced is the file, and the links stay.
-pub fn target_of(i: usize, path: &mut [u8]) -> usize
+pub fn target_of(rt: &impl Host, i: usize, path: &mut [u8]) -> usize
     ensures { IsPrefixLen result path.new }
 {
-    let mut n = path_of(i, path);
+    let mut n = path_of(rt, i, path);
     let mut links = 0;
     while links < LINKS {
-        let l = follow(path, n);
+        let l = follow(rt, path, n);
         n = l.octets;
         if !l.is_link {
             break;

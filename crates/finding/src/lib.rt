@@ -1,6 +1,7 @@
 // Signals by number, and by type and start. They are in order, so one is found by halving. What has a `requires` is inner: its caller in
 // the library shows it.
 #![tactic(auto)]
+
 ghost use Rattle.std.specs.Prelude.{◌≡◌, cond, ◌<◌, eqb};
 ghost use Rattle.paper.specs.Search.{Cut};
 ghost use Rattle.paper.specs.SignalList.{list_of};

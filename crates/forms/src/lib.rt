@@ -1,5 +1,6 @@
 // A list moved from one form to the other, and the serial number of a signal. Every test comes before the first write.
 #![tactic(auto)]
+
 ghost use Rattle.std.specs.Prelude.{◌≡◌, ◌<◌, length};
 ghost use Rattle.paper.specs.Answer.{gives};
 ghost use Rattle.paper.specs.SignalList.{judge, signals_part};

@@ -1,5 +1,6 @@
 // The R1 grouping: which check place covers a bit of octets 47 to 73.
 #![tactic(auto)]
+
 ghost use Rattle.std.specs.Prelude.{◌≡◌};
 ghost use Rattle.paper.specs.Telegrams.{check_place};
 ghost use Rattle.grouping.specs.Place.{place_answer};

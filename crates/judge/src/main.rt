@@ -1,8 +1,9 @@
 // Judges the signal list whose path is its argument, under a profile where one is named, and says in one line what was found.
 #![tactic(auto)]
+
+use files::Host;
 use gateway::{Counts, Judged, LONGEST, Profile};
-use libc::STDOUT_FILENO;
-use saying::Line;
+use saying::{Line, STDOUT};
 
 // The rules that a list is judged by: the general ones, and those of a profile behind them.
 #[derive(Clone, Copy)]
@@ -13,7 +14,7 @@ enum Rules {
 
 fn help() {
     io::write_all(
-        STDOUT_FILENO,
+        STDOUT,
         b"judge LIST [form2] [plain-coach|driving-trailer]
 
 Judges the signal list LIST: in form 1, or with the word `form2` in form 2, in
@@ -89,9 +90,9 @@ fn say_under(profile: Profile, list: &[u8], form: u8) {
 }
 
 // One octet more than the longest list: what follows cannot change the answer.
-fn judge(form: u8, rules: Rules) {
+fn judge(rt: &impl Host, form: u8, rules: Rules) {
     let mut list = [0u8; LONGEST + 1];
-    let input = files::read(1, b"LIST", &mut list);
+    let input = files::read(rt, 1, b"LIST", &mut list);
     if !input.ok {
         return;
     }
@@ -112,19 +113,23 @@ fn rules_of(is_coach: bool, is_trailer: bool) -> Rules {
     Rules::General
 }
 
-fn main() {
-    let n = os::arg_count();
-    if saying::asks_help(n) {
+fn main(rt: HostRuntime) {
+    let n = saying::argument_count(&rt);
+    if saying::asks_help(&rt, n) {
         help();
         return;
     }
-    let is_form_2 = saying::has_option(2, n, b"form2");
-    let is_coach = saying::has_option(2, n, b"plain-coach");
-    let is_trailer = saying::has_option(2, n, b"driving-trailer");
+    let is_form_2 = saying::has_option(&rt, 2, n, b"form2");
+    let is_coach = saying::has_option(&rt, 2, n, b"plain-coach");
+    let is_trailer = saying::has_option(&rt, 2, n, b"driving-trailer");
     // A list has one profile: with both words one is left, and is taken for a word too many.
     let options = saying::one_if(is_form_2) + saying::one_if(is_coach | is_trailer);
     if saying::words_before(n, options) == 1 {
-        judge(words::form_of(is_form_2), rules_of(is_coach, is_trailer));
+        judge(
+            &rt,
+            words::form_of(is_form_2),
+            rules_of(is_coach, is_trailer),
+        );
         return;
     }
     saying::print_usage(b"judge LIST [form2] [plain-coach|driving-trailer]");

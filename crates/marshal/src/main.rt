@@ -1,12 +1,13 @@
 // Marshals routed signals out of a store into a file of vehicle bus data, and shows each route.
 #![tactic(auto)]
-use files::Rules;
+
+use files::{Host, Rules};
 use gateway::{
     Counts, EntryOutcome, Judged, LONGEST, Marshalled, ReadOutcome, Reading, Refusal, Route,
     RouteOutcome, STORE, Signal,
 };
-use libc::STDOUT_FILENO;
-use saying::{Clock, Line, Page};
+use saying::{Clock, Line, Page, STDOUT};
+use std::fs::File;
 use words::Written;
 
 const MOST: usize = 4096;
@@ -25,7 +26,7 @@ struct Order {
 
 fn help() {
     io::write_all(
-        STDOUT_FILENO,
+        STDOUT,
         b"marshal LIST STORE CLOCK DATA [routes] [table] [anyway] [form2]
 
 Writes the value of each route of LIST, read out of STORE at CLOCK, into its
@@ -190,7 +191,8 @@ fn print_refused(f: Refusal, list: &[u8], form: u8, n: Counts, store: usize, oct
 }
 
 fn marshal_bus(
-    fd: i32,
+    rt: &impl Host,
+    file: File,
     path: &[u8],
     list: &[u8],
     n: Counts,
@@ -201,11 +203,11 @@ fn marshal_bus(
     let outcome = gateway::marshal(list, order.form, store, order.clock, bus);
     match outcome {
         Marshalled::Refused(f) => {
-            files::drop_new(path, fd);
+            files::drop_new(rt, path, file);
             print_refused(f, list, order.form, n, store.len(), bus.len());
         }
         Marshalled::Live(live) => {
-            if files::commit(4, b"DATA", path, fd, bus) {
+            if files::commit(rt, 4, b"DATA", path, file, bus) {
                 print_done(list, n, store, order, live);
             }
         }
@@ -213,9 +215,9 @@ fn marshal_bus(
 }
 
 // Whether the data may go; a file too long is no bus data at all.
-fn is_data(data: &[u8], anyway: bool) -> bool {
+fn is_data(rt: &impl Host, data: &[u8], anyway: bool) -> bool {
     if MOST < data.len() {
-        files::print_long(4, b"DATA", MOST as u64);
+        files::print_long(rt, 4, b"DATA", MOST as u64);
         return false;
     }
     let written = if anyway {
@@ -223,96 +225,106 @@ fn is_data(data: &[u8], anyway: bool) -> bool {
     } else {
         Written::Data
     };
-    words::may_replace(4, b"DATA", data, written)
+    words::may_replace(rt, 4, b"DATA", data, written)
 }
 
-// The data are read and replaced while their lock keeps other programs waiting; the new ones are open as fd.
-fn marshal_into(fd: i32, path: &[u8], list: &[u8], n: Counts, store: &[u8], order: Order) {
+// The data are read and replaced while their lock keeps other programs waiting; the new ones are open as `file`.
+fn marshal_into(
+    rt: &impl Host,
+    file: File,
+    path: &[u8],
+    list: &[u8],
+    n: Counts,
+    store: &[u8],
+    order: Order,
+) {
     let mut bus = [0u8; MOST + 1];
-    let d = files::read_at(4, b"DATA", path, &mut bus);
+    let d = files::read_at(rt, 4, b"DATA", path, &mut bus);
     let k = d.octets;
     if !d.ok {
-        files::drop_new(path, fd);
+        files::drop_new(rt, path, file);
         return;
     }
-    if !is_data(&bus[..k], order.anyway) {
-        files::drop_new(path, fd);
+    if !is_data(rt, &bus[..k], order.anyway) {
+        files::drop_new(rt, path, file);
         return;
     }
-    marshal_bus(fd, path, list, n, store, order, &mut bus[..k]);
+    marshal_bus(rt, file, path, list, n, store, order, &mut bus[..k]);
 }
 
-fn marshal_at(path: &[u8], list: &[u8], n: Counts, store: &[u8], order: Order) {
+fn marshal_at(rt: &impl Host, path: &[u8], list: &[u8], n: Counts, store: &[u8], order: Order) {
     let rules = Rules {
         is_old: true,
         is_new: false,
         first: 1,
         second: 2,
     };
-    let fd = files::begin(4, b"DATA", path, rules);
-    if 0 <= fd {
-        marshal_into(fd, path, list, n, store, order);
+    if let Some(file) = files::begin(rt, 4, b"DATA", path, rules) {
+        marshal_into(rt, file, path, list, n, store, order);
     }
 }
 
-fn marshal_under(list: &[u8], n: Counts, store: &[u8], order: Order) {
+fn marshal_under(rt: &impl Host, list: &[u8], n: Counts, store: &[u8], order: Order) {
     let mut path = io::buffer();
-    let k = files::target_of(4, &mut path);
-    marshal_at(&path[..k], list, n, store, order);
+    let k = files::target_of(rt, 4, &mut path);
+    marshal_at(rt, &path[..k], list, n, store, order);
 }
 
-fn judge(list: &[u8], store: &[u8], order: Order) {
+fn judge(rt: &impl Host, list: &[u8], store: &[u8], order: Order) {
     let judged = gateway::judge(list, order.form);
     match judged {
         Judged::Refused(f) => words::print_refused(f),
-        Judged::Accepted(n) => marshal_under(list, n, store, order),
+        Judged::Accepted(n) => marshal_under(rt, list, n, store, order),
     }
 }
 
-fn read_files(order: Order) {
+fn read_files(rt: &impl Host, order: Order) {
     let mut list = [0u8; LONGEST + 1];
-    let l = files::read(1, b"LIST", &mut list);
+    let l = files::read(rt, 1, b"LIST", &mut list);
     if !l.ok {
         return;
     }
     let mut store = [0u8; STORE + 1];
-    let s = files::read(2, b"STORE", &mut store);
+    let s = files::read(rt, 2, b"STORE", &mut store);
     if !s.ok {
         return;
     }
     let n = l.octets;
     let m = s.octets;
-    judge(&list[..n], &store[..m], order);
+    judge(rt, &list[..n], &store[..m], order);
 }
 
-fn ask(routes: bool, table: bool, anyway: bool, form: u8) {
-    let Clock::At(clock) = saying::clock_argument(3) else {
+fn ask(rt: &impl Host, routes: bool, table: bool, anyway: bool, form: u8) {
+    let Clock::At(clock) = saying::clock_argument(rt, 3) else {
         return;
     };
-    read_files(Order {
-        clock,
-        routes,
-        table,
-        anyway,
-        form,
-        column: 0,
-    });
+    read_files(
+        rt,
+        Order {
+            clock,
+            routes,
+            table,
+            anyway,
+            form,
+            column: 0,
+        },
+    );
 }
 
-fn main() {
-    let n = os::arg_count();
-    if saying::asks_help(n) {
+fn main(rt: HostRuntime) {
+    let n = saying::argument_count(&rt);
+    if saying::asks_help(&rt, n) {
         help();
         return;
     }
-    let routes = saying::has_option(5, n, b"routes");
-    let table = saying::has_option(5, n, b"table");
-    let anyway = saying::has_option(5, n, b"anyway");
-    let is_form_2 = saying::has_option(5, n, b"form2");
+    let routes = saying::has_option(&rt, 5, n, b"routes");
+    let table = saying::has_option(&rt, 5, n, b"table");
+    let anyway = saying::has_option(&rt, 5, n, b"anyway");
+    let is_form_2 = saying::has_option(&rt, 5, n, b"form2");
     let shown = saying::one_if(routes) + saying::one_if(table);
     let options = shown + saying::one_if(anyway) + saying::one_if(is_form_2);
     if saying::words_before(n, options) == 4 {
-        ask(routes, table, anyway, words::form_of(is_form_2));
+        ask(&rt, routes, table, anyway, words::form_of(is_form_2));
         return;
     }
     saying::print_usage(b"marshal LIST STORE CLOCK DATA [routes] [table] [anyway] [form2]");

@@ -1,11 +1,14 @@
 // Judges a supplier's recording of marshalling step by step, and names the first wrong bit.
 #![tactic(auto)]
+
 mod pieces;
 mod telling;
 
+use files::Host;
 use gateway::{Checked, Judged, MOST_STEPS};
-use libc::STDOUT_FILENO;
 use pieces::{Area, Head, Listed, Next, ROOM, Step, first};
+use saying::STDOUT;
+use std::fs::File;
 
 // How far the judging is: so many steps accepted, and so many octets in the last one's data after.
 #[derive(Clone, Copy)]
@@ -17,7 +20,7 @@ struct Course {
 
 fn help() {
     io::write_all(
-        STDOUT_FILENO,
+        STDOUT,
         b"recording FILE
 
 Judges a supplier's recording of marshalling: whether the data after each step
@@ -126,7 +129,8 @@ fn judge_step(
 
 // Takes in one step more and judges it; its data after stay in `after`.
 fn one_step(
-    fd: i32,
+    rt: &impl Host,
+    file: &mut File,
     list: &[u8],
     form: u8,
     c: Course,
@@ -135,7 +139,7 @@ fn one_step(
     before: &mut Area,
     after: &mut Area,
 ) -> Course {
-    let next = pieces::take_step(fd, next_of(c), store, before, after);
+    let next = pieces::take_step(rt, file, next_of(c), store, before, after);
     match next {
         Next::Not => over(c),
         Next::End => {
@@ -151,7 +155,7 @@ fn one_step(
 
 // Step after step, with one turn for the step past the last that may be. Of x and y one has the last step's data after, and the other gets those of
 // this one.
-fn go_through(fd: i32, list: &[u8], form: u8) {
+fn go_through(rt: &impl Host, file: &mut File, list: &[u8], form: u8) {
     let mut store = [0u8; ROOM];
     let mut before = [0u8; ROOM];
     let mut x = [0u8; ROOM];
@@ -164,9 +168,9 @@ fn go_through(fd: i32, list: &[u8], form: u8) {
     let mut turn = 0;
     while turn <= MOST_STEPS {
         if turn % 2 == 0 {
-            c = one_step(fd, list, form, c, &mut store, &x, &mut before, &mut y);
+            c = one_step(rt, file, list, form, c, &mut store, &x, &mut before, &mut y);
         } else {
-            c = one_step(fd, list, form, c, &mut store, &y, &mut before, &mut x);
+            c = one_step(rt, file, list, form, c, &mut store, &y, &mut before, &mut x);
         }
         if c.is_over {
             return;
@@ -175,35 +179,32 @@ fn go_through(fd: i32, list: &[u8], form: u8) {
     }
 }
 
-fn judge_steps(fd: i32, list: &Area, l: Listed) {
-    go_through(fd, first(list, l.octets), l.form);
+fn judge_steps(rt: &impl Host, file: &mut File, list: &Area, l: Listed) {
+    go_through(rt, file, first(list, l.octets), l.form);
 }
 
-fn judge(fd: i32) {
+fn judge(rt: &impl Host, file: &mut File) {
     let mut list = [0u8; ROOM];
-    let head = pieces::take_head(fd, &mut list);
+    let head = pieces::take_head(rt, file, &mut list);
     if let Head::List(l) = head {
-        judge_steps(fd, &list, l);
+        judge_steps(rt, file, &list, l);
     }
 }
 
-fn ask() {
-    let fd = files::open(1, b"FILE");
-    if fd < 0 {
-        return;
+fn ask(rt: &impl Host) {
+    if let Some(mut file) = files::open(rt, 1, b"FILE") {
+        judge(rt, &mut file);
     }
-    judge(fd);
-    libc::close(fd);
 }
 
-fn main() {
-    let n = os::arg_count();
-    if saying::asks_help(n) {
+fn main(rt: HostRuntime) {
+    let n = saying::argument_count(&rt);
+    if saying::asks_help(&rt, n) {
         help();
         return;
     }
     if n == 2 {
-        ask();
+        ask(&rt);
         return;
     }
     saying::print_usage(b"recording FILE");

@@ -2,9 +2,11 @@
 ghost use Rattle.std.specs.Prelude.{◌≡◌, ◌<◌};
 ghost use Rattle.paper.specs.Octets.{number};
 
-use files::Input;
+use files::{Host, Input};
 use gateway::{FORM_1, FORM_2};
 use saying::{Line, say, say_number};
+use std::fs::File;
+use std::rt::Env;
 
 // How many octets of an area are held.
 pub const ROOM: usize = 65536;
@@ -50,25 +52,25 @@ pub fn first(octets: &[u8], n: usize) -> &[u8] {
 }
 
 // The error line on the file, up to what is wrong; on a step of it, counted from 1, where it is not 0.
-fn say_at(step: usize) -> Line {
-    let l = saying::say_argument(say(saying::empty(), b"error: FILE "), 1, b"");
+fn say_at(rt: &impl Env, step: usize) -> Line {
+    let l = saying::say_argument(rt, say(saying::empty(), b"error: FILE "), 1, b"");
     if step == 0 {
         return say(l, b": ");
     }
     say(say_number(say(l, b" step "), step as u64), b": ")
 }
 
-fn print_ends(step: usize, what: &[u8]) {
-    saying::print(say(say(say_at(step), b"ends within the "), what));
+fn print_ends(rt: &impl Env, step: usize, what: &[u8]) {
+    saying::print(say(say(say_at(rt, step), b"ends within the "), what));
 }
 
-fn print_long(step: usize, what: &[u8]) {
-    let l = say_number(say(say_at(step), b"more than "), ROOM as u64);
+fn print_long(rt: &impl Env, step: usize, what: &[u8]) {
+    let l = say_number(say(say_at(rt, step), b"more than "), ROOM as u64);
     saying::print(say(say(l, b" octets in the "), what));
 }
 
-fn print_form(form: u8) {
-    let l = say_number(say(say_at(0), b"form "), form as u64);
+fn print_form(rt: &impl Env, form: u8) {
+    let l = say_number(say(say_at(rt, 0), b"form "), form as u64);
     saying::print(say(l, b" of the list is neither 1 nor 2"));
 }
 
@@ -93,13 +95,13 @@ fn clock_in(octets: &[u8; 4]) -> u32
 }
 
 // Whether the next octets fill the piece; `what` is what the file ends within where they do not.
-fn is_filled(fd: i32, step: usize, what: &[u8], piece: &mut [u8]) -> bool {
-    let p = files::read_piece(1, b"FILE", fd, piece);
+fn is_filled(rt: &impl Host, file: &mut File, step: usize, what: &[u8], piece: &mut [u8]) -> bool {
+    let p = files::read_piece(rt, 1, b"FILE", file, piece);
     if !p.ok {
         return false;
     }
     if p.octets < piece.len() {
-        print_ends(step, what);
+        print_ends(rt, step, what);
         return false;
     }
     true
@@ -113,17 +115,17 @@ fn no_area() -> Input {
 }
 
 // The next area: its length, then so many octets.
-fn take_area(fd: i32, step: usize, what: &[u8], area: &mut [u8]) -> Input {
+fn take_area(rt: &impl Host, file: &mut File, step: usize, what: &[u8], area: &mut [u8]) -> Input {
     let mut length = [0u8; 4];
-    if !is_filled(fd, step, what, &mut length) {
+    if !is_filled(rt, file, step, what, &mut length) {
         return no_area();
     }
     let octets = number_in(&length);
     if area.len() < octets {
-        print_long(step, what);
+        print_long(rt, step, what);
         return no_area();
     }
-    let ok = is_filled(fd, step, what, &mut area[..octets]);
+    let ok = is_filled(rt, file, step, what, &mut area[..octets]);
     Input { octets, ok }
 }
 
@@ -133,12 +135,12 @@ fn is_begun(octets: &[u8; 9], n: usize) -> bool {
     check::same(first(octets, k), first(b"DUSTREC\x01", k))
 }
 
-fn take_list(fd: i32, form: u8, list: &mut Area) -> Head {
+fn take_list(rt: &impl Host, file: &mut File, form: u8, list: &mut Area) -> Head {
     if (form != FORM_1) & (form != FORM_2) {
-        print_form(form);
+        print_form(rt, form);
         return Head::Not;
     }
-    let l = take_area(fd, 0, b"list", list);
+    let l = take_area(rt, file, 0, b"list", list);
     if !l.ok {
         return Head::Not;
     }
@@ -149,43 +151,44 @@ fn take_list(fd: i32, form: u8, list: &mut Area) -> Head {
 }
 
 // What stands before the steps.
-pub fn take_head(fd: i32, list: &mut Area) -> Head {
+pub fn take_head(rt: &impl Host, file: &mut File, list: &mut Area) -> Head {
     let mut head = [0u8; 9];
-    let h = files::read_piece(1, b"FILE", fd, &mut head);
+    let h = files::read_piece(rt, 1, b"FILE", file, &mut head);
     if !h.ok {
         return Head::Not;
     }
     if !is_begun(&head, h.octets) {
         saying::print(say(
-            say_at(0),
+            say_at(rt, 0),
             b"no recording: it does not begin with DUSTREC and the octet 1",
         ));
         return Head::Not;
     }
     if h.octets < 9 {
-        print_ends(0, b"head");
+        print_ends(rt, 0, b"head");
         return Head::Not;
     }
-    take_list(fd, head[8], list)
+    take_list(rt, file, head[8], list)
 }
 
 fn take_areas(
-    fd: i32,
+    rt: &impl Host,
+    file: &mut File,
     step: usize,
     clock: u32,
     store: &mut Area,
     before: &mut Area,
     after: &mut Area,
 ) -> Next {
-    let s = take_area(fd, step, b"store", store);
+    let s = take_area(rt, file, step, b"store", store);
     if !s.ok {
         return Next::Not;
     }
-    let b = take_area(fd, step, b"data before", before);
+    let b = take_area(rt, file, step, b"data before", before);
     if !b.ok {
         return Next::Not;
     }
-    let a = take_area(fd, step, b"data after", after);
+    let a = take_area(rt, file, step, b"data after", after);
     if !a.ok {
         return Next::Not;
     }
@@ -199,14 +202,15 @@ fn take_areas(
 
 // The next step, counted from 1, or the file's end.
 pub fn take_step(
-    fd: i32,
+    rt: &impl Host,
+    file: &mut File,
     step: usize,
     store: &mut Area,
     before: &mut Area,
     after: &mut Area,
 ) -> Next {
     let mut clock = [0u8; 4];
-    let c = files::read_piece(1, b"FILE", fd, &mut clock);
+    let c = files::read_piece(rt, 1, b"FILE", file, &mut clock);
     if !c.ok {
         return Next::Not;
     }
@@ -214,8 +218,8 @@ pub fn take_step(
         return Next::End;
     }
     if c.octets < 4 {
-        print_ends(step, b"clock");
+        print_ends(rt, step, b"clock");
         return Next::Not;
     }
-    take_areas(fd, step, clock_in(&clock), store, before, after)
+    take_areas(rt, file, step, clock_in(&clock), store, before, after)
 }

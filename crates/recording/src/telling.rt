@@ -6,6 +6,9 @@ use crate::pieces::first;
 use gateway::{EntryOutcome, ReadOutcome, Refusal, Route, RouteOutcome, Signal, WrongBit};
 use saying::{Line, Page, empty, say, say_number, say_right};
 
+// The standard error, as `io` takes it.
+const STDERR: i32 = 2;
+
 // Where the values end.
 const COLUMN: usize = 27;
 
@@ -158,5 +161,5 @@ pub fn print_progress(steps: usize) {
     let l = say_number(say(empty(), b"recording: "), steps as u64);
     let l = say(l, b" steps\n");
     let text = l.text;
-    io::write_all(libc::STDERR_FILENO, first(&text, l.at));
+    io::write_all(STDERR, first(&text, l.at));
 }

@@ -1,8 +1,9 @@
 // A gateway in the middle: what a vehicle was heard saying, composed anew under the gateway's own list.
 #![tactic(auto)]
+
+use files::Host;
 use gateway::{EntryOutcome, HeldOutcome, Judged, LONGEST, Outcome, ReadOutcome, STORE};
-use libc::STDOUT_FILENO;
-use saying::{Clock, Number};
+use saying::{Clock, Number, STDOUT};
 
 #[derive(Clone, Copy)]
 struct Asked {
@@ -20,7 +21,7 @@ struct Count {
 
 fn help() {
     io::write_all(
-        STDOUT_FILENO,
+        STDOUT,
         b"relay LIST STORE CLOCK VEHICLE OUT [form2]
 
 Does what a gateway in the middle of a train does: reads every signal of VEHICLE
@@ -98,12 +99,12 @@ fn print_relayed(list: &[u8], store: &[u8], asked: Asked, kind: usize, octets: u
     saying::print(saying::say(l, b" signals"));
 }
 
-fn relay_out(list: &[u8], store: &[u8], asked: Asked, kind: usize, out: &mut [u8]) {
+fn relay_out(rt: &impl Host, list: &[u8], store: &[u8], asked: Asked, kind: usize, out: &mut [u8]) {
     let outcome = gateway::relay(list, asked.form, store, asked.clock, asked.vehicle, out);
     match outcome {
         Outcome::Refused(f) => words::print_refused_store(f, store.len()),
         Outcome::Done => {
-            if words::write_telegram(5, 1, 2, out) {
+            if words::write_telegram(rt, 5, 1, 2, out) {
                 print_relayed(list, store, asked, kind, out.len());
             }
         }
@@ -119,56 +120,59 @@ fn type_of(store: &[u8], asked: Asked) -> usize {
     h.kind
 }
 
-fn relay(list: &[u8], store: &[u8], asked: Asked) {
+fn relay(rt: &impl Host, list: &[u8], store: &[u8], asked: Asked) {
     let kind = type_of(store, asked);
     if kind == 3 {
         let mut out = [0u8; 40];
-        relay_out(list, store, asked, kind, &mut out);
+        relay_out(rt, list, store, asked, kind, &mut out);
     } else {
         let mut out = [0u8; 128];
-        relay_out(list, store, asked, kind, &mut out);
+        relay_out(rt, list, store, asked, kind, &mut out);
     }
 }
 
-fn read_files(asked: Asked) {
+fn read_files(rt: &impl Host, asked: Asked) {
     let mut list = [0u8; LONGEST + 1];
-    let l = files::read(1, b"LIST", &mut list);
+    let l = files::read(rt, 1, b"LIST", &mut list);
     if !l.ok {
         return;
     }
     let mut store = [0u8; STORE + 1];
-    let s = files::read(2, b"STORE", &mut store);
+    let s = files::read(rt, 2, b"STORE", &mut store);
     if !s.ok {
         return;
     }
     let n = l.octets;
     let m = s.octets;
-    relay(&list[..n], &store[..m], asked);
+    relay(rt, &list[..n], &store[..m], asked);
 }
 
-fn ask(form: u8) {
-    let Clock::At(clock) = saying::clock_argument(3) else {
+fn ask(rt: &impl Host, form: u8) {
+    let Clock::At(clock) = saying::clock_argument(rt, 3) else {
         return;
     };
-    let Number::Is(vehicle) = saying::number_argument(4, b"VEHICLE", 4294967295) else {
+    let Number::Is(vehicle) = saying::number_argument(rt, 4, b"VEHICLE", 4294967295) else {
         return;
     };
-    read_files(Asked {
-        clock,
-        vehicle: vehicle as usize,
-        form,
-    });
+    read_files(
+        rt,
+        Asked {
+            clock,
+            vehicle: vehicle as usize,
+            form,
+        },
+    );
 }
 
-fn main() {
-    let n = os::arg_count();
-    if saying::asks_help(n) {
+fn main(rt: HostRuntime) {
+    let n = saying::argument_count(&rt);
+    if saying::asks_help(&rt, n) {
         help();
         return;
     }
-    let is_form_2 = saying::has_option(6, n, b"form2");
+    let is_form_2 = saying::has_option(&rt, 6, n, b"form2");
     if saying::words_before(n, saying::one_if(is_form_2)) == 5 {
-        ask(words::form_of(is_form_2));
+        ask(&rt, words::form_of(is_form_2));
         return;
     }
     saying::print_usage(b"relay LIST STORE CLOCK VEHICLE OUT [form2]");

@@ -1,17 +1,19 @@
 // Shows the remedy texts of a telegram 8.8A by their keys, or prints the text file that `write_remedies` writes it from.
 #![tactic(auto)]
+
 ghost use Rattle.io.specs.Counts.{IsPrefixLen};
 
 mod sheet;
 
+use files::Host;
 use gateway::{Remedies, RemediesRead, RemedyRead};
-use libc::STDOUT_FILENO;
+use saying::STDOUT;
 use sheet::{Sheet, put, put_key, put_language, put_octets, put_text};
 use words::REMEDIES;
 
 fn help() {
     io::write_all(
-        STDOUT_FILENO,
+        STDOUT,
         b"remedies TELEGRAM [file]
 
 Shows the remedy texts of a telegram 8.8A, the report of code 8A08, as a desk
@@ -104,13 +106,13 @@ fn put_file(sheet: &mut Sheet, telegram: &[u8], m: Remedies) -> usize
 fn print_shown(telegram: &[u8], m: Remedies) {
     let mut sheet = [0u8; 8192];
     let n = put_shown(&mut sheet, telegram, m);
-    io::write_all(STDOUT_FILENO, &sheet[..n]);
+    io::write_all(STDOUT, &sheet[..n]);
 }
 
 fn print_file(telegram: &[u8], m: Remedies) {
     let mut sheet = [0u8; 8192];
     let n = put_file(&mut sheet, telegram, m);
-    io::write_all(STDOUT_FILENO, &sheet[..n]);
+    io::write_all(STDOUT, &sheet[..n]);
 }
 
 fn answer(telegram: &[u8], as_file: bool) {
@@ -127,9 +129,9 @@ fn answer(telegram: &[u8], as_file: bool) {
 }
 
 // An octet more than the longest shows a telegram too long.
-fn ask(as_file: bool) {
+fn ask(rt: &impl Host, as_file: bool) {
     let mut telegram = [0u8; REMEDIES + 1];
-    let t = files::read(1, b"TELEGRAM", &mut telegram);
+    let t = files::read(rt, 1, b"TELEGRAM", &mut telegram);
     if !t.ok {
         return;
     }
@@ -137,15 +139,15 @@ fn ask(as_file: bool) {
     answer(&telegram[..n], as_file);
 }
 
-fn main() {
-    let n = os::arg_count();
-    if saying::asks_help(n) {
+fn main(rt: HostRuntime) {
+    let n = saying::argument_count(&rt);
+    if saying::asks_help(&rt, n) {
         help();
         return;
     }
-    let as_file = saying::has_option(2, n, b"file");
+    let as_file = saying::has_option(&rt, 2, n, b"file");
     if saying::words_before(n, saying::one_if(as_file)) == 1 {
-        ask(as_file);
+        ask(&rt, as_file);
         return;
     }
     saying::print_usage(b"remedies TELEGRAM [file]");

@@ -83,6 +83,6 @@ pub fn print(line: Line) {
     let at = line.at;
     if at <= ROOM {
         text[at] = b'\n';
-        io::write_all(libc::STDOUT_FILENO, &text[..at + 1]);
+        io::write_all(crate::STDOUT, &text[..at + 1]);
     }
 }

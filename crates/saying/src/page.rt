@@ -27,7 +27,7 @@ fn filled(page: &Page) -> usize
 
 fn write(page: &[u8], n: usize) {
     if n <= page.len() {
-        io::write_all(libc::STDOUT_FILENO, &page[..n]);
+        io::write_all(crate::STDOUT, &page[..n]);
     }
 }
 

@@ -1,6 +1,7 @@
 // Texts of two octets a character (UNICODE16), as people read and write them: in UTF-8, with `\u` and four hexadecimal digits for what cannot be shown,
 // and two backslashes for one; and a language's two letters. What has a `requires` is inner.
 #![tactic(auto)]
+
 mod hex;
 mod language;
 mod read;

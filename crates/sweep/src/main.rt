@@ -1,11 +1,12 @@
 // Marks in a store file, as expired, what is too old for any time limit.
 #![tactic(auto)]
+
 ghost use Rattle.std.specs.Prelude.{◌≤◌, ◌<◌};
 
-use files::Rules;
+use files::{Host, Rules};
 use gateway::{Outcome, STORE, VEHICLES};
-use libc::STDOUT_FILENO;
-use saying::Clock;
+use saying::{Clock, STDOUT};
+use std::fs::File;
 use words::Vehicles;
 
 // The octets of a vehicle's slot. The first is the only one that a sweep may change.
@@ -13,7 +14,7 @@ const SLOT: usize = STORE / VEHICLES;
 
 fn help() {
     io::write_all(
-        STDOUT_FILENO,
+        STDOUT,
         b"sweep STORE CLOCK
 
 Marks every vehicle in STORE as expired whose telegram is more than 600000 ms
@@ -74,50 +75,49 @@ fn print_swept(clock: u32, vehicles: Vehicles) {
     saying::print(words::say_vehicles(saying::put(l, b':'), vehicles));
 }
 
-fn sweep_store(fd: i32, path: &[u8], clock: u32, old: &[u8], store: &mut [u8]) {
+fn sweep_store(rt: &impl Host, file: File, path: &[u8], clock: u32, old: &[u8], store: &mut [u8]) {
     let outcome = gateway::sweep(store, clock);
     match outcome {
         Outcome::Refused(f) => {
-            files::drop_new(path, fd);
+            files::drop_new(rt, path, file);
             words::print_refused_store(f, store.len());
         }
         Outcome::Done => {
-            if files::commit(1, b"STORE", path, fd, store) {
+            if files::commit(rt, 1, b"STORE", path, file, store) {
                 print_swept(clock, marked(old, store));
             }
         }
     }
 }
 
-// The store is read and replaced while its lock keeps other programs waiting; the new one is open as fd.
-fn sweep_into(fd: i32, path: &[u8], clock: u32) {
+// The store is read and replaced while its lock keeps other programs waiting; the new one is open as `file`.
+fn sweep_into(rt: &impl Host, file: File, path: &[u8], clock: u32) {
     let mut store = [0u8; STORE + 1];
-    let s = files::read_at(1, b"STORE", path, &mut store);
+    let s = files::read_at(rt, 1, b"STORE", path, &mut store);
     if !s.ok {
-        files::drop_new(path, fd);
+        files::drop_new(rt, path, file);
         return;
     }
     let n = s.octets;
     let old = store;
-    sweep_store(fd, path, clock, &old, &mut store[..n]);
+    sweep_store(rt, file, path, clock, &old, &mut store[..n]);
 }
 
-fn sweep_at(path: &[u8], clock: u32) {
+fn sweep_at(rt: &impl Host, path: &[u8], clock: u32) {
     let rules = Rules {
         is_old: true,
         is_new: false,
         first: 0,
         second: 0,
     };
-    let fd = files::begin(1, b"STORE", path, rules);
-    if 0 <= fd {
-        sweep_into(fd, path, clock);
+    if let Some(file) = files::begin(rt, 1, b"STORE", path, rules) {
+        sweep_into(rt, file, path, clock);
     }
 }
 
-fn main() {
-    let n = os::arg_count();
-    if saying::asks_help(n) {
+fn main(rt: HostRuntime) {
+    let n = saying::argument_count(&rt);
+    if saying::asks_help(&rt, n) {
         help();
         return;
     }
@@ -125,10 +125,10 @@ fn main() {
         saying::print_usage(b"sweep STORE CLOCK");
         return;
     }
-    let Clock::At(clock) = saying::clock_argument(2) else {
+    let Clock::At(clock) = saying::clock_argument(&rt, 2) else {
         return;
     };
     let mut path = io::buffer();
-    let k = files::target_of(1, &mut path);
-    sweep_at(&path[..k], clock);
+    let k = files::target_of(&rt, 1, &mut path);
+    sweep_at(&rt, &path[..k], clock);
 }

@@ -1,13 +1,14 @@
 // Takes a telegram of a vehicle into a store file, or makes a new store.
 #![tactic(auto)]
-use files::Rules;
+
+use files::{Host, Rules};
 use gateway::{HeldOutcome, Outcome, Refusal, STORE, TELEGRAM};
-use libc::STDOUT_FILENO;
-use saying::{Clock, Line, Number};
+use saying::{Clock, Line, Number, STDOUT};
+use std::fs::File;
 
 fn help() {
     io::write_all(
-        STDOUT_FILENO,
+        STDOUT,
         b"take STORE VEHICLE CLOCK TELEGRAM   takes a telegram of a vehicle into a store
 take new STORE                      makes a store in which no vehicle was heard
 
@@ -27,10 +28,10 @@ wait, and where it holds on for five seconds their line begins with
     );
 }
 
-fn make_store() {
+fn make_store(rt: &impl Host) {
     let store = [0u8; STORE];
-    if files::make(2, b"STORE", &store) {
-        io::write_all(STDOUT_FILENO, b"made a store, no vehicle heard\n");
+    if files::make(rt, 2, b"STORE", &store) {
+        io::write_all(STDOUT, b"made a store, no vehicle heard\n");
     }
 }
 
@@ -79,76 +80,83 @@ fn print_refused(f: Refusal, octets: usize, telegram: &[u8]) {
     saying::print(l);
 }
 
-fn take_store(fd: i32, path: &[u8], vehicle: usize, clock: u32, telegram: &[u8], store: &mut [u8]) {
+fn take_store(
+    rt: &impl Host,
+    file: File,
+    path: &[u8],
+    vehicle: usize,
+    clock: u32,
+    telegram: &[u8],
+    store: &mut [u8],
+) {
     let outcome = gateway::take(store, vehicle, clock, telegram);
     match outcome {
         Outcome::Refused(f) => {
-            files::drop_new(path, fd);
+            files::drop_new(rt, path, file);
             print_refused(f, store.len(), telegram);
         }
         Outcome::Done => {
-            if files::commit(1, b"STORE", path, fd, store) {
+            if files::commit(rt, 1, b"STORE", path, file, store) {
                 print_taken(store, vehicle, clock);
             }
         }
     }
 }
 
-// The store is read and replaced while its lock keeps other takes waiting; the new one is open as fd.
-fn take_into(fd: i32, path: &[u8], vehicle: usize, clock: u32, telegram: &[u8]) {
+// The store is read and replaced while its lock keeps other takes waiting; the new one is open as `file`.
+fn take_into(rt: &impl Host, file: File, path: &[u8], vehicle: usize, clock: u32, telegram: &[u8]) {
     let mut store = [0u8; STORE + 1];
-    let s = files::read_at(1, b"STORE", path, &mut store);
+    let s = files::read_at(rt, 1, b"STORE", path, &mut store);
     if !s.ok {
-        files::drop_new(path, fd);
+        files::drop_new(rt, path, file);
         return;
     }
     let n = s.octets;
-    take_store(fd, path, vehicle, clock, telegram, &mut store[..n]);
+    take_store(rt, file, path, vehicle, clock, telegram, &mut store[..n]);
 }
 
-fn take_at(path: &[u8], vehicle: usize, clock: u32, telegram: &[u8]) {
+fn take_at(rt: &impl Host, path: &[u8], vehicle: usize, clock: u32, telegram: &[u8]) {
     let rules = Rules {
         is_old: true,
         is_new: false,
         first: 4,
         second: 0,
     };
-    let fd = files::begin(1, b"STORE", path, rules);
-    if 0 <= fd {
-        take_into(fd, path, vehicle, clock, telegram);
+    if let Some(file) = files::begin(rt, 1, b"STORE", path, rules) {
+        take_into(rt, file, path, vehicle, clock, telegram);
     }
 }
 
-fn take_words() {
-    let Number::Is(vehicle) = saying::number_argument(2, b"VEHICLE", 4294967295) else {
+fn take_words(rt: &impl Host) {
+    let Number::Is(vehicle) = saying::number_argument(rt, 2, b"VEHICLE", 4294967295) else {
         return;
     };
-    let Clock::At(clock) = saying::clock_argument(3) else {
+    let Clock::At(clock) = saying::clock_argument(rt, 3) else {
         return;
     };
     let mut telegram = [0u8; TELEGRAM + 1];
-    let t = files::read(4, b"TELEGRAM", &mut telegram);
+    let t = files::read(rt, 4, b"TELEGRAM", &mut telegram);
     if !t.ok {
         return;
     }
     let n = t.octets;
     let mut path = io::buffer();
-    let k = files::target_of(1, &mut path);
-    take_at(&path[..k], vehicle as usize, clock, &telegram[..n]);
+    let k = files::target_of(rt, 1, &mut path);
+    take_at(rt, &path[..k], vehicle as usize, clock, &telegram[..n]);
 }
 
-fn main() {
-    let n = os::arg_count();
-    if saying::asks_help(n) {
+fn main(rt: HostRuntime) {
+    let n = saying::argument_count(&rt);
+    if saying::asks_help(&rt, n) {
         help();
         return;
     }
-    if (n == 3) & saying::is_word(1, b"new") {
-        make_store();
+    if (n == 3) & saying::is_word(&rt, 1, b"new") {
+        make_store(&rt);
         return;
     }
     if n == 5 {
-        take_words();
+        take_words(&rt);
         return;
     }
     saying::print_usage(b"take STORE VEHICLE CLOCK TELEGRAM, or take new STORE");

@@ -1,25 +1,24 @@
 -- A part of a slice, sets of keys, and what judging the blocks one after the other shows. Assumes nothing.
-use Prim.Native.Nat.{ℕ, zero, suc, ◌+◌, ◌-◌, ◌*◌, ◌/◌, ◌%◌, ◌^◌, ◌≤◌, ◌<◌, min}
-use native.Mathlib.Nat.{lt_irrefl, div-eq_of_lt, mod-lt, pow-suc, add-zero}
+use Prim.Native.Nat.{ℕ, zero, suc, ◌+◌, ◌-◌, ◌/◌, ◌%◌, ◌^◌, ◌≤◌, ◌<◌, min}
+use native.Mathlib.Nat.{lt_irrefl, div-eq_of_lt, pow-suc}
 use native.Mathlib.Numerals.{add-one}
 use native.Mathlib.Decide.{dec_lt, ℕ_discrete}
 use native.Mathlib.Omega.{arith}
 use mathlib.Core.Path.{◌≡◌, refl, sym, ap, ap₂, ◌∙◌}
-use mathlib.Core.Bool.{Bool, true, false, not, cond, ◌&&◌, ◌||◌, or-true, or-false, false≢true}
+use mathlib.Core.Bool.{Bool, true, false, not, cond, ◌||◌, or-true, or-false}
 use mathlib.Core.List.{List, [], ◌∷◌}
-use lib.Dec.{ltb, leb, eqb}
+use lib.Dec.{ltb, eqb}
 use lib.ListN.{length, get_or, take, drop, length-take, length-drop}
-use lib.Seq.{get_or-take, get_or-drop, ext_get_or}
+use lib.Seq.{get_or-take, ext_get_or}
 use lib.Bits.{bit_or, or_shr, or_mod, or_zero_r}
 use lib.Pow.{pow-lt, pow_pos, pow-add, shl-shr}
 use borrow.Author.Count.{below_more}
-use borrow.Author.Tests.{lt-ltb, le-ltb, ltb-true, ltb-false, eq-eqb, ne_eqb, eqb-true, eqb-false, not-true, not-false}
+use borrow.Author.Tests.{lt-ltb, le-ltb, eq-eqb, ne_eqb, eqb-false, not-false}
 use Rattle.bools.proofs.Tests.{both}
-use Rattle.paper.specs.Octets.{number}
 use Rattle.paper.specs.Answer.{Answer, gives, refused, refuse_if, Sought, found, nothing}
-use Rattle.paper.specs.ETelegrams.{remedy_code, e_code, e_limit}
+use Rattle.paper.specs.ETelegrams.{e_code, e_limit}
 use Rattle.paper.specs.First.{first_of, some}
-use Rattle.paper.specs.Remedies.{length_at, key_at, text_length_at, start, key_of, field_rule, past, broken, twice, block_fault, first_fault, refuse_by, head_rule, block_count, Remedies, remedies_of, remedy_reading, Remedy, remedy_of, remedy_block, text_in, remedy_text, BlockRules}
+use Rattle.paper.specs.Remedies.{length_at, key_at, text_length_at, start, key_of, past, broken, twice, block_fault, first_fault, refuse_by, head_rule, block_count, Remedies, remedies_of, remedy_reading, Remedy, remedy_of, remedy_block, text_in, remedy_text, BlockRules}
 use Rattle.paper.proofs.AnswerLaws.{refuses, goes_past, one_answer}
 use Rattle.paper.proofs.FirstLaws.{some_true, some_false, some_none, some_at}
 use Rattle.paper.proofs.RemedyLaws.{fault_here, no_fault, field_rules, block_rules}

@@ -1,12 +1,11 @@
 -- A block's faults by a set of keys, and the paper's answer for each case of the code's enums.
-use Rattle.std.specs.Prelude.{ℕ, ◌+◌, ◌-◌, ◌*◌, ◌/◌, ◌%◌, ◌^◌, ◌≤◌, ◌<◌, ◌≡◌, Bool, cond, ◌&&◌, List, [], ◌∷◌, ltb, leb, eqb, length}
+use Rattle.std.specs.Prelude.{ℕ, ◌-◌, ◌/◌, ◌%◌, ◌^◌, ◌≤◌, ◌≡◌, Bool, cond, ◌&&◌, List, [], ◌∷◌, ltb, leb, eqb, length}
 use Rattle.paper.specs.Answer.{Answer, gives, Sought, found, nothing}
 use Rattle.paper.specs.First.{first_of, some}
 use Rattle.paper.specs.Remedies as paper
 use Rattle.paper.specs.Remedies.{key_at, past, broken, start, block_fault, first_fault}
 use Rattle.paper.specs.ETelegrams.{remedy_code}
 use Rattle.refusals.specs.Refusal.{refusal_of}
-use Rattle.texts.specs.declared.Remedies.{Remedies}
 use Rattle.texts.specs.declared.RemediesRead.{RemediesRead}
 use Rattle.texts.specs.declared.RemediesRead.TheVariants as R
 use Rattle.texts.specs.declared.Remedy.{Remedy}

@@ -1,6 +1,7 @@
 // The remedies and tests of telegram 8.8A, read: the telegram judged, and the key and the text of each of its blocks. Block 0 is the first.
 // What has a `requires` is inner: its caller in the library shows it.
 #![tactic(auto)]
+
 ghost use Rattle.std.specs.Prelude.{◌≡◌, ◌+◌, ◌-◌, ◌*◌, ◌^◌, ◌<◌, ◌≤◌, min, length, get_or, take, drop};
 ghost use Rattle.std.specs.Int.Bits.{bit_or};
 ghost use Rattle.paper.specs.Octets.{number};

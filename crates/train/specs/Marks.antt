@@ -3,7 +3,6 @@ use Rattle.std.specs.Prelude.{◌≡◌, Bool, cond, List, map, ℕ, suc, ◌+�
 use Rattle.paper.specs.Answer.{Answer, gives}
 use Rattle.paper.specs.Train as paper
 use Rattle.refusals.specs.Refusal.{refusal_of}
-use Rattle.train.specs.declared.Members.{Members}
 use Rattle.train.specs.declared.Resolved.{Resolved}
 use Rattle.train.specs.declared.Resolved.TheVariants as R
 

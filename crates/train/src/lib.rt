@@ -1,5 +1,6 @@
 // Addresses resolved over a train. A vehicle's marks are one octet: 1 leading, 2 coach, 4 tractive, 8 led, 16 sleeping; the three high bits are not read.
 #![tactic(auto)]
+
 ghost use Rattle.std.specs.Prelude.{◌≡◌, ◌≤◌, ◌<◌, ◌+◌, ◌*◌, ◌/◌, ◌%◌, ◌^◌, true, map, eqb, length};
 ghost use Rattle.paper.specs.Train.{is_address, set_to, resolving};
 ghost use Rattle.train.specs.Marks.{vehicle_of, led_ok, consist_ok, with_mark, above, set_of, resolved_answer};

@@ -1,6 +1,7 @@
 // What document 01 names, in a program's words: reasons, refusals, places, serial numbers and units, what stands in a store and what is read out of it.
 // No function that a program's input reaches has a `requires`.
 #![tactic(auto)]
+
 mod believed;
 mod broken;
 mod columns;

@@ -2,6 +2,7 @@
 // Over a store `take` and `sweep` alone write, and refuse what has not its length, which no list and no telegram has.
 use gateway::{FORM_1, FORM_2, Judged, Outcome, RemediesRead, STORE};
 use saying::print_word;
+use std::rt::Env;
 
 // What is written. `Anyway` are bus data too, of which the caller has said that they may be as long as a telegram.
 #[derive(Clone, Copy)]
@@ -48,18 +49,19 @@ fn is_as_long(octets: &[u8]) -> bool {
     (octets.len() == 40) | (octets.len() == 128)
 }
 
-fn is_no_list(i: usize, name: &[u8], old: &[u8]) -> bool {
+fn is_no_list(rt: &impl Env, i: usize, name: &[u8], old: &[u8]) -> bool {
     let ok = !is_list(old);
     if !ok {
-        print_word(i, name, b"reads as a signal list");
+        print_word(rt, i, name, b"reads as a signal list");
     }
     ok
 }
 
-fn is_no_telegram(i: usize, name: &[u8], old: &[u8]) -> bool {
+fn is_no_telegram(rt: &impl Env, i: usize, name: &[u8], old: &[u8]) -> bool {
     let ok = !is_as_long(old);
     if !ok {
         print_word(
+            rt,
             i,
             name,
             b"as long as a telegram; the word `anyway` marshals into it all the same",
@@ -68,28 +70,33 @@ fn is_no_telegram(i: usize, name: &[u8], old: &[u8]) -> bool {
     ok
 }
 
-fn is_old_telegram(i: usize, name: &[u8], old: &[u8]) -> bool {
+fn is_old_telegram(rt: &impl Env, i: usize, name: &[u8], old: &[u8]) -> bool {
     let ok = is_telegram(old);
     if !ok {
-        print_word(i, name, b"exists and is no telegram");
+        print_word(rt, i, name, b"exists and is no telegram");
     }
     ok
 }
 
-fn is_old_remedies(i: usize, name: &[u8], old: &[u8]) -> bool {
+fn is_old_remedies(rt: &impl Env, i: usize, name: &[u8], old: &[u8]) -> bool {
     let ok = is_remedies(old);
     if !ok {
-        print_word(i, name, b"exists and is no telegram that `remedies` reads");
+        print_word(
+            rt,
+            i,
+            name,
+            b"exists and is no telegram that `remedies` reads",
+        );
     }
     ok
 }
 
 // Whether what stands in the file of argument i may go; where not, an error line has said so.
-pub fn may_replace(i: usize, name: &[u8], old: &[u8], written: Written) -> bool {
+pub fn may_replace(rt: &impl Env, i: usize, name: &[u8], old: &[u8], written: Written) -> bool {
     match written {
-        Written::Anyway => is_no_list(i, name, old),
-        Written::Data => is_no_list(i, name, old) && is_no_telegram(i, name, old),
-        Written::Telegram => is_old_telegram(i, name, old),
-        Written::Remedies => is_old_remedies(i, name, old),
+        Written::Anyway => is_no_list(rt, i, name, old),
+        Written::Data => is_no_list(rt, i, name, old) && is_no_telegram(rt, i, name, old),
+        Written::Telegram => is_old_telegram(rt, i, name, old),
+        Written::Remedies => is_old_remedies(rt, i, name, old),
     }
 }

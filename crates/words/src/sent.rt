@@ -1,6 +1,6 @@
 // A telegram that is sent: which signals it carries, what it may replace as a file, and its writing.
 use crate::replaced::{Written, may_replace};
-use files::Rules;
+use files::{Host, Rules};
 use gateway::Signal;
 
 // The longest telegram that is written: 8.8A, with eight texts of 127 characters. An R-telegram has fewer octets.
@@ -12,20 +12,21 @@ pub fn is_carried(s: Signal, kind: usize) -> bool {
 }
 
 // Whether the file is not there yet, or holds a telegram of the same kind: a store or a list that is given for it by mistake is not lost.
-fn is_free(i: usize, name: &[u8], path: &[u8], written: Written) -> bool {
-    if !files::is_there(path) {
+fn is_free(rt: &impl Host, i: usize, name: &[u8], path: &[u8], written: Written) -> bool {
+    if !files::is_there(rt, path) {
         return true;
     }
     let mut old = [0u8; REMEDIES + 1];
-    let o = files::read_at(i, name, path, &mut old);
+    let o = files::read_at(rt, i, name, path, &mut old);
     if !o.ok {
         return false;
     }
     let n = o.octets;
-    may_replace(i, name, &old[..n], written)
+    may_replace(rt, i, name, &old[..n], written)
 }
 
 fn write_at(
+    rt: &impl Host,
     i: usize,
     name: &[u8],
     path: &[u8],
@@ -33,18 +34,25 @@ fn write_at(
     written: Written,
     out: &[u8],
 ) -> bool {
-    let fd = files::begin(i, name, path, rules);
-    if fd < 0 {
+    let Some(file) = files::begin(rt, i, name, path, rules) else {
+        return false;
+    };
+    if !is_free(rt, i, name, path, written) {
+        files::drop_new(rt, path, file);
         return false;
     }
-    if !is_free(i, name, path, written) {
-        files::drop_new(path, fd);
-        return false;
-    }
-    files::commit(i, name, path, fd, out)
+    files::commit(rt, i, name, path, file, out)
 }
 
-fn write(i: usize, name: &[u8], first: usize, second: usize, written: Written, out: &[u8]) -> bool {
+fn write(
+    rt: &impl Host,
+    i: usize,
+    name: &[u8],
+    first: usize,
+    second: usize,
+    written: Written,
+    out: &[u8],
+) -> bool {
     let rules = Rules {
         is_old: true,
         is_new: true,
@@ -52,16 +60,16 @@ fn write(i: usize, name: &[u8], first: usize, second: usize, written: Written, o
         second,
     };
     let mut path = io::buffer();
-    let n = files::target_of(i, &mut path);
-    write_at(i, name, &path[..n], rules, written, out)
+    let n = files::target_of(rt, i, &mut path);
+    write_at(rt, i, name, &path[..n], rules, written, out)
 }
 
 // Writes a telegram to OUT, which is argument i; it takes that name once all of it is written. It may be no file of the arguments `first` and `second`.
-pub fn write_telegram(i: usize, first: usize, second: usize, out: &[u8]) -> bool {
-    write(i, b"OUT", first, second, Written::Telegram, out)
+pub fn write_telegram(rt: &impl Host, i: usize, first: usize, second: usize, out: &[u8]) -> bool {
+    write(rt, i, b"OUT", first, second, Written::Telegram, out)
 }
 
 // The same of one with remedy texts, to TELEGRAM, which may not be the file of the argument `first`.
-pub fn write_remedies(i: usize, first: usize, out: &[u8]) -> bool {
-    write(i, b"TELEGRAM", first, 0, Written::Remedies, out)
+pub fn write_remedies(rt: &impl Host, i: usize, first: usize, out: &[u8]) -> bool {
+    write(rt, i, b"TELEGRAM", first, 0, Written::Remedies, out)
 }

@@ -1,16 +1,19 @@
 // Writes a telegram 8.8A, with remedy texts, out of a text file.
 #![tactic(auto)]
+
 mod text;
 mod why;
 
+use files::Host;
 use gateway::{Refusal, Wrote};
-use libc::STDOUT_FILENO;
+use saying::STDOUT;
 use spelling::NO_LANGUAGE;
+use std::rt::Env;
 use text::{Area, Given, first, first_lengths};
 
 fn help() {
     io::write_all(
-        STDOUT_FILENO,
+        STDOUT,
         b"write_remedies FILE TELEGRAM
 
 Writes a telegram 8.8A with remedy texts, the report of code 8A08, to TELEGRAM.
@@ -66,11 +69,18 @@ fn print_written(language: u16, n: usize, octets: usize) {
     saying::print(saying::say(saying::say_number(l, octets as u64), b" octets"));
 }
 
-fn end(wrote: Wrote, language: u16, keys: &[u8], lengths: &[u16], out: &[u8; 2400]) {
+fn end(
+    rt: &impl Host,
+    wrote: Wrote,
+    language: u16,
+    keys: &[u8],
+    lengths: &[u16],
+    out: &[u8; 2400],
+) {
     match wrote {
         Wrote::Refused(f) => print_refused(f, keys, lengths),
         Wrote::Octets(n) => {
-            if words::write_remedies(2, 1, first(out, n)) {
+            if words::write_remedies(rt, 2, 1, first(out, n)) {
                 print_written(language, keys.len(), n);
             }
         }
@@ -78,6 +88,7 @@ fn end(wrote: Wrote, language: u16, keys: &[u8], lengths: &[u16], out: &[u8; 240
 }
 
 fn write(
+    rt: &impl Host,
     g: Given,
     head: &[u8; 6],
     carried: &[u8; 12],
@@ -98,29 +109,30 @@ fn write(
     let wrote = gateway::write_area(
         head, carried, language, g.ordered, keys, lengths, area, &mut out,
     );
-    end(wrote, language, keys, lengths, &out);
+    end(rt, wrote, language, keys, lengths, &out);
 }
 
 // Where a line is missing, an error line says which.
-fn is_whole(g: Given) -> bool {
+fn is_whole(rt: &impl Env, g: Given) -> bool {
     if g.language == NO_LANGUAGE {
-        saying::print_word(1, b"FILE", b"no line `language`");
+        saying::print_word(rt, 1, b"FILE", b"no line `language`");
         return false;
     }
     if 1 < g.ordered {
-        saying::print_word(1, b"FILE", b"no line `ordered`");
+        saying::print_word(rt, 1, b"FILE", b"no line `ordered`");
         return false;
     }
     true
 }
 
-fn read_lines(given: &[u8]) {
+fn read_lines(rt: &impl Host, given: &[u8]) {
     let mut head = [0u8; 6];
     let mut carried = [0u8; 12];
     let mut keys = [0u8; 9];
     let mut lengths = [0u16; 9];
     let mut area = [0u8; 2304];
     let g = text::read_lines(
+        rt,
         given,
         &mut head,
         &mut carried,
@@ -131,33 +143,33 @@ fn read_lines(given: &[u8]) {
     if g.fault != 0 {
         return;
     }
-    if is_whole(g) {
-        write(g, &head, &carried, &keys, &lengths, &area);
+    if is_whole(rt, g) {
+        write(rt, g, &head, &carried, &keys, &lengths, &area);
     }
 }
 
-fn ask() {
+fn ask(rt: &impl Host) {
     let mut given = [0u8; 65537];
-    let f = files::read(1, b"FILE", &mut given);
+    let f = files::read(rt, 1, b"FILE", &mut given);
     if !f.ok {
         return;
     }
     let n = f.octets;
     if n == 65537 {
-        files::print_long(1, b"FILE", 65536);
+        files::print_long(rt, 1, b"FILE", 65536);
         return;
     }
-    read_lines(&given[..n]);
+    read_lines(rt, &given[..n]);
 }
 
-fn main() {
-    let n = os::arg_count();
-    if saying::asks_help(n) {
+fn main(rt: HostRuntime) {
+    let n = saying::argument_count(&rt);
+    if saying::asks_help(&rt, n) {
         help();
         return;
     }
     if n == 3 {
-        ask();
+        ask(&rt);
         return;
     }
     saying::print_usage(b"write_remedies FILE TELEGRAM");

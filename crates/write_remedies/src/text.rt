@@ -1,6 +1,7 @@
 // The lines of a text file: `head`, `carried`, `language`, `ordered`, and a text behind its key.
 use saying::{Line, find, word, word_count};
 use spelling::NO_LANGUAGE;
+use std::rt::Env;
 
 // What can be wrong with a line.
 const FINE: u8 = 0;
@@ -97,8 +98,8 @@ fn say_fault(line: Line, fault: u8) -> Line {
     }
 }
 
-fn print_fault(line: u64, fault: u8) {
-    let l = saying::say_argument(saying::say(saying::empty(), b"error: FILE "), 1, b"");
+fn print_fault(rt: &impl Env, line: u64, fault: u8) {
+    let l = saying::say_argument(rt, saying::say(saying::empty(), b"error: FILE "), 1, b"");
     let l = saying::say_number(saying::say(l, b" line "), line);
     saying::print(say_fault(saying::say(l, b": "), fault));
 }
@@ -299,6 +300,7 @@ fn first_line(text: &[u8]) -> usize {
 
 // What the lines give; where one is at fault, an error line names it.
 pub fn read_lines(
+    rt: &impl Env,
     text: &[u8],
     head: &mut [u8; 6],
     carried: &mut [u8; 12],
@@ -313,7 +315,7 @@ pub fn read_lines(
         let e = find(text, at, b'\n');
         g = read_line(g, ended(&text[at..e]), head, carried, keys, lengths, area);
         if g.fault != FINE {
-            print_fault(line, g.fault);
+            print_fault(rt, line, g.fault);
             return g;
         }
         at = e + 1;
