@@ -1,5 +1,6 @@
 // An old gateway in the middle: what was read under the list is composed anew under it.
 #![tactic(auto)]
+
 ghost use Rattle.std.specs.Prelude.{◌≡◌, ◌≤◌, ◌<◌, length};
 ghost use Rattle.paper.specs.SignalList.{list_of};
 ghost use Rattle.paper.specs.Store.{vehicles, telegram_octets, slot_octets, store_octets, slot_of, slot_from};

@@ -1,1 +1,2 @@
 pub mod WrongLaws
+pub mod MarkedLaws

@@ -1,5 +1,5 @@
 -- Each rule of the four sections, and a list whose entry breaks that one first: one table, one computed test.
-use Rattle.std.specs.Prelude.{ℕ, ◌+◌, ◌≡◌, refl, List, [], ◌∷◌, map}
+use Rattle.std.specs.Prelude.{ℕ, ◌≡◌, refl, List, [], ◌∷◌, map}
 use Rattle.paper.specs.Octets.{number, octets_of}
 use Rattle.paper.specs.Answer.{refuse_if}
 use Rattle.paper.specs.First.{first_from, first_bad, all}

@@ -1,5 +1,5 @@
 -- C-20: summaries of the doors over small trains, and what is answered where two faults meet.
-use Rattle.std.specs.Prelude.{ℕ, zero, suc, ◌+◌, ◌*◌, ◌≡◌, refl, true, false, List, [], ◌∷◌, ◌++◌, map, length, set, replicate, take}
+use Rattle.std.specs.Prelude.{ℕ, ◌≡◌, refl, true, false, List, [], ◌∷◌, ◌++◌, map, set, replicate, take}
 use Rattle.paper.specs.Octets.{bit, field, number, octets_of, over}
 use Rattle.paper.specs.Answer.{refuse_if}
 use Rattle.paper.specs.First.{first_from, first_bad, all, some, count, greatest}
@@ -9,7 +9,7 @@ use Rattle.paper.specs.SignalList.{Signal, Code, judge_to, has_codes, in_range, 
 use Rattle.paper.specs.Pairs.{signal_found}
 use Rattle.paper.specs.Store.{slot_start, slot_of, age, stale}
 use Rattle.paper.specs.Reading.{heard, mark_of, code_of, hindrances, reason_of, reading_of, reading_at}
-use Rattle.paper.specs.Train.{Vehicle, no_vehicle, consist_rule, meets, member, set_to, members_of, resolving}
+use Rattle.paper.specs.Train.{Vehicle, consist_rule, meets, member, set_to, members_of, resolving}
 use Rattle.paper.specs.Doors.{state_of, side_of, doors_of, doors}
 use Rattle.paper.specs.Bench.{silent}
 use Rattle.tables.specs.Cases.{joined, made, signal, code, Question, asks_doors, gave, refuses, ask}

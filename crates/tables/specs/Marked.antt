@@ -1,8 +1,6 @@
 -- Document 01, "Bench examples": the marked cases (a) to (l), a single table under a single proof. A row is the inputs and the expected
 -- answer; the answers are those of the definitions that the public contracts cite.
-use Rattle.std.specs.Prelude.{ℕ, ◌/◌, ◌%◌, ◌≡◌, refl, List, [], ◌∷◌, map, get_or, set, replicate}
-use Rattle.std.proofs.Common.{sym, ap₂, ◌∙◌}
-use Rattle.std.proofs.Math.ListN.{get_or-map}
+use Rattle.std.specs.Prelude.{ℕ, ◌/◌, ◌%◌, ◌≡◌, refl, List, [], ◌∷◌, map, set, replicate}
 use Rattle.std.specs.Float.{binary32}
 use Rattle.std.specs.Float.Ieee.{of_bits, round}
 use Rattle.paper.specs.Octets.{bit, field, with_bit, set_bit, put, puts, number, octets_of, over}
@@ -95,13 +93,6 @@ table =
 pub marked : map (λ r. response r.asked) table ≡ map (λ r. r.expected) table
 unfolding table telegram silent heard_at raw_at list_l list_v bit field with_bit set_bit put puts number octets_of over refuse_if first_from first_bad all some count greatest application_type telegram_type version_of SignalList.check_at SignalList.signal_size SignalList.signal_at SignalList.among SignalList.code_at SignalList.route_at SignalList.check_rule SignalList.signal_rule_to SignalList.code_rule SignalList.route_rule SignalList.opening SignalList.judge_entries SignalList.judge_section SignalList.greatest_since SignalList.ending SignalList.from_routes SignalList.from_codes SignalList.from_signals_to judge_to has_codes in_range known_in knows place_of slot_of taken taking age heard mark_of code_of hindrances reason_of reading_of reading_at reading routed marshalled live marshalling showing of_bits round
 marked = refl
-
--- so each row holds by its place
-pub marked_at : (i : ℕ) (d : Row) → response d.asked ≡ d.expected → response (get_or table i d).asked ≡ (get_or table i d).expected
-marked_at i d e =
-    sym (get_or-map (λ (r : Row). response r.asked) table i d)
-    ∙ ap₂ (λ (l : List Response) (x : Response). get_or l i x) marked e
-    ∙ get_or-map (λ (r : Row). r.expected) table i d
 
 -- the other way: an R1 composed under L with the value 4 and the mark ok is the telegram of (a)
 pub composed_a : composing 1 list_l 1 (4 ∷ []) (ok ∷ []) 128 ≡ gives (telegram 0x10 0x40)

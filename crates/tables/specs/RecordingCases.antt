@@ -1,5 +1,5 @@
 -- C-21: steps and recordings over a list of two routes, and what is answered where two faults meet.
-use Rattle.std.specs.Prelude.{ℕ, ◌≡◌, refl, List, [], ◌∷◌, ◌++◌, map, take}
+use Rattle.std.specs.Prelude.{ℕ, ◌≡◌, refl, List, [], ◌∷◌, map, take}
 use Rattle.paper.specs.Octets.{bit, field, number, with_bit, set_bit, put, puts, octets_of, over}
 use Rattle.paper.specs.Answer.{refuse_if}
 use Rattle.paper.specs.First.{first_from, first_bad, all, some, count, greatest}

@@ -1,5 +1,5 @@
 -- C-11: telegrams with remedy texts, read and written, and what is answered where two faults meet.
-use Rattle.std.specs.Prelude.{ℕ, zero, suc, ◌+◌, ◌≡◌, refl, List, [], ◌∷◌, ◌++◌, map, length, take, set, replicate}
+use Rattle.std.specs.Prelude.{ℕ, zero, suc, ◌+◌, ◌≡◌, refl, List, [], ◌∷◌, ◌++◌, map, take, set, replicate}
 use Rattle.paper.specs.Octets.{number, octets_of, over}
 use Rattle.paper.specs.Answer.{refuse_if}
 use Rattle.paper.specs.First.{first_from, first_bad, all, some}
