@@ -19,36 +19,25 @@ use Rattle.recordings.proofs.Laws.{in_a_row, row_is}
 use Rattle.recordings.proofs.check_under.Goals as goal
 use Rattle.recordings.proofs.check_under.Goals.{After-is_store, Else-after-before, Else-not-follows_on, Else-not-is_store, Else-some_short, Start}
 
-abbrev under : Start → SignalList
-under s = list_of s.args.list.now (counts_of s.args.n)
-
 whole : (c : Else-not-is_store) → not (is_store c.args.store.now) ≡ false
 whole c = sym (ap not c.is_store.ensures) ∙ (ap not c.if-not-is_store.false)
 
--- the row of tests is the paper's
-abbrev row : (s : Start) (a : Answer Finding) → Type 0
-row s a = a ≡ in_a_row s.args.steps s.args.last.now (step_of s.args.store.now s.args.clock s.args.now s.args.after.now) (under s)
-
-paper : (s : Start) (a : Answer Finding) → row s a
-    → a ≡ checking_by s.args.steps s.args.last.now (step_of s.args.store.now s.args.clock s.args.now s.args.after.now) (under s)
-paper s a e = row_is s.args.steps s.args.last.now (step_of s.args.store.now s.args.clock s.args.now s.args.after.now) (under s) a e
-
 pub returns-then-not-is_store : goal.returns-then-not-is_store
 unfolding in_a_row
-returns-then-not-is_store c = (paper c.before _ (refuses _ 5 0 _ (sym (ap not c.is_store.ensures) ∙ (ap not c.if-not-is_store.true))), tt)
+returns-then-not-is_store c = (row_is c.args.steps c.args.last.now (step_of c.args.store.now c.args.clock c.args.before.now c.args.after.now) (list_of c.args.list.now (counts_of c.args.n)) _ (refuses _ 5 0 _ (sym (ap not c.is_store.ensures) ∙ (ap not c.if-not-is_store.true))), tt)
 
 pub returns-then-some_short : goal.returns-then-some_short
 unfolding in_a_row
 returns-then-some_short c =
     let e = c in
-    (paper c.before _ (goes_past _ 5 0 _ _ ((let the_whole : not (is_store c.args.store.now) ≡ false = sym (ap not c.is_store.ensures) ∙ (ap not c.if-not-is_store.false) in the_whole)) (refuses _ 12 0 _ (sym c.some_short.ensures ∙ c.if-some_short.true))), tt)
+    (row_is c.args.steps c.args.last.now (step_of c.args.store.now c.args.clock c.args.before.now c.args.after.now) (list_of c.args.list.now (counts_of c.args.n)) _ (goes_past _ 5 0 _ _ ((let the_whole : not (is_store c.args.store.now) ≡ false = sym (ap not c.is_store.ensures) ∙ (ap not c.if-not-is_store.false) in the_whole)) (refuses _ 12 0 _ (sym c.some_short.ensures ∙ c.if-some_short.true))), tt)
 
 pub returns-then-after-before : goal.returns-then-after-before
 unfolding in_a_row
 returns-then-after-before c =
     let q = c in
     let e = q in
-    (paper c.before _ (goes_past _ 5 0 _ _ ((let the_whole : not (is_store c.args.store.now) ≡ false = sym (ap not c.is_store.ensures) ∙ (ap not c.if-not-is_store.false) in the_whole)) (goes_past _ 12 0 _ _ ((let the_none_short : let s = c in some (is_short ((let the_under : SignalList = list_of c.args.list.now (counts_of c.args.n) in the_under)) (length s.args.now)) s.args.n.routes ≡ false = sym c.some_short.ensures ∙ c.if-some_short.false in the_none_short)) (refuses _ 36 0 _ (ap not (ne_eqb _ _ c.if-after-before.true))))), tt)
+    (row_is c.args.steps c.args.last.now (step_of c.args.store.now c.args.clock c.args.before.now c.args.after.now) (list_of c.args.list.now (counts_of c.args.n)) _ (goes_past _ 5 0 _ _ ((let the_whole : not (is_store c.args.store.now) ≡ false = sym (ap not c.is_store.ensures) ∙ (ap not c.if-not-is_store.false) in the_whole)) (goes_past _ 12 0 _ _ ((let the_none_short : let s = c in some (is_short ((let the_under : SignalList = list_of c.args.list.now (counts_of c.args.n) in the_under)) (length s.args.before.now)) s.args.n.routes ≡ false = sym c.some_short.ensures ∙ c.if-some_short.false in the_none_short)) (refuses _ 36 0 _ (ap not (ne_eqb _ _ c.if-after-before.true))))), tt)
 
 pub returns-then-not-follows_on : goal.returns-then-not-follows_on
 unfolding in_a_row
@@ -56,8 +45,8 @@ returns-then-not-follows_on c =
     let l = c in
     let q = l in
     let e = q in (
-      paper c.before _
-          (goes_past _ 5 0 _ _ ((let the_whole : not (is_store c.args.store.now) ≡ false = sym (ap not c.is_store.ensures) ∙ (ap not c.if-not-is_store.false) in the_whole)) (goes_past _ 12 0 _ _ ((let the_none_short : let s = c in some (is_short ((let the_under : SignalList = list_of c.args.list.now (counts_of c.args.n) in the_under)) (length s.args.now)) s.args.n.routes ≡ false = sym c.some_short.ensures ∙ c.if-some_short.false in the_none_short)) (goes_past _ 36 0 _ _ ((let the_long : let s = c in not (eqb (length s.args.after.now) (length s.args.now)) ≡ false = ap not (eq-eqb _ _ c.if-after-before.false) in the_long)) (refuses _ 37 0 _ (sym (ap not c.follows_on.ensures) ∙ (ap not c.if-not-follows_on.true)))))),
+      row_is c.args.steps c.args.last.now (step_of c.args.store.now c.args.clock c.args.before.now c.args.after.now) (list_of c.args.list.now (counts_of c.args.n)) _
+          (goes_past _ 5 0 _ _ ((let the_whole : not (is_store c.args.store.now) ≡ false = sym (ap not c.is_store.ensures) ∙ (ap not c.if-not-is_store.false) in the_whole)) (goes_past _ 12 0 _ _ ((let the_none_short : let s = c in some (is_short ((let the_under : SignalList = list_of c.args.list.now (counts_of c.args.n) in the_under)) (length s.args.before.now)) s.args.n.routes ≡ false = sym c.some_short.ensures ∙ c.if-some_short.false in the_none_short)) (goes_past _ 36 0 _ _ ((let the_long : let s = c in not (eqb (length s.args.after.now) (length s.args.before.now)) ≡ false = ap not (eq-eqb _ _ c.if-after-before.false) in the_long)) (refuses _ 37 0 _ (sym (ap not c.follows_on.ensures) ∙ (ap not c.if-not-follows_on.true)))))),
       tt,
     )
 
@@ -67,10 +56,10 @@ compare-requires c =
     let q = l in
     let e = q in
     let s = c in
-    let served : Served s.args.list.now (counts_of s.args.n) s.args.store.now (length s.args.now) = record {
+    let served : Served s.args.list.now (counts_of s.args.n) s.args.store.now (length s.args.before.now) = record {
       laid = s.requires;
       whole = eqb-true _ _ (not-false _ ((let the_whole : not (is_store c.args.store.now) ≡ false = sym (ap not c.is_store.ensures) ∙ (ap not c.if-not-is_store.false) in the_whole)));
-      room = λ r h. ltb-false _ _ (some_none (is_short ((let the_under : SignalList = list_of c.args.list.now (counts_of c.args.n) in the_under)) (length s.args.now)) s.args.n.routes ((let the_none_short : let s = c in some (is_short ((let the_under : SignalList = list_of c.args.list.now (counts_of c.args.n) in the_under)) (length s.args.now)) s.args.n.routes ≡ false = sym c.some_short.ensures ∙ c.if-some_short.false in the_none_short)) r h);
+      room = λ r h. ltb-false _ _ (some_none (is_short ((let the_under : SignalList = list_of c.args.list.now (counts_of c.args.n) in the_under)) (length s.args.before.now)) s.args.n.routes ((let the_none_short : let s = c in some (is_short ((let the_under : SignalList = list_of c.args.list.now (counts_of c.args.n) in the_under)) (length s.args.before.now)) s.args.n.routes ≡ false = sym c.some_short.ensures ∙ c.if-some_short.false in the_none_short)) r h);
     } in
     (served, l.if-after-before.false)
 
@@ -81,7 +70,7 @@ returns c =
     let l = f in
     let q = l in
     let e = q in (
-      paper c.before _
-          (goes_past _ 5 0 _ _ ((let the_whole : not (is_store c.args.store.now) ≡ false = sym (ap not c.is_store.ensures) ∙ (ap not c.if-not-is_store.false) in the_whole)) (goes_past _ 12 0 _ _ ((let the_none_short : let s = c in some (is_short ((let the_under : SignalList = list_of c.args.list.now (counts_of c.args.n) in the_under)) (length s.args.now)) s.args.n.routes ≡ false = sym c.some_short.ensures ∙ c.if-some_short.false in the_none_short)) (goes_past _ 36 0 _ _ ((let the_long : let s = c in not (eqb (length s.args.after.now) (length s.args.now)) ≡ false = ap not (eq-eqb _ _ c.if-after-before.false) in the_long)) (goes_past _ 37 0 _ _ ((let the_on : let s = c in not (follows s.args.steps s.args.last.now s.args.now) ≡ false = sym (ap not c.follows_on.ensures) ∙ (ap not c.if-not-follows_on.false) in the_on)) c.compare.ensures.0)))),
+      row_is c.args.steps c.args.last.now (step_of c.args.store.now c.args.clock c.args.before.now c.args.after.now) (list_of c.args.list.now (counts_of c.args.n)) _
+          (goes_past _ 5 0 _ _ ((let the_whole : not (is_store c.args.store.now) ≡ false = sym (ap not c.is_store.ensures) ∙ (ap not c.if-not-is_store.false) in the_whole)) (goes_past _ 12 0 _ _ ((let the_none_short : let s = c in some (is_short ((let the_under : SignalList = list_of c.args.list.now (counts_of c.args.n) in the_under)) (length s.args.before.now)) s.args.n.routes ≡ false = sym c.some_short.ensures ∙ c.if-some_short.false in the_none_short)) (goes_past _ 36 0 _ _ ((let the_long : let s = c in not (eqb (length s.args.after.now) (length s.args.before.now)) ≡ false = ap not (eq-eqb _ _ c.if-after-before.false) in the_long)) (goes_past _ 37 0 _ _ ((let the_on : let s = c in not (follows s.args.steps s.args.last.now s.args.before.now) ≡ false = sym (ap not c.follows_on.ensures) ∙ (ap not c.if-not-follows_on.false) in the_on)) c.compare.ensures.0)))),
       c.compare.ensures.1,
     )

@@ -15,7 +15,7 @@ use Rattle.recordings.proofs.first_wrong.Goals.{After-route_first-f, At-loop-r, 
 pub loop-r-init : goal.loop-r-init
 loop-r-init c =
     let s = c in
-    (search rules, search rules, first_between ((let the_under : SignalList = list_of c.args.list.now (counts_of c.args.n) in the_under)) ((let the_kept : Kept ((let the_under : SignalList = list_of c.args.list.now (counts_of c.args.n) in the_under)) = kept_of c.args.list.now (counts_of c.args.n) c.requires.served.0.laid in the_kept)) s.args.store.now s.args.clock s.args.now s.args.after.now, upto_none _ _ _ (search rules))
+    (search rules, search rules, first_between ((let the_under : SignalList = list_of c.args.list.now (counts_of c.args.n) in the_under)) ((let the_kept : Kept ((let the_under : SignalList = list_of c.args.list.now (counts_of c.args.n) in the_under)) = kept_of c.args.list.now (counts_of c.args.n) c.requires.served.0.laid in the_kept)) s.args.store.now s.args.clock s.args.before.now s.args.after.now, upto_none _ _ _ (search rules))
 
 pub route_first-f-requires : goal.route_first-f-requires
 route_first-f-requires c =
@@ -42,7 +42,7 @@ loop-r-preserved c =
       omega (arith, t.loop-r-test.true),
       e.route_first-f.ensures.end_of.most,
       rw e.route_first-f.ensures.end_of.is
-          (next_between l ((let the_kept : Kept ((let the_under : SignalList = list_of c.args.list.now (counts_of c.args.n) in the_under)) = kept_of c.args.list.now (counts_of c.args.n) c.requires.served.0.laid in the_kept)) s.args.store.now s.args.clock s.args.now s.args.after.now p.loop-r.r p.loop-r.pos p.loop-r.invariant.2 t.loop-r-test.true),
+          (next_between l ((let the_kept : Kept ((let the_under : SignalList = list_of c.args.list.now (counts_of c.args.n) in the_under)) = kept_of c.args.list.now (counts_of c.args.n) c.requires.served.0.laid in the_kept)) s.args.store.now s.args.clock s.args.before.now s.args.after.now p.loop-r.r p.loop-r.pos p.loop-r.invariant.2 t.loop-r-test.true),
       reached_past p.loop-r.invariant.3 e.route_first-f.ensures.reaches ((let the_ends : c.route_first-f.result.end ≤ 8 * length c.args.after.now = let t = c in
     let p = t in
     let s = c in
@@ -60,5 +60,5 @@ returns c =
     let p = x in
     let s = c in
     spot_from _ p.loop-r.invariant.3
-    (rest_spotted ((let the_under : SignalList = list_of c.args.list.now (counts_of c.args.n) in the_under)) ((let the_kept : Kept ((let the_under : SignalList = list_of c.args.list.now (counts_of c.args.n) in the_under)) = kept_of c.args.list.now (counts_of c.args.n) c.requires.served.0.laid in the_kept)) s.args.store.now s.args.clock s.args.now s.args.after.now p.loop-r.r p.loop-r.pos
+    (rest_spotted ((let the_under : SignalList = list_of c.args.list.now (counts_of c.args.n) in the_under)) ((let the_kept : Kept ((let the_under : SignalList = list_of c.args.list.now (counts_of c.args.n) in the_under)) = kept_of c.args.list.now (counts_of c.args.n) c.requires.served.0.laid in the_kept)) s.args.store.now s.args.clock s.args.before.now s.args.after.now p.loop-r.r p.loop-r.pos
     (8 * length s.args.after.now) (omega (arith, x.loop-r-test.false)) p.loop-r.invariant.2 c.bits_from.result c.bits_from.ensures)

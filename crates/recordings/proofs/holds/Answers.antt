@@ -24,5 +24,5 @@ returns c e =
     c.read_field-2.ensures.value (eqb-true _ _ e)
 
 pub returns-then-gap-width-gt64 : goal.returns-then-gap-width-gt64
-returns-then-gap-width-gt64 c =
+returns-then-gap-width-gt64 c e =
     absurd (false≢true e)

@@ -19,10 +19,10 @@ use Rattle.recordings.proofs.Laws.{route_reaches}
 use Rattle.recordings.proofs.route_first.Goals as goal
 use Rattle.recordings.proofs.route_first.Goals.{After-read_with-reading, After-route_in-t, After-width_in-width, Start}
 
-signal_there : (t : After-route_in-t) → t.route_in-t.result.signal < c.args.n.signals
+signal_there : (t : After-route_in-t) → t.route_in-t.result.signal < t.args.n.signals
 signal_there t =
-    let s = c in
-    omega (arith, ap (λ (x : Route). x.signal) t.route_in-t.ensures.is, (((let the_kept : Kept ((let the_under : SignalList = list_of c.args.list.now (counts_of c.args.n) in the_under)) = kept_of c.args.list.now (counts_of c.args.n) c.requires.served.0.laid in the_kept)).route s.args.r s.requires.served.1).exists)
+    let s = t in
+    omega (arith, ap (λ (x : Route). x.signal) t.route_in-t.ensures.is, (((let the_kept : Kept ((let the_under : SignalList = list_of t.args.list.now (counts_of t.args.n) in the_under)) = kept_of t.args.list.now (counts_of t.args.n) t.requires.served.0.laid in the_kept)).route s.args.r s.requires.served.1).exists)
 
 pub entries_at-own-requires : goal.entries_at-own-requires
 entries_at-own-requires c = let t = c in (c.requires.served.0.laid, c.requires.indexed.0, (let the_signal_there : c.route_in-t.result.signal < c.args.n.signals = let s = c in
@@ -102,7 +102,7 @@ returns c =
     record { is = omega (arith, (let the_starts : c.route_in-t.result.start ≡ (((let the_under : SignalList = list_of c.args.list.now (counts_of c.args.n) in the_under)).route c.args.r).start = ap (λ (x : Route). x.start) c.route_in-t.ensures.is in the_starts), (let the_wide : let s = c in let l = (let the_under : SignalList = list_of c.args.list.now (counts_of c.args.n) in the_under) in c.width_in-width.result ≡ (l.signal (l.route s.args.r).signal).width = let t = c in
     c.width_in-width.ensures.is ∙ ap (λ (x : Route). (((let the_under : SignalList = list_of c.args.list.now (counts_of c.args.n) in the_under)).signal x.signal).width) t.route_in-t.ensures.is in the_wide)); most = omega (arith, (let the_starts : c.route_in-t.result.start ≡ (((let the_under : SignalList = list_of c.args.list.now (counts_of c.args.n) in the_under)).route c.args.r).start = ap (λ (x : Route). x.start) c.route_in-t.ensures.is in the_starts), (let the_wide : let s = c in let l = (let the_under : SignalList = list_of c.args.list.now (counts_of c.args.n) in the_under) in c.width_in-width.result ≡ (l.signal (l.route s.args.r).signal).width = let t = c in
     c.width_in-width.ensures.is ∙ ap (λ (x : Route). (((let the_under : SignalList = list_of c.args.list.now (counts_of c.args.n) in the_under)).signal x.signal).width) t.route_in-t.ensures.is in the_wide), (((let the_kept : Kept ((let the_under : SignalList = list_of c.args.list.now (counts_of c.args.n) in the_under)) = kept_of c.args.list.now (counts_of c.args.n) c.requires.served.0.laid in the_kept)).route s.args.r s.requires.served.1).ends) } in the_ends)).is
-          (route_reaches ((let the_under : SignalList = list_of c.args.list.now (counts_of c.args.n) in the_under)) ((let the_kept : Kept ((let the_under : SignalList = list_of c.args.list.now (counts_of c.args.n) in the_under)) = kept_of c.args.list.now (counts_of c.args.n) c.requires.served.0.laid in the_kept)) s.args.store.now s.args.clock s.args.now s.args.after.now s.args.r s.args.pos s.requires.indexed.1
+          (route_reaches ((let the_under : SignalList = list_of c.args.list.now (counts_of c.args.n) in the_under)) ((let the_kept : Kept ((let the_under : SignalList = list_of c.args.list.now (counts_of c.args.n) in the_under)) = kept_of c.args.list.now (counts_of c.args.n) c.requires.served.0.laid in the_kept)) s.args.store.now s.args.clock s.args.before.now s.args.after.now s.args.r s.args.pos s.requires.indexed.1
           s.requires.served.1 s.requires.served.0.room t.route_in-t.result.start w.width_in-width.result f.read_with-reading.result.value ((let the_starts : c.route_in-t.result.start ≡ (((let the_under : SignalList = list_of c.args.list.now (counts_of c.args.n) in the_under)).route c.args.r).start = ap (λ (x : Route). x.start) c.route_in-t.ensures.is in the_starts)) ((let the_wide : let s = c in let l = (let the_under : SignalList = list_of c.args.list.now (counts_of c.args.n) in the_under) in c.width_in-width.result ≡ (l.signal (l.route s.args.r).signal).width = let t = c in
     c.width_in-width.ensures.is ∙ ap (λ (x : Route). (((let the_under : SignalList = list_of c.args.list.now (counts_of c.args.n) in the_under)).signal x.signal).width) t.route_in-t.ensures.is in the_wide))
           (ap (λ (x : Reading). x.value) ((let the_reads : let s = c in as_reading c.read_with-reading.result ≡ routed ((let the_under : SignalList = list_of c.args.list.now (counts_of c.args.n) in the_under)) s.args.store.now s.args.clock s.args.r = let t = c in

@@ -14,9 +14,9 @@ use Rattle.recordings.proofs.skip_same.Goals as goal
 use Rattle.recordings.proofs.skip_same.Goals.{At-loop-q, In-loop-q, Start}
 
 -- eight are left in both
-room : (t : In-loop-q) → t.loop-q.q + 8 ≤ length c.args.x.now
+room : (t : In-loop-q) → t.loop-q.q + 8 ≤ length t.args.x.now
 room t =
-    let a = c.args in
+    let a = t.args in
     let q = t.loop-q.q in
     omega (arith, leb-true 8 (length a.x.now - q) (both (leb 8 (length a.x.now - q)) (leb 8 (length a.y.now - q)) t.loop-q-test.true).0)
 
