@@ -1,5 +1,6 @@
 // Whether a list B extends a list A. Both are in order, so one pass goes along both.
 #![tactic(auto)]
+
 ghost use Rattle.std.specs.Prelude.{◌≡◌, ◌<◌, ◌≤◌};
 ghost use Rattle.paper.specs.Extends.{same, codes_kept, keeps, extends as extendsList, extends_lists};
 ghost use Rattle.paper.specs.Accepted.{Laid};

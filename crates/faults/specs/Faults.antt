@@ -1,7 +1,7 @@
 -- The paper's answer for each case of the code's, and the rules of an entry as the code asks them, of the entry before and this one.
-use Rattle.std.specs.Prelude.{ℕ, ◌+◌, ◌^◌, Bool, not, ◌&&◌, ◌||◌, List, [], ◌∷◌, ltb, leb, eqb}
+use Rattle.std.specs.Prelude.{ℕ, ◌+◌, Bool, not, ◌&&◌, ◌||◌, List, [], ◌∷◌, ltb, leb, eqb}
 use Rattle.paper.specs.Octets.{fits}
-use Rattle.paper.specs.SignalList.{Signal, Code, Route, field_end, route_end, longest_limit, width_rule, type_rule, place_rule, named_rule}
+use Rattle.paper.specs.SignalList.{Signal, Code, Route, field_end, longest_limit, width_rule, type_rule, place_rule, named_rule}
 use Rattle.paper.specs.Answer.{Sought, found, nothing}
 use Rattle.paper.specs.Broken.{Fault as PaperFault}
 use Rattle.faults.specs.declared.Fault.{Fault}

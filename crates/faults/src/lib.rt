@@ -1,5 +1,6 @@
 // Which entry of a list judging refuses with 3, and which rule it breaks. What has a `requires` is inner: its caller shows it.
 #![tactic(auto)]
+
 ghost use Rattle.std.specs.Prelude.{◌≡◌, true, false, ◌+◌, ◌^◌, ◌<◌, ◌≤◌, length, ltb};
 ghost use Rattle.paper.specs.First.{stop, all};
 ghost use Rattle.paper.specs.SignalList.{entry, check_size, code_size, route_size, check_at, signal_at, code_at, route_at, check_rule, signal_rule};

@@ -1,5 +1,6 @@
 // Two lists gone along at once: the next type and start that one of them or both have, with the signal of each.
 #![tactic(auto)]
+
 ghost use Rattle.std.specs.Prelude.{◌≡◌, min};
 ghost use Rattle.paper.specs.SignalList.{list_of, of_both};
 ghost use Rattle.paper.specs.Accepted.{Laid};

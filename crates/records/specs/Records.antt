@@ -8,7 +8,6 @@ use Rattle.refusals.specs.Refusal.{refusal_of}
 use Rattle.train.specs.Marks.{marked, octet_of}
 use Rattle.records.specs.declared.Level.{Level}
 use Rattle.records.specs.declared.Level.TheVariants as L
-use Rattle.records.specs.declared.Property.{Property}
 use Rattle.records.specs.declared.PropertyRead.{PropertyRead}
 use Rattle.records.specs.declared.PropertyRead.TheVariants as P
 use Rattle.records.specs.declared.Christened.{Christened}

@@ -1,6 +1,7 @@
 // Christening records: table E.1 of source document 002, a property by its row, and the consist that records and pairs of marks describe.
 // What has a `requires` is inner: its caller in the library shows it.
 #![tactic(auto)]
+
 ghost use Rattle.std.specs.Prelude.{◌≡◌, cond, map, ◌≤◌, ◌<◌, ◌*◌, eqb, ltb, length, take};
 ghost use Rattle.paper.specs.Octets.{over};
 ghost use Rattle.paper.specs.Answer.{found, nothing};

@@ -1,5 +1,6 @@
 // The remedies and tests of telegram 8.8A, written. What has a `requires` is inner: its caller in the library shows it.
 #![tactic(auto)]
+
 ghost use Rattle.std.specs.Prelude.{◌≡◌, [], map, ◌+◌, ◌*◌, ◌≤◌, eqb, leb, length, get_or, take, drop};
 ghost use Rattle.paper.specs.Octets.{over};
 ghost use Rattle.paper.specs.Remedies.{blocks_of, area_to, area_blocks, first_fault, handed_fault, block_octets, blocks_to, remedy_writing};
