@@ -5,7 +5,7 @@ use mathlib.Core.List.{List, map}
 use Rattle.paper.specs.Octets.{Octets}
 use Rattle.paper.specs.Answer.{Answer, gives, refused, forget, map_answer}
 use Rattle.paper.specs.Store.{taking}
-use Rattle.paper.specs.Demands.{Step, offer, step}
+use Rattle.paper.specs.Demands.{offer, step}
 use Rattle.paper.specs.Marshalling.{Marshalled, marshalling}
 use Rattle.paper.specs.Order.{Arrival, offered, own, data_after}
 use Rattle.paper.proofs.OrderLaws as paper

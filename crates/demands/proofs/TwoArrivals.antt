@@ -1,6 +1,6 @@
 -- C-16, THE GAP of the calls themselves: what `gap` answers after two calls of `take`, by nothing but what these calls ensure. Assumes nothing.
 use Prim.Native.Nat.{ℕ, ◌<◌}
-use mathlib.Core.Path.{◌≡◌, refl, sym, ap, ◌∙◌}
+use mathlib.Core.Path.{◌≡◌, refl, ◌∙◌}
 use mathlib.Core.List.{List}
 use mathlib.Core.Bool.{false}
 use Rattle.paper.specs.Answer.{gives}

@@ -1,6 +1,7 @@
 // Demands 2 and 3 as a function: what is composed under one list, taken from a vehicle, swept, and read under another. And C-22's two: telegrams taken
 // one after the other, and a marshalling made twice. And C-24's: what a gateway in the middle composes anew, taken and read by the last.
 #![tactic(auto)]
+
 ghost use Rattle.demands.specs.Orders.{TakenBoth, MarshalledTwice};
 ghost use Rattle.demands.specs.PassedOn.{PassedOn};
 ghost use Rattle.demands.specs.Told.{Told};

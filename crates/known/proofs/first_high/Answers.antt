@@ -19,24 +19,36 @@ loop-low-init c =
 pub loop-low-preserved-then-code_in-code : goal.loop-low-preserved-then-code_in-code
 loop-low-preserved-then-code_in-code c =
     let r = c in
-    let l = r in
-    (low_raised _ _ _ (codes_rise _ _ ((let the_ordered : Ordered c.args.n.codes (list_of c.args.list.now (counts_of c.args.n)).code = laid_ordered c.args.list.now (counts_of c.args.n) c.requires.0 in the_ordered))) _ _ _ l.loop-low.invariant.0 (omega arith) (omega (arith, (let the_middle : let l = c in let a = l.args in code_keys (list_of a.list.now (counts_of a.n)).code (l.loop-low.low + (l.loop-low.high - l.loop-low.low) / 2) ≡ a.k * 65536 + c.code_in.result.high = let l = c in
-    omega (
-      arith,
-      ap (λ (x : Code). x.high) c.code_in.ensures.is,
-      l.requires.1.within (l.loop-low.low + (l.loop-low.high - l.loop-low.low) / 2) (omega arith) (omega arith),
-    ) in the_middle))), search rules, search rules)
+    let l = r in (
+      low_raised _ _ _ (codes_rise _ _ ((let the_ordered : Ordered c.args.n.codes (list_of c.args.list.now (counts_of c.args.n)).code = laid_ordered c.args.list.now (counts_of c.args.n) c.requires.0 in the_ordered))) _ _ _ l.loop-low.invariant.0 (omega arith) (omega (
+        arith,
+        (let the_middle : let l = c in let a = l.args in code_keys (list_of a.list.now (counts_of a.n)).code (l.loop-low.low + (l.loop-low.high - l.loop-low.low) / 2) ≡ a.k * 65536 + c.code_in.result.high = let l = c in
+            omega (
+              arith,
+              ap (λ (x : Code). x.high) c.code_in.ensures.is,
+              l.requires.1.within (l.loop-low.low + (l.loop-low.high - l.loop-low.low) / 2) (omega arith) (omega arith),
+            ) in the_middle),
+      )),
+      search rules,
+      search rules,
+    )
 
 pub loop-low-preserved : goal.loop-low-preserved
 loop-low-preserved c =
     let r = c in
-    let l = r in
-    (high_lowered _ _ _ (codes_rise _ _ ((let the_ordered : Ordered c.args.n.codes (list_of c.args.list.now (counts_of c.args.n)).code = laid_ordered c.args.list.now (counts_of c.args.n) c.requires.0 in the_ordered))) _ _ _ l.loop-low.invariant.0 (omega arith) (omega arith) (omega (arith, (let the_middle : let l = c in let a = l.args in code_keys (list_of a.list.now (counts_of a.n)).code (l.loop-low.low + (l.loop-low.high - l.loop-low.low) / 2) ≡ a.k * 65536 + c.code_in.result.high = let l = c in
-    omega (
-      arith,
-      ap (λ (x : Code). x.high) c.code_in.ensures.is,
-      l.requires.1.within (l.loop-low.low + (l.loop-low.high - l.loop-low.low) / 2) (omega arith) (omega arith),
-    ) in the_middle))), search rules, search rules)
+    let l = r in (
+      high_lowered _ _ _ (codes_rise _ _ ((let the_ordered : Ordered c.args.n.codes (list_of c.args.list.now (counts_of c.args.n)).code = laid_ordered c.args.list.now (counts_of c.args.n) c.requires.0 in the_ordered))) _ _ _ l.loop-low.invariant.0 (omega arith) (omega arith) (omega (
+        arith,
+        (let the_middle : let l = c in let a = l.args in code_keys (list_of a.list.now (counts_of a.n)).code (l.loop-low.low + (l.loop-low.high - l.loop-low.low) / 2) ≡ a.k * 65536 + c.code_in.result.high = let l = c in
+            omega (
+              arith,
+              ap (λ (x : Code). x.high) c.code_in.ensures.is,
+              l.requires.1.within (l.loop-low.low + (l.loop-low.high - l.loop-low.low) / 2) (omega arith) (omega arith),
+            ) in the_middle),
+      )),
+      search rules,
+      search rules,
+    )
 
 pub returns : goal.returns
 returns c =
