@@ -1,5 +1,6 @@
 // What differs between two lists, one difference after the other. What has a `requires` is inner: its caller in the library shows it.
 #![tactic(auto)]
+
 ghost use Rattle.std.specs.Prelude.{◌≡◌, ◌<◌, ◌≤◌, min};
 ghost use Rattle.paper.specs.Answer.{found};
 ghost use Rattle.paper.specs.First.{some};

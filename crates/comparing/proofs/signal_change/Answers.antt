@@ -1,0 +1,21 @@
+-- `comparing::signal_change` meets its contract. Assumes nothing.
+use mathlib.Core.Path.{◌≡◌, sym, ap, ◌∙◌}
+use Rattle.paper.specs.Answer.{gives}
+use Rattle.paper.specs.SignalList.{judge}
+use Rattle.paper.specs.Comparing.{signal_changes}
+use Rattle.paper.proofs.AnswerLaws.{by_refusal, by_given}
+use Rattle.lists.specs.Judged.{counts_of, judged_answer}
+use Rattle.lists.proofs.Laws.{accepted_laid}
+use Rattle.comparing.proofs.signal_change.Goals as goal
+use Rattle.comparing.proofs.signal_change.Goals.{In-Accepted-2}
+
+pub signals_under-requires : goal.signals_under-requires
+signals_under-requires c = accepted_laid _ _ _ ((let the_accepted : let j = c in gives (counts_of c.in-Accepted.m) ≡ judge j.args.form j.args.a.now = sym (ap judged_answer c.in-Accepted.is) ∙ c.judge-judged.ensures in the_accepted))
+
+pub returns-in-Refused : goal.returns-in-Refused
+unfolding signal_changes
+returns-in-Refused c = by_refusal _ _ _ _ _ (sym (ap judged_answer c.in-Refused.is) ∙ c.judge-judged.ensures)
+
+pub returns-in-Accepted : goal.returns-in-Accepted
+unfolding signal_changes
+returns-in-Accepted c = by_given _ _ _ _ _ ((let the_accepted : let j = c in gives (counts_of c.in-Accepted.m) ≡ judge j.args.form j.args.a.now = sym (ap judged_answer c.in-Accepted.is) ∙ c.judge-judged.ensures in the_accepted)) c.signals_under.ensures
