@@ -34,7 +34,7 @@ SAID = {
 NOTHING = {
     "not-compiled": r"^\S+ error\[",
     "unfit-proof-file": r"(expected type|this has type) `\S*\bgoal\.|^.*`goal\.[^`]*`: module |^.*expected a type, but `goal\."
-                        r"|^.*has no function `.*` for this file|^.*`Rattle\.\w+\.proofs\.[\w+]+\.\w+` has no ",
+                        r"|^.*has no function `.*` for this file|^.*`Rattle\.\w+\.proofs\.\+?[a-z]\w*\.[\w.]+` has no ",
     "unknown-name": r"^.*(is not in scope(?! here)|that can be named from here|has no field)",
     "unreadable-file": r"^\S+ error: (?!`[^`]+`: )",
     "other-type": r"^\S+/src/\S+ error|^.*(checked against `|does not define it|expected a type|is not a constructor of|is not a function)",
