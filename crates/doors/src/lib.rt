@@ -1,6 +1,7 @@
 // The doors summary for the driver's desk, a product of its own above the library: it calls the library through its door alone, and is proved from
 // what the door's calls promise. What has a `requires` is inner.
 #![tactic(auto)]
+
 ghost use Rattle.std.specs.Prelude.{◌≡◌, map, ◌≤◌, ◌<◌, length};
 ghost use Rattle.std.specs.Int.Count.{ones};
 ghost use Rattle.paper.specs.Answer.{gives};

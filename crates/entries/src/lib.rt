@@ -1,5 +1,6 @@
 // The entries of a signal list, read by value, and the rule of each. What has a `requires` is inner: its caller in the library shows it.
 #![tactic(auto)]
+
 ghost use Rattle.std.specs.Prelude.{◌≡◌, ◌+◌, ◌-◌, ◌^◌, ◌<◌, ◌≤◌, ◌&&◌, length, get_or, ltb};
 ghost use Rattle.paper.specs.SignalList.{entry, check_size, code_size, route_size, check_at, signal_at};
 ghost use Rattle.paper.specs.SignalList.{check_rule, place_rule, named_rule, width_rule, value_rule, route_end};

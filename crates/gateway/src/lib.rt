@@ -1,6 +1,7 @@
 // The door: every call that the library offers to a Rattle caller, with what it takes and answers. None has a `requires`: each tests its own
 // input, and refuses it by the paper's numbers.
 #![tactic(auto)]
+
 pub use comparing::{Changed, Changes, Gained, Range, codes_gained, route_change, signal_change};
 pub use composing::compose;
 pub use consist::{Vehicle, resolve_train};

@@ -1,6 +1,7 @@
 // The judging of a signal list, and the entries of an accepted one. Each section judge takes the rest of the list from its count onward and
 // hands on the rest past its entries.
 #![tactic(auto)]
+
 ghost use Rattle.std.specs.Prelude.{◌≡◌, ◌-◌, ◌^◌, ◌≤◌, ◌<◌, max, true, cond, length, leb};
 ghost use Rattle.paper.specs.Answer.{shift};
 ghost use Rattle.paper.specs.First.{first_bad, all};

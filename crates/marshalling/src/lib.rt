@@ -1,5 +1,6 @@
 // Marshalling routed signals into vehicle bus data. Every test comes before the first write.
 #![tactic(auto)]
+
 ghost use Rattle.std.specs.Prelude.{◌≡◌, cond, ◌<◌, length, leb};
 ghost use Rattle.paper.specs.First.{some};
 ghost use Rattle.paper.specs.SignalList.{list_of};

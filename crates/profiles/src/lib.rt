@@ -1,5 +1,6 @@
 // Profiles: narrower rules for the lists of small controllers, judged behind the general rules.
 #![tactic(auto)]
+
 ghost use Rattle.std.specs.Prelude.{◌≡◌, ◌+◌, ◌≤◌, ◌<◌, eqb, ◌&&◌, ◌||◌};
 ghost use Rattle.paper.specs.First.{first_bad, all};
 ghost use Rattle.paper.specs.Telegrams.{check_place};

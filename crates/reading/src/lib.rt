@@ -1,5 +1,6 @@
 // Reading out of the store: a signal of a vehicle, every signal of it, and every signal of the vehicles from 1 on.
 #![tactic(auto)]
+
 ghost use Rattle.std.specs.Prelude.{◌≡◌, ◌*◌, ◌≤◌, ◌<◌, length};
 ghost use Rattle.paper.specs.First.{first_of};
 ghost use Rattle.paper.specs.SignalList.{list_of};

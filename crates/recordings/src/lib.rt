@@ -1,6 +1,7 @@
 // Checking a supplier's recording of marshalling, a step at a time. Nothing lent is written, nothing is copied, and the data may have any length.
 // What has a `requires` is inner.
 #![tactic(auto)]
+
 ghost use Rattle.std.specs.Prelude.{◌≡◌, true, not, ◌+◌, ◌-◌, ◌*◌, ◌^◌, ◌<◌, ◌≤◌, length, get_or, eqb};
 ghost use Rattle.paper.specs.Octets.{bit, field};
 ghost use Rattle.paper.specs.Answer.{gives};

@@ -1,5 +1,6 @@
 // A reading shown as a code, a speed in km/h, a percentage or a current.
 #![tactic(auto)]
+
 ghost use Rattle.std.specs.Prelude.{◌≡◌, false, true, ◌<◌, ◌^◌};
 ghost use Rattle.paper.specs.SignalList.{list_of};
 ghost use Rattle.paper.specs.Accepted.{Laid};

@@ -20,7 +20,7 @@ loop-k-preserved c =
     let e = c in
     let t = e in (
       passed_more t.loop-k.invariant.0 t.loop-k-test.true ((let the_tested : let l = c in let a = l.args in c.code_rule.result ≡ code_rule a.signals (signal_at a.size a.sig.now) (code_at a.tail.now) l.loop-k.k = c.code_rule.ensures
-    ∙ code_keeps_lem _ _ _ _ c.loop-k.invariant.1 c.code_at-c.ensures.is c.code_at-c.ensures.low_small in the_tested)) (ap not c.if-not-code_rule.false),
+          ∙ code_keeps_lem _ _ _ _ c.loop-k.invariant.1 c.code_at-c.ensures.is c.code_at-c.ensures.low_small in the_tested)) (ap not c.if-not-code_rule.false),
       before_next _ (c.code_past-least.ensures ∙ ap code_past e.code_at-c.ensures.is),
     )
 

@@ -19,7 +19,7 @@ opened : (c : In-Entries) → Opens ((let the_part : Part = let a = c.args in
       rule = code_rule a.signals (signal_at a.size a.sig.now) (code_at a.tail.now);
       octets = a.tail.now;
       next = onward code_size a.tail.now ((let the_from : ℕ → List ℕ → Answer Counts = λ n ys. let a = c.args in
-    from_routes a.size a.signals (signal_at a.size a.sig.now) a.checks n ys in the_from));
+          from_routes a.size a.signals (signal_at a.size a.sig.now) a.checks n ys in the_from));
     } in the_part)) c.in-Entries.codes
 opened c = opens _ c.open-opened.ensures _ c.in-Entries.is
 
@@ -32,7 +32,7 @@ returns-then-at-end c = entry_broken ((let the_opened : Opens ((let the_part : P
       rule = code_rule a.signals (signal_at a.size a.sig.now) (code_at a.tail.now);
       octets = a.tail.now;
       next = onward code_size a.tail.now ((let the_from : ℕ → List ℕ → Answer Counts = λ n ys. let a = c.args in
-    from_routes a.size a.signals (signal_at a.size a.sig.now) a.checks n ys in the_from));
+          from_routes a.size a.signals (signal_at a.size a.sig.now) a.checks n ys in the_from));
     } in the_part)) c.in-Entries.codes = opens _ c.open-opened.ensures _ c.in-Entries.is in the_opened)) (ap (entry code_size) c.first_bad_code.ensures) c.if-at-end.true
 
 pub moved-requires : goal.moved-requires
@@ -45,7 +45,7 @@ moved-requires c =
       rule = code_rule a.signals (signal_at a.size a.sig.now) (code_at a.tail.now);
       octets = a.tail.now;
       next = onward code_size a.tail.now ((let the_from : ℕ → List ℕ → Answer Counts = λ n ys. let a = c.args in
-    from_routes a.size a.signals (signal_at a.size a.sig.now) a.checks n ys in the_from));
+          from_routes a.size a.signals (signal_at a.size a.sig.now) a.checks n ys in the_from));
     } in the_part)) c.in-Entries.codes = opens _ c.open-opened.ensures _ c.in-Entries.is in the_opened)) ((let the_from : ℕ → List ℕ → Answer Counts = λ n ys. let a = c.args in
     from_routes a.size a.signals (signal_at a.size a.sig.now) a.checks n ys in the_from)) c.from_routes.ensures c.rest.ensures ((let the_short : length c.args.tail.now ≤ 2 ^ 64 - 1 = search rules in the_short)) (routes_within _ _ _ _ _ _)
 
@@ -66,7 +66,7 @@ returns-else-at-end c =
       rule = code_rule a.signals (signal_at a.size a.sig.now) (code_at a.tail.now);
       octets = a.tail.now;
       next = onward code_size a.tail.now ((let the_from : ℕ → List ℕ → Answer Counts = λ n ys. let a = c.args in
-    from_routes a.size a.signals (signal_at a.size a.sig.now) a.checks n ys in the_from));
+          from_routes a.size a.signals (signal_at a.size a.sig.now) a.checks n ys in the_from));
     } in the_part)) c.in-Entries.codes = opens _ c.open-opened.ensures _ c.in-Entries.is in the_opened)) (ap (entry code_size) e.first_bad_code.ensures) (omega arith) e.if-at-end.false _
     (follows ((let the_opened : Opens ((let the_part : Part = let a = c.args in
     record {
@@ -75,7 +75,7 @@ returns-else-at-end c =
       rule = code_rule a.signals (signal_at a.size a.sig.now) (code_at a.tail.now);
       octets = a.tail.now;
       next = onward code_size a.tail.now ((let the_from : ℕ → List ℕ → Answer Counts = λ n ys. let a = c.args in
-    from_routes a.size a.signals (signal_at a.size a.sig.now) a.checks n ys in the_from));
+          from_routes a.size a.signals (signal_at a.size a.sig.now) a.checks n ys in the_from));
     } in the_part)) c.in-Entries.codes = opens _ c.open-opened.ensures _ c.in-Entries.is in the_opened)) ((let the_from : ℕ → List ℕ → Answer Counts = λ n ys. let a = c.args in
     from_routes a.size a.signals (signal_at a.size a.sig.now) a.checks n ys in the_from)) r.from_routes.ensures r.rest.ensures c.moved.ensures)
 
@@ -85,51 +85,63 @@ first_bad_code-requires c =
 
 pub overflow_mul-at : goal.overflow_mul-at
 overflow_mul-at c =
-    omega (arith, found_small ((let the_opened : Opens ((let the_part : Part = let a = c.args in
-    record {
-      limit = most_codes;
-      size = code_size;
-      rule = code_rule a.signals (signal_at a.size a.sig.now) (code_at a.tail.now);
-      octets = a.tail.now;
-      next = onward code_size a.tail.now ((let the_from : ℕ → List ℕ → Answer Counts = λ n ys. let a = c.args in
-    from_routes a.size a.signals (signal_at a.size a.sig.now) a.checks n ys in the_from));
-    } in the_part)) c.in-Entries.codes = opens _ c.open-opened.ensures _ c.in-Entries.is in the_opened)) c.first_bad_code.ensures)
+    omega (
+      arith,
+      found_small ((let the_opened : Opens ((let the_part : Part = let a = c.args in
+          record {
+            limit = most_codes;
+            size = code_size;
+            rule = code_rule a.signals (signal_at a.size a.sig.now) (code_at a.tail.now);
+            octets = a.tail.now;
+            next = onward code_size a.tail.now ((let the_from : ℕ → List ℕ → Answer Counts = λ n ys. let a = c.args in
+                from_routes a.size a.signals (signal_at a.size a.sig.now) a.checks n ys in the_from));
+          } in the_part)) c.in-Entries.codes = opens _ c.open-opened.ensures _ c.in-Entries.is in the_opened)) c.first_bad_code.ensures,
+    )
 
 pub overflow_add-at : goal.overflow_add-at
 overflow_add-at c =
-    omega (arith, found_small ((let the_opened : Opens ((let the_part : Part = let a = c.args in
-    record {
-      limit = most_codes;
-      size = code_size;
-      rule = code_rule a.signals (signal_at a.size a.sig.now) (code_at a.tail.now);
-      octets = a.tail.now;
-      next = onward code_size a.tail.now ((let the_from : ℕ → List ℕ → Answer Counts = λ n ys. let a = c.args in
-    from_routes a.size a.signals (signal_at a.size a.sig.now) a.checks n ys in the_from));
-    } in the_part)) c.in-Entries.codes = opens _ c.open-opened.ensures _ c.in-Entries.is in the_opened)) c.first_bad_code.ensures)
+    omega (
+      arith,
+      found_small ((let the_opened : Opens ((let the_part : Part = let a = c.args in
+          record {
+            limit = most_codes;
+            size = code_size;
+            rule = code_rule a.signals (signal_at a.size a.sig.now) (code_at a.tail.now);
+            octets = a.tail.now;
+            next = onward code_size a.tail.now ((let the_from : ℕ → List ℕ → Answer Counts = λ n ys. let a = c.args in
+                from_routes a.size a.signals (signal_at a.size a.sig.now) a.checks n ys in the_from));
+          } in the_part)) c.in-Entries.codes = opens _ c.open-opened.ensures _ c.in-Entries.is in the_opened)) c.first_bad_code.ensures,
+    )
 
 pub overflow_mul-end : goal.overflow_mul-end
 overflow_mul-end c =
-    omega (arith, (let the_opened : Opens ((let the_part : Part = let a = c.args in
-    record {
-      limit = most_codes;
-      size = code_size;
-      rule = code_rule a.signals (signal_at a.size a.sig.now) (code_at a.tail.now);
-      octets = a.tail.now;
-      next = onward code_size a.tail.now ((let the_from : ℕ → List ℕ → Answer Counts = λ n ys. let a = c.args in
-    from_routes a.size a.signals (signal_at a.size a.sig.now) a.checks n ys in the_from));
-    } in the_part)) c.in-Entries.codes = opens _ c.open-opened.ensures _ c.in-Entries.is in the_opened))
+    omega (
+      arith,
+      (let the_opened : Opens ((let the_part : Part = let a = c.args in
+          record {
+            limit = most_codes;
+            size = code_size;
+            rule = code_rule a.signals (signal_at a.size a.sig.now) (code_at a.tail.now);
+            octets = a.tail.now;
+            next = onward code_size a.tail.now ((let the_from : ℕ → List ℕ → Answer Counts = λ n ys. let a = c.args in
+                from_routes a.size a.signals (signal_at a.size a.sig.now) a.checks n ys in the_from));
+          } in the_part)) c.in-Entries.codes = opens _ c.open-opened.ensures _ c.in-Entries.is in the_opened),
+    )
 
 pub overflow_add-end : goal.overflow_add-end
 overflow_add-end c =
-    omega (arith, (let the_opened : Opens ((let the_part : Part = let a = c.args in
-    record {
-      limit = most_codes;
-      size = code_size;
-      rule = code_rule a.signals (signal_at a.size a.sig.now) (code_at a.tail.now);
-      octets = a.tail.now;
-      next = onward code_size a.tail.now ((let the_from : ℕ → List ℕ → Answer Counts = λ n ys. let a = c.args in
-    from_routes a.size a.signals (signal_at a.size a.sig.now) a.checks n ys in the_from));
-    } in the_part)) c.in-Entries.codes = opens _ c.open-opened.ensures _ c.in-Entries.is in the_opened))
+    omega (
+      arith,
+      (let the_opened : Opens ((let the_part : Part = let a = c.args in
+          record {
+            limit = most_codes;
+            size = code_size;
+            rule = code_rule a.signals (signal_at a.size a.sig.now) (code_at a.tail.now);
+            octets = a.tail.now;
+            next = onward code_size a.tail.now ((let the_from : ℕ → List ℕ → Answer Counts = λ n ys. let a = c.args in
+                from_routes a.size a.signals (signal_at a.size a.sig.now) a.checks n ys in the_from));
+          } in the_part)) c.in-Entries.codes = opens _ c.open-opened.ensures _ c.in-Entries.is in the_opened),
+    )
 
 pub rest-requires : goal.rest-requires
 rest-requires c =
@@ -140,5 +152,5 @@ rest-requires c =
       rule = code_rule a.signals (signal_at a.size a.sig.now) (code_at a.tail.now);
       octets = a.tail.now;
       next = onward code_size a.tail.now ((let the_from : ℕ → List ℕ → Answer Counts = λ n ys. let a = c.args in
-    from_routes a.size a.signals (signal_at a.size a.sig.now) a.checks n ys in the_from));
+          from_routes a.size a.signals (signal_at a.size a.sig.now) a.checks n ys in the_from));
     } in the_part)) c.in-Entries.codes = opens _ c.open-opened.ensures _ c.in-Entries.is in the_opened)).present

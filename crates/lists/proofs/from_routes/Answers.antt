@@ -76,52 +76,64 @@ first_bad_route-requires c =
 
 pub overflow_mul-at : goal.overflow_mul-at
 overflow_mul-at c =
-    omega (arith, found_small ((let the_opened : Opens ((let the_part : Part = let a = c.args in
-    let signal = signal_at a.size a.sig.now in
-    let xs = a.tail.now in
-    record {
-      limit = most_routes;
-      size = route_size;
-      rule = route_rule a.signals signal (route_at xs);
-      octets = xs;
-      next = ending a.size a.signals signal a.checks a.codes xs;
-    } in the_part)) c.in-Entries.routes = opens _ c.open-opened.ensures _ c.in-Entries.is in the_opened)) c.first_bad_route.ensures)
+    omega (
+      arith,
+      found_small ((let the_opened : Opens ((let the_part : Part = let a = c.args in
+          let signal = signal_at a.size a.sig.now in
+          let xs = a.tail.now in
+          record {
+            limit = most_routes;
+            size = route_size;
+            rule = route_rule a.signals signal (route_at xs);
+            octets = xs;
+            next = ending a.size a.signals signal a.checks a.codes xs;
+          } in the_part)) c.in-Entries.routes = opens _ c.open-opened.ensures _ c.in-Entries.is in the_opened)) c.first_bad_route.ensures,
+    )
 
 pub overflow_add-at : goal.overflow_add-at
 overflow_add-at c =
-    omega (arith, found_small ((let the_opened : Opens ((let the_part : Part = let a = c.args in
-    let signal = signal_at a.size a.sig.now in
-    let xs = a.tail.now in
-    record {
-      limit = most_routes;
-      size = route_size;
-      rule = route_rule a.signals signal (route_at xs);
-      octets = xs;
-      next = ending a.size a.signals signal a.checks a.codes xs;
-    } in the_part)) c.in-Entries.routes = opens _ c.open-opened.ensures _ c.in-Entries.is in the_opened)) c.first_bad_route.ensures)
+    omega (
+      arith,
+      found_small ((let the_opened : Opens ((let the_part : Part = let a = c.args in
+          let signal = signal_at a.size a.sig.now in
+          let xs = a.tail.now in
+          record {
+            limit = most_routes;
+            size = route_size;
+            rule = route_rule a.signals signal (route_at xs);
+            octets = xs;
+            next = ending a.size a.signals signal a.checks a.codes xs;
+          } in the_part)) c.in-Entries.routes = opens _ c.open-opened.ensures _ c.in-Entries.is in the_opened)) c.first_bad_route.ensures,
+    )
 
 pub overflow_mul-end : goal.overflow_mul-end
 overflow_mul-end c =
-    omega (arith, (let the_opened : Opens ((let the_part : Part = let a = c.args in
-    let signal = signal_at a.size a.sig.now in
-    let xs = a.tail.now in
-    record {
-      limit = most_routes;
-      size = route_size;
-      rule = route_rule a.signals signal (route_at xs);
-      octets = xs;
-      next = ending a.size a.signals signal a.checks a.codes xs;
-    } in the_part)) c.in-Entries.routes = opens _ c.open-opened.ensures _ c.in-Entries.is in the_opened))
+    omega (
+      arith,
+      (let the_opened : Opens ((let the_part : Part = let a = c.args in
+          let signal = signal_at a.size a.sig.now in
+          let xs = a.tail.now in
+          record {
+            limit = most_routes;
+            size = route_size;
+            rule = route_rule a.signals signal (route_at xs);
+            octets = xs;
+            next = ending a.size a.signals signal a.checks a.codes xs;
+          } in the_part)) c.in-Entries.routes = opens _ c.open-opened.ensures _ c.in-Entries.is in the_opened),
+    )
 
 pub overflow_add-end : goal.overflow_add-end
 overflow_add-end c =
-    omega (arith, (let the_opened : Opens ((let the_part : Part = let a = c.args in
-    let signal = signal_at a.size a.sig.now in
-    let xs = a.tail.now in
-    record {
-      limit = most_routes;
-      size = route_size;
-      rule = route_rule a.signals signal (route_at xs);
-      octets = xs;
-      next = ending a.size a.signals signal a.checks a.codes xs;
-    } in the_part)) c.in-Entries.routes = opens _ c.open-opened.ensures _ c.in-Entries.is in the_opened))
+    omega (
+      arith,
+      (let the_opened : Opens ((let the_part : Part = let a = c.args in
+          let signal = signal_at a.size a.sig.now in
+          let xs = a.tail.now in
+          record {
+            limit = most_routes;
+            size = route_size;
+            rule = route_rule a.signals signal (route_at xs);
+            octets = xs;
+            next = ending a.size a.signals signal a.checks a.codes xs;
+          } in the_part)) c.in-Entries.routes = opens _ c.open-opened.ensures _ c.in-Entries.is in the_opened),
+    )

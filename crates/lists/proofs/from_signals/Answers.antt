@@ -19,7 +19,7 @@ opened : (c : In-Entries) → Opens ((let the_part : Part = let a = c.args in
       rule = signal_rule a.checks (check_at a.list.now) (signal_at a.size a.tail.now);
       octets = a.tail.now;
       next = onward a.size a.tail.now ((let the_from : ℕ → List ℕ → Answer Counts = λ n ys. let a = c.args in
-    from_codes a.size n (signal_at a.size a.tail.now) a.checks ys in the_from));
+          from_codes a.size n (signal_at a.size a.tail.now) a.checks ys in the_from));
     } in the_part)) c.in-Entries.signals
 opened c = opens _ c.open-opened.ensures _ c.in-Entries.is
 
@@ -35,7 +35,7 @@ returns-then-at-end c = entry_broken ((let the_opened : Opens ((let the_part : P
       rule = signal_rule a.checks (check_at a.list.now) (signal_at a.size a.tail.now);
       octets = a.tail.now;
       next = onward a.size a.tail.now ((let the_from : ℕ → List ℕ → Answer Counts = λ n ys. let a = c.args in
-    from_codes a.size n (signal_at a.size a.tail.now) a.checks ys in the_from));
+          from_codes a.size n (signal_at a.size a.tail.now) a.checks ys in the_from));
     } in the_part)) c.in-Entries.signals = opens _ c.open-opened.ensures _ c.in-Entries.is in the_opened)) c.first_bad_signal-at.ensures c.if-at-end.true
 
 pub moved-requires : goal.moved-requires
@@ -48,7 +48,7 @@ moved-requires c =
       rule = signal_rule a.checks (check_at a.list.now) (signal_at a.size a.tail.now);
       octets = a.tail.now;
       next = onward a.size a.tail.now ((let the_from : ℕ → List ℕ → Answer Counts = λ n ys. let a = c.args in
-    from_codes a.size n (signal_at a.size a.tail.now) a.checks ys in the_from));
+          from_codes a.size n (signal_at a.size a.tail.now) a.checks ys in the_from));
     } in the_part)) c.in-Entries.signals = opens _ c.open-opened.ensures _ c.in-Entries.is in the_opened)) ((let the_from : ℕ → List ℕ → Answer Counts = λ n ys. let a = c.args in
     from_codes a.size n (signal_at a.size a.tail.now) a.checks ys in the_from)) c.from_codes.ensures c.rest.ensures ((let the_short : length c.args.tail.now ≤ 2 ^ 64 - 1 = search rules in the_short)) (codes_within _ _ _ _ _)
 
@@ -69,7 +69,7 @@ returns-else-at-end c =
       rule = signal_rule a.checks (check_at a.list.now) (signal_at a.size a.tail.now);
       octets = a.tail.now;
       next = onward a.size a.tail.now ((let the_from : ℕ → List ℕ → Answer Counts = λ n ys. let a = c.args in
-    from_codes a.size n (signal_at a.size a.tail.now) a.checks ys in the_from));
+          from_codes a.size n (signal_at a.size a.tail.now) a.checks ys in the_from));
     } in the_part)) c.in-Entries.signals = opens _ c.open-opened.ensures _ c.in-Entries.is in the_opened)) e.first_bad_signal-at.ensures (omega (arith, ((let the_sized : Sized c.args.size = c.requires.sized in the_sized)).least)) e.if-at-end.false _
     (follows ((let the_opened : Opens ((let the_part : Part = let a = c.args in
     record {
@@ -78,7 +78,7 @@ returns-else-at-end c =
       rule = signal_rule a.checks (check_at a.list.now) (signal_at a.size a.tail.now);
       octets = a.tail.now;
       next = onward a.size a.tail.now ((let the_from : ℕ → List ℕ → Answer Counts = λ n ys. let a = c.args in
-    from_codes a.size n (signal_at a.size a.tail.now) a.checks ys in the_from));
+          from_codes a.size n (signal_at a.size a.tail.now) a.checks ys in the_from));
     } in the_part)) c.in-Entries.signals = opens _ c.open-opened.ensures _ c.in-Entries.is in the_opened)) ((let the_from : ℕ → List ℕ → Answer Counts = λ n ys. let a = c.args in
     from_codes a.size n (signal_at a.size a.tail.now) a.checks ys in the_from)) r.from_codes.ensures r.rest.ensures c.moved.ensures)
 
@@ -92,39 +92,48 @@ first_bad_signal-at-requires c =
 
 pub overflow_mul-end : goal.overflow_mul-end
 overflow_mul-end c =
-    omega (arith, (let the_opened : Opens ((let the_part : Part = let a = c.args in
-    record {
-      limit = most_signals;
-      size = a.size;
-      rule = signal_rule a.checks (check_at a.list.now) (signal_at a.size a.tail.now);
-      octets = a.tail.now;
-      next = onward a.size a.tail.now ((let the_from : ℕ → List ℕ → Answer Counts = λ n ys. let a = c.args in
-    from_codes a.size n (signal_at a.size a.tail.now) a.checks ys in the_from));
-    } in the_part)) c.in-Entries.signals = opens _ c.open-opened.ensures _ c.in-Entries.is in the_opened))
+    omega (
+      arith,
+      (let the_opened : Opens ((let the_part : Part = let a = c.args in
+          record {
+            limit = most_signals;
+            size = a.size;
+            rule = signal_rule a.checks (check_at a.list.now) (signal_at a.size a.tail.now);
+            octets = a.tail.now;
+            next = onward a.size a.tail.now ((let the_from : ℕ → List ℕ → Answer Counts = λ n ys. let a = c.args in
+                from_codes a.size n (signal_at a.size a.tail.now) a.checks ys in the_from));
+          } in the_part)) c.in-Entries.signals = opens _ c.open-opened.ensures _ c.in-Entries.is in the_opened),
+    )
 
 pub overflow_add-end : goal.overflow_add-end
 overflow_add-end c =
-    omega (arith, (let the_opened : Opens ((let the_part : Part = let a = c.args in
-    record {
-      limit = most_signals;
-      size = a.size;
-      rule = signal_rule a.checks (check_at a.list.now) (signal_at a.size a.tail.now);
-      octets = a.tail.now;
-      next = onward a.size a.tail.now ((let the_from : ℕ → List ℕ → Answer Counts = λ n ys. let a = c.args in
-    from_codes a.size n (signal_at a.size a.tail.now) a.checks ys in the_from));
-    } in the_part)) c.in-Entries.signals = opens _ c.open-opened.ensures _ c.in-Entries.is in the_opened))
+    omega (
+      arith,
+      (let the_opened : Opens ((let the_part : Part = let a = c.args in
+          record {
+            limit = most_signals;
+            size = a.size;
+            rule = signal_rule a.checks (check_at a.list.now) (signal_at a.size a.tail.now);
+            octets = a.tail.now;
+            next = onward a.size a.tail.now ((let the_from : ℕ → List ℕ → Answer Counts = λ n ys. let a = c.args in
+                from_codes a.size n (signal_at a.size a.tail.now) a.checks ys in the_from));
+          } in the_part)) c.in-Entries.signals = opens _ c.open-opened.ensures _ c.in-Entries.is in the_opened),
+    )
 
 pub version_of-version-requires : goal.version_of-version-requires
 version_of-version-requires c =
-    let t = c in (((let the_sized : Sized c.args.size = c.requires.sized in the_sized)).least, ((let the_opened : Opens ((let the_part : Part = let a = c.args in
-    record {
-      limit = most_signals;
-      size = a.size;
-      rule = signal_rule a.checks (check_at a.list.now) (signal_at a.size a.tail.now);
-      octets = a.tail.now;
-      next = onward a.size a.tail.now ((let the_from : ℕ → List ℕ → Answer Counts = λ n ys. let a = c.args in
-    from_codes a.size n (signal_at a.size a.tail.now) a.checks ys in the_from));
-    } in the_part)) c.in-Entries.signals = opens _ c.open-opened.ensures _ c.in-Entries.is in the_opened)).present)
+    let t = c in (
+      ((let the_sized : Sized c.args.size = c.requires.sized in the_sized)).least,
+      ((let the_opened : Opens ((let the_part : Part = let a = c.args in
+          record {
+            limit = most_signals;
+            size = a.size;
+            rule = signal_rule a.checks (check_at a.list.now) (signal_at a.size a.tail.now);
+            octets = a.tail.now;
+            next = onward a.size a.tail.now ((let the_from : ℕ → List ℕ → Answer Counts = λ n ys. let a = c.args in
+                from_codes a.size n (signal_at a.size a.tail.now) a.checks ys in the_from));
+          } in the_part)) c.in-Entries.signals = opens _ c.open-opened.ensures _ c.in-Entries.is in the_opened)).present,
+    )
 
 pub rest-requires : goal.rest-requires
 rest-requires c =
@@ -135,17 +144,21 @@ rest-requires c =
       rule = signal_rule a.checks (check_at a.list.now) (signal_at a.size a.tail.now);
       octets = a.tail.now;
       next = onward a.size a.tail.now ((let the_from : ℕ → List ℕ → Answer Counts = λ n ys. let a = c.args in
-    from_codes a.size n (signal_at a.size a.tail.now) a.checks ys in the_from));
+          from_codes a.size n (signal_at a.size a.tail.now) a.checks ys in the_from));
     } in the_part)) c.in-Entries.signals = opens _ c.open-opened.ensures _ c.in-Entries.is in the_opened)).present
 
 pub from_codes-requires : goal.from_codes-requires
 from_codes-requires c =
-    let t = c in (((let the_sized : Sized c.args.size = c.requires.sized in the_sized)).least, ((let the_opened : Opens ((let the_part : Part = let a = c.args in
-    record {
-      limit = most_signals;
-      size = a.size;
-      rule = signal_rule a.checks (check_at a.list.now) (signal_at a.size a.tail.now);
-      octets = a.tail.now;
-      next = onward a.size a.tail.now ((let the_from : ℕ → List ℕ → Answer Counts = λ n ys. let a = c.args in
-    from_codes a.size n (signal_at a.size a.tail.now) a.checks ys in the_from));
-    } in the_part)) c.in-Entries.signals = opens _ c.open-opened.ensures _ c.in-Entries.is in the_opened)).present, c.version_of-version.ensures)
+    let t = c in (
+      ((let the_sized : Sized c.args.size = c.requires.sized in the_sized)).least,
+      ((let the_opened : Opens ((let the_part : Part = let a = c.args in
+          record {
+            limit = most_signals;
+            size = a.size;
+            rule = signal_rule a.checks (check_at a.list.now) (signal_at a.size a.tail.now);
+            octets = a.tail.now;
+            next = onward a.size a.tail.now ((let the_from : ℕ → List ℕ → Answer Counts = λ n ys. let a = c.args in
+                from_codes a.size n (signal_at a.size a.tail.now) a.checks ys in the_from));
+          } in the_part)) c.in-Entries.signals = opens _ c.open-opened.ensures _ c.in-Entries.is in the_opened)).present,
+      c.version_of-version.ensures,
+    )

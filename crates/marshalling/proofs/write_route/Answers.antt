@@ -27,9 +27,16 @@ read_with-reading-requires c =
     let s = c in
     let k = ((let the_kept : Kept ((let the_under : SignalList = list_of c.args.list.now (counts_of c.args.n) in the_under)) = kept_of c.args.list.now (counts_of c.args.n) c.requires.served.0.laid in the_kept)).route s.args.r s.requires.served.1 in
     let vehicle = ap (λ (t : Route). t.vehicle) t.route_in-t.ensures.is in
-    record { laid = (s.requires.served.0.laid, (let the_signal_there : c.route_in-t.result.signal < c.args.n.signals = let s = c in
-    let k = ((let the_kept : Kept ((let the_under : SignalList = list_of c.args.list.now (counts_of c.args.n) in the_under)) = kept_of c.args.list.now (counts_of c.args.n) c.requires.served.0.laid in the_kept)).route s.args.r s.requires.served.1 in
-    omega (arith, ap (λ (t : Route). t.signal) c.route_in-t.ensures.is, k.exists) in the_signal_there), c.entries_at-own.ensures); store_len = (s.requires.served.0.whole, omega (arith, k.first), omega (arith, k.last)) }
+    record {
+      laid = (
+        s.requires.served.0.laid,
+        (let the_signal_there : c.route_in-t.result.signal < c.args.n.signals = let s = c in
+            let k = ((let the_kept : Kept ((let the_under : SignalList = list_of c.args.list.now (counts_of c.args.n) in the_under)) = kept_of c.args.list.now (counts_of c.args.n) c.requires.served.0.laid in the_kept)).route s.args.r s.requires.served.1 in
+            omega (arith, ap (λ (t : Route). t.signal) c.route_in-t.ensures.is, k.exists) in the_signal_there),
+        c.entries_at-own.ensures,
+      );
+      store_len = (s.requires.served.0.whole, omega (arith, k.first), omega (arith, k.last));
+    }
 
 wide : (c : After-width_in) →
     let s = c in
@@ -62,6 +69,9 @@ returns c =
 
 pub width_in-requires : goal.width_in-requires
 width_in-requires c =
-    let t = c in (c.requires.served.0.laid, (let the_signal_there : c.route_in-t.result.signal < c.args.n.signals = let s = c in
-    let k = ((let the_kept : Kept ((let the_under : SignalList = list_of c.args.list.now (counts_of c.args.n) in the_under)) = kept_of c.args.list.now (counts_of c.args.n) c.requires.served.0.laid in the_kept)).route s.args.r s.requires.served.1 in
-    omega (arith, ap (λ (t : Route). t.signal) c.route_in-t.ensures.is, k.exists) in the_signal_there))
+    let t = c in (
+      c.requires.served.0.laid,
+      (let the_signal_there : c.route_in-t.result.signal < c.args.n.signals = let s = c in
+          let k = ((let the_kept : Kept ((let the_under : SignalList = list_of c.args.list.now (counts_of c.args.n) in the_under)) = kept_of c.args.list.now (counts_of c.args.n) c.requires.served.0.laid in the_kept)).route s.args.r s.requires.served.1 in
+          omega (arith, ap (λ (t : Route). t.signal) c.route_in-t.ensures.is, k.exists) in the_signal_there),
+    )

@@ -1,5 +1,4 @@
 -- `profiles::allows_type` meets its contract. Assumes nothing.
-use borrow.Author.Rules.{rules}
 use Rattle.profiles.proofs.Laws.{or_none}
 use Rattle.profiles.proofs.allows_type.Goals as goal
 

@@ -1,6 +1,5 @@
 -- `profiles::breach_in` meets its contract. Assumes nothing.
 use mathlib.Core.Path.{refl}
-use borrow.Author.Rules.{rules}
 use Rattle.paper.specs.Profiles.{breach_in}
 use Rattle.profiles.proofs.Laws.{breach_here, breach_past}
 use Rattle.profiles.proofs.breach_in.Goals as goal

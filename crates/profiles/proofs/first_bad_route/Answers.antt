@@ -1,10 +1,8 @@
-use Prim.Native.Nat.{ℕ, ◌-◌}
+use Prim.Native.Nat.{ℕ}
 use native.Mathlib.Omega.{arith}
-use lib.Dec.{eqb}
-use borrow.Author.Rules.{rules}
 use Rattle.paper.specs.SignalList.{list_of}
 use Rattle.paper.specs.Profiles.{route_broken}
-use Rattle.paper.proofs.LoopLaws.{Passed, passed_none, stands_past}
+use Rattle.paper.proofs.LoopLaws.{passed_none, stands_past}
 use Rattle.lists.specs.Judged.{counts_of}
 use Rattle.profiles.specs.Profiles.{profile_of}
 use Rattle.profiles.proofs.Laws.{kept_on, breaks_here}

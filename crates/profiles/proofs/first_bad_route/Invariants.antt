@@ -1,14 +1,11 @@
 -- `profiles::first_bad_route` meets its contract: every route passed keeps the profile. Assumes nothing.
-use Prim.Native.Nat.{ℕ, ◌-◌}
-use native.Mathlib.Omega.{arith}
+use Prim.Native.Nat.{◌-◌}
 use lib.Dec.{eqb}
-use borrow.Author.Rules.{rules}
 use Rattle.paper.specs.SignalList.{list_of}
 use Rattle.paper.specs.Profiles.{route_broken}
-use Rattle.paper.proofs.LoopLaws.{Passed, passed_none, stands_past}
+use Rattle.paper.proofs.LoopLaws.{Passed}
 use Rattle.lists.specs.Judged.{counts_of}
 use Rattle.profiles.specs.Profiles.{profile_of}
-use Rattle.profiles.proofs.Laws.{kept_on, breaks_here}
 use Rattle.profiles.proofs.first_bad_route.Given as goal
 
 abbrev pub invariant-loop-r : goal.invariant-loop-r

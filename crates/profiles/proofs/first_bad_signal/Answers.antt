@@ -1,12 +1,9 @@
-use Prim.Native.Nat.{ℕ, ◌-◌}
+use Prim.Native.Nat.{ℕ}
 use native.Mathlib.Omega.{arith}
-use lib.Dec.{eqb}
-use borrow.Author.Rules.{rules}
 use Rattle.paper.specs.SignalList.{list_of}
 use Rattle.paper.specs.Profiles.{signal_broken}
-use Rattle.paper.proofs.LoopLaws.{Passed, passed_none, stands_past}
+use Rattle.paper.proofs.LoopLaws.{passed_none, stands_past}
 use Rattle.lists.specs.Judged.{counts_of}
-use Rattle.known.specs.Known.{From}
 use Rattle.known.proofs.Laws.{laid_ordered, from_none, past_own}
 use Rattle.profiles.specs.Profiles.{profile_of}
 use Rattle.profiles.proofs.Laws.{kept_on, breaks_here}

@@ -1,16 +1,12 @@
 -- `profiles::first_bad_signal` meets its contract: every signal passed keeps the profile. Assumes nothing.
-use Prim.Native.Nat.{ℕ, ◌-◌}
-use native.Mathlib.Omega.{arith}
+use Prim.Native.Nat.{◌-◌}
 use lib.Dec.{eqb}
-use borrow.Author.Rules.{rules}
 use Rattle.paper.specs.SignalList.{list_of}
 use Rattle.paper.specs.Profiles.{signal_broken}
-use Rattle.paper.proofs.LoopLaws.{Passed, passed_none, stands_past}
+use Rattle.paper.proofs.LoopLaws.{Passed}
 use Rattle.lists.specs.Judged.{counts_of}
 use Rattle.known.specs.Known.{From}
-use Rattle.known.proofs.Laws.{laid_ordered, from_none, past_own}
 use Rattle.profiles.specs.Profiles.{profile_of}
-use Rattle.profiles.proofs.Laws.{kept_on, breaks_here}
 use Rattle.profiles.proofs.first_bad_signal.Given as goal
 
 abbrev pub invariant-loop-k : goal.invariant-loop-k

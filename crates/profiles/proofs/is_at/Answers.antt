@@ -1,5 +1,4 @@
 -- `profiles::is_at` meets its contract. Assumes nothing.
-use borrow.Author.Rules.{rules}
 use Rattle.profiles.proofs.Laws.{gave, gave_none}
 use Rattle.profiles.proofs.is_at.Goals as goal
 

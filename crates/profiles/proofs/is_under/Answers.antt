@@ -1,9 +1,5 @@
-use Prim.Native.Nat.{◌+◌, ◌-◌}
 use native.Mathlib.Omega.{arith}
-use borrow.Author.Rules.{rules}
-use Rattle.paper.specs.Telegrams.{check_place}
-use Rattle.paper.specs.Profiles.{gives_place}
-use Rattle.paper.proofs.LoopLaws.{Passed, passed_none, passed_more, not_all_here, passes_on}
+use Rattle.paper.proofs.LoopLaws.{passed_none, passed_more, not_all_here, passes_on}
 use mathlib.Core.Bool.{not}
 use mathlib.Core.Path.{ap}
 use Rattle.profiles.proofs.is_under.Goals as goal

@@ -1,10 +1,8 @@
 -- `profiles::is_under` meets its contract: every bit passed has the place. Assumes nothing.
 use Prim.Native.Nat.{◌+◌, ◌-◌}
-use native.Mathlib.Omega.{arith}
-use borrow.Author.Rules.{rules}
 use Rattle.paper.specs.Telegrams.{check_place}
 use Rattle.paper.specs.Profiles.{gives_place}
-use Rattle.paper.proofs.LoopLaws.{Passed, passed_none, passed_more, not_all_here, passes_on}
+use Rattle.paper.proofs.LoopLaws.{Passed}
 use Rattle.profiles.proofs.is_under.Given as goal
 
 abbrev pub invariant-loop-i : goal.invariant-loop-i

@@ -1,6 +1,5 @@
 -- `profiles::judge_profile` meets its contract. Assumes nothing.
 use mathlib.Core.Path.{◌≡◌, sym, ap, ◌∙◌}
-use borrow.Author.Rules.{rules}
 use Rattle.paper.specs.Answer.{gives}
 use Rattle.paper.specs.SignalList.{judge}
 use Rattle.lists.specs.Judged.{counts_of, judged_answer}

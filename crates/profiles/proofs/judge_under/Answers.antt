@@ -1,6 +1,5 @@
 -- `profiles::judge_under` meets its contract. Assumes nothing.
-use mathlib.Core.Path.{◌≡◌, sym, ap, ◌∙◌}
-use borrow.Author.Rules.{rules}
+use mathlib.Core.Path.{sym, ap, ◌∙◌}
 use Rattle.paper.specs.Profiles.{unless_breach}
 use Rattle.lists.specs.Judged.{counts_of}
 use Rattle.faults.specs.Faults.{fault_answer}

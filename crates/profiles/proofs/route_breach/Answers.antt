@@ -1,8 +1,7 @@
 -- `profiles::route_breach` meets its contract. Assumes nothing.
 use Prim.Native.Nat.{◌*◌, ◌≤◌}
-use mathlib.Core.Path.{◌≡◌, ap, ◌∙◌}
+use mathlib.Core.Path.{ap}
 use native.Mathlib.Omega.{arith}
-use borrow.Author.Rules.{rules}
 use Rattle.paper.specs.SignalList.{Route, most_signals}
 use Rattle.paper.proofs.ListLaws.{kept_of}
 use Rattle.lists.specs.Judged.{counts_of}

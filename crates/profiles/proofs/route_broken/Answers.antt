@@ -1,8 +1,6 @@
 -- `profiles::route_broken` meets its contract. Assumes nothing.
-use mathlib.Core.Path.{◌≡◌, ap}
-use Prim.Native.Nat.{ℕ, ◌+◌}
-use borrow.Author.Rules.{rules}
-use Rattle.paper.specs.SignalList.{Route, list_of, route_end}
+use mathlib.Core.Path.{ap}
+use Rattle.paper.specs.SignalList.{Route, list_of}
 use Rattle.paper.proofs.ListLaws.{kept_of}
 use Rattle.lists.specs.Judged.{counts_of}
 use Rattle.profiles.proofs.Laws.{route_kept, route_far}

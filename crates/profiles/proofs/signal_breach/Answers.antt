@@ -1,7 +1,6 @@
 -- `profiles::signal_breach` meets its contract. Assumes nothing.
 use Prim.Native.Nat.{◌*◌, ◌≤◌}
 use native.Mathlib.Omega.{arith}
-use borrow.Author.Rules.{rules}
 use Rattle.paper.specs.SignalList.{most_signals}
 use Rattle.lists.specs.Judged.{counts_of}
 use Rattle.profiles.proofs.Laws.{small_signals}

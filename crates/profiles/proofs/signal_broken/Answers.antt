@@ -1,6 +1,5 @@
 -- `profiles::signal_broken` meets its contract: the rules are asked in their order. Assumes nothing.
-use mathlib.Core.Path.{◌≡◌, ap}
-use borrow.Author.Rules.{rules}
+use mathlib.Core.Path.{ap}
 use Rattle.paper.specs.SignalList.{Signal, SignalList, list_of}
 use Rattle.paper.proofs.ListLaws.{kept_of}
 use Rattle.lists.specs.Judged.{counts_of}

@@ -24,8 +24,11 @@ returns-then-not-is_vehicle c = into_refused _ _ _ _ (simp ((let the_whole : is_
 pub overflow_mul-many : goal.overflow_mul-many
 overflow_mul-many c =
     let s = c in
-    omega (arith, many_small s.args.last s.args.n.signals ((let the_most : c.args.last ≤ vehicles = let v = c.args.last in
-    leb-true _ _ (both (leb 1 v) (leb v vehicles) ((let the_numbered : is_vehicle c.args.last ≡ true = sym c.is_vehicle.ensures ∙ c.if-not-is_vehicle.false in the_numbered))).1 in the_most)) s.requires.signals.opens.within)
+    omega (
+      arith,
+      many_small s.args.last s.args.n.signals ((let the_most : c.args.last ≤ vehicles = let v = c.args.last in
+          leb-true _ _ (both (leb 1 v) (leb v vehicles) ((let the_numbered : is_vehicle c.args.last ≡ true = sym c.is_vehicle.ensures ∙ c.if-not-is_vehicle.false in the_numbered))).1 in the_most)) s.requires.signals.opens.within,
+    )
 
 pub returns-then-not-is_room : goal.returns-then-not-is_room
 unfolding refuse_if
@@ -38,8 +41,15 @@ read_vehicles-requires c =
     let i = c in
     let v = i in
     let e = v in
-    record { laid = (c.requires, eqb-true _ _ ((let the_whole : is_store c.args.store.now ≡ true = sym c.is_store.ensures ∙ c.if-not-is_store.false in the_whole)), (let the_most : c.args.last ≤ vehicles = let v = c.args.last in
-    leb-true _ _ (both (leb 1 v) (leb v vehicles) ((let the_numbered : is_vehicle c.args.last ≡ true = sym c.is_vehicle.ensures ∙ c.if-not-is_vehicle.false in the_numbered))).1 in the_most)); values_len = as_long _ _ _ (ap not i.if-not-is_room.false) }
+    record {
+      laid = (
+        c.requires,
+        eqb-true _ _ ((let the_whole : is_store c.args.store.now ≡ true = sym c.is_store.ensures ∙ c.if-not-is_store.false in the_whole)),
+        (let the_most : c.args.last ≤ vehicles = let v = c.args.last in
+            leb-true _ _ (both (leb 1 v) (leb v vehicles) ((let the_numbered : is_vehicle c.args.last ≡ true = sym c.is_vehicle.ensures ∙ c.if-not-is_vehicle.false in the_numbered))).1 in the_most),
+      );
+      values_len = as_long _ _ _ (ap not i.if-not-is_room.false);
+    }
 
 pub returns : goal.returns
 unfolding refuse_if

@@ -14,14 +14,21 @@ loop-v-init c =
     (turned_none _ _ _ _ s.requires.values_len.0, turned_none _ _ _ _ s.requires.values_len.1)
 
 pub overflow_mul-from : goal.overflow_mul-from
-overflow_mul-from c = omega (arith, (let the_small : let l = c in l.loop-v.v * c.args.n.signals ≤ 16128 = let p = c.requires.laid in
-    many_small _ _ (omega (arith, c.loop-v-test.true, p.2)) p.0.signals.opens.within in the_small))
+overflow_mul-from c = omega (
+  arith,
+  (let the_small : let l = c in l.loop-v.v * c.args.n.signals ≤ 16128 = let p = c.requires.laid in
+      many_small _ _ (omega (arith, c.loop-v-test.true, p.2)) p.0.signals.opens.within in the_small),
+)
 
 pub overflow_add-to : goal.overflow_add-to
 overflow_add-to c =
     let i = c in
-    omega (arith, (let the_small : let l = c in l.loop-v.v * c.args.n.signals ≤ 16128 = let p = c.requires.laid in
-    many_small _ _ (omega (arith, c.loop-v-test.true, p.2)) p.0.signals.opens.within in the_small), c.requires.laid.0.signals.opens.within)
+    omega (
+      arith,
+      (let the_small : let l = c in l.loop-v.v * c.args.n.signals ≤ 16128 = let p = c.requires.laid in
+          many_small _ _ (omega (arith, c.loop-v-test.true, p.2)) p.0.signals.opens.within in the_small),
+      c.requires.laid.0.signals.opens.within,
+    )
 
 pub overflow_add-v : goal.overflow_add-v
 overflow_add-v c =
@@ -29,8 +36,11 @@ overflow_add-v c =
     omega (arith, i.loop-v-test.true, c.requires.laid.2)
 
 pub offset_bounds-values-from : goal.offset_bounds-values-from
-offset_bounds-values-from c = omega (arith, (let the_small : let l = c in l.loop-v.v * c.args.n.signals ≤ 16128 = let p = c.requires.laid in
-    many_small _ _ (omega (arith, c.loop-v-test.true, p.2)) p.0.signals.opens.within in the_small))
+offset_bounds-values-from c = omega (
+  arith,
+  (let the_small : let l = c in l.loop-v.v * c.args.n.signals ≤ 16128 = let p = c.requires.laid in
+      many_small _ _ (omega (arith, c.loop-v-test.true, p.2)) p.0.signals.opens.within in the_small),
+)
 
 pub slice_bounds-read_each-end : goal.slice_bounds-read_each-end
 slice_bounds-read_each-end c =

@@ -43,8 +43,17 @@ pub read_telegram-requires : goal.read_telegram-requires
 read_telegram-requires c =
     let o = c in
     let s = o in
-    record { laid = c.requires.laid; s_value = (s.signal_in-s.ensures.is, rw c.telegram.ensures (simp length-drop (omega (arith, (let the_whole : length c.slot-slot.result.now ≡ slot_octets = let b = c in
-    rw c.slot-slot.ensures (slot_whole _ _ b.requires.store_len.0 b.requires.store_len.1 b.requires.store_len.2) in the_whole))))) }
+    record {
+      laid = c.requires.laid;
+      s_value = (
+        s.signal_in-s.ensures.is,
+        rw c.telegram.ensures (simp length-drop (omega (
+          arith,
+          (let the_whole : length c.slot-slot.result.now ≡ slot_octets = let b = c in
+              rw c.slot-slot.ensures (slot_whole _ _ b.requires.store_len.0 b.requires.store_len.1 b.requires.store_len.2) in the_whole),
+        ))),
+      );
+    }
 
 pub returns : goal.returns
 unfolding reading_at slot_of

@@ -39,13 +39,19 @@ data_version-requires c = rw c.telegram-t.ensures (simp length-drop (omega arith
 pub returns-then-data_version-s : goal.returns-then-data_version-s
 returns-then-data_version-s c =
     let d = c in
-    rw ((let the_passed : let t = c in let a = c.args in let slot = slot_from a.slot.now in first_of 2 (slot_tests slot a.clock (signal_of a.s)) 0 ≡ first_of 5 (ltb (version_of slot.telegram) a.s.since ∷ []) 0 = let t = c in
-    let h = t in
-    simp ((let the_heard_is : not (heard (slot_from c.args.slot.now)) ≡ not c.is_heard.result = ap not (sym c.is_heard.ensures) in the_heard_is) ∙ (ap not h.if-not-is_heard.false), (let the_timed_is : let a = c.args in not (timely (slot_from a.slot.now) a.clock a.s.limit) ≡ not c.is_timely.result = ap not (sym c.is_timely.ensures) in the_timed_is) ∙ (ap not t.if-not-is_timely.false), (let the_carried_is : let a = c.args in not (carries (telegram_type (slot_from a.slot.now).telegram) a.s.kind) ≡ not c.is_carried.result = simp (c.is_carried.ensures, c.telegram_type.ensures.0, c.telegram-t.ensures) in the_carried_is) ∙ (ap not c.if-not-is_carried.false)) in the_passed), lt-ltb _ _ (rw ((let the_version_is : let t = c in c.data_version.result ≡ version_of (slot_from c.args.slot.now).telegram = c.data_version.ensures.0 ∙ ap version_of c.telegram-t.ensures in the_version_is)) at c.if-data_version-s.true))
+    rw (
+      (let the_passed : let t = c in let a = c.args in let slot = slot_from a.slot.now in first_of 2 (slot_tests slot a.clock (signal_of a.s)) 0 ≡ first_of 5 (ltb (version_of slot.telegram) a.s.since ∷ []) 0 = let t = c in
+          let h = t in
+          simp ((let the_heard_is : not (heard (slot_from c.args.slot.now)) ≡ not c.is_heard.result = ap not (sym c.is_heard.ensures) in the_heard_is) ∙ (ap not h.if-not-is_heard.false), (let the_timed_is : let a = c.args in not (timely (slot_from a.slot.now) a.clock a.s.limit) ≡ not c.is_timely.result = ap not (sym c.is_timely.ensures) in the_timed_is) ∙ (ap not t.if-not-is_timely.false), (let the_carried_is : let a = c.args in not (carries (telegram_type (slot_from a.slot.now).telegram) a.s.kind) ≡ not c.is_carried.result = simp (c.is_carried.ensures, c.telegram_type.ensures.0, c.telegram-t.ensures) in the_carried_is) ∙ (ap not c.if-not-is_carried.false)) in the_passed),
+      lt-ltb _ _ (rw ((let the_version_is : let t = c in c.data_version.result ≡ version_of (slot_from c.args.slot.now).telegram = c.data_version.ensures.0 ∙ ap version_of c.telegram-t.ensures in the_version_is)) at c.if-data_version-s.true),
+    )
 
 pub returns : goal.returns
 returns c =
     let d = c in
-    rw ((let the_passed : let t = c in let a = c.args in let slot = slot_from a.slot.now in first_of 2 (slot_tests slot a.clock (signal_of a.s)) 0 ≡ first_of 5 (ltb (version_of slot.telegram) a.s.since ∷ []) 0 = let t = c in
-    let h = t in
-    simp ((let the_heard_is : not (heard (slot_from c.args.slot.now)) ≡ not c.is_heard.result = ap not (sym c.is_heard.ensures) in the_heard_is) ∙ (ap not h.if-not-is_heard.false), (let the_timed_is : let a = c.args in not (timely (slot_from a.slot.now) a.clock a.s.limit) ≡ not c.is_timely.result = ap not (sym c.is_timely.ensures) in the_timed_is) ∙ (ap not t.if-not-is_timely.false), (let the_carried_is : let a = c.args in not (carries (telegram_type (slot_from a.slot.now).telegram) a.s.kind) ≡ not c.is_carried.result = simp (c.is_carried.ensures, c.telegram_type.ensures.0, c.telegram-t.ensures) in the_carried_is) ∙ (ap not c.if-not-is_carried.false)) in the_passed), le-ltb _ _ (rw ((let the_version_is : let t = c in c.data_version.result ≡ version_of (slot_from c.args.slot.now).telegram = c.data_version.ensures.0 ∙ ap version_of c.telegram-t.ensures in the_version_is)) at c.if-data_version-s.false))
+    rw (
+      (let the_passed : let t = c in let a = c.args in let slot = slot_from a.slot.now in first_of 2 (slot_tests slot a.clock (signal_of a.s)) 0 ≡ first_of 5 (ltb (version_of slot.telegram) a.s.since ∷ []) 0 = let t = c in
+          let h = t in
+          simp ((let the_heard_is : not (heard (slot_from c.args.slot.now)) ≡ not c.is_heard.result = ap not (sym c.is_heard.ensures) in the_heard_is) ∙ (ap not h.if-not-is_heard.false), (let the_timed_is : let a = c.args in not (timely (slot_from a.slot.now) a.clock a.s.limit) ≡ not c.is_timely.result = ap not (sym c.is_timely.ensures) in the_timed_is) ∙ (ap not t.if-not-is_timely.false), (let the_carried_is : let a = c.args in not (carries (telegram_type (slot_from a.slot.now).telegram) a.s.kind) ≡ not c.is_carried.result = simp (c.is_carried.ensures, c.telegram_type.ensures.0, c.telegram-t.ensures) in the_carried_is) ∙ (ap not c.if-not-is_carried.false)) in the_passed),
+      le-ltb _ _ (rw ((let the_version_is : let t = c in c.data_version.result ≡ version_of (slot_from c.args.slot.now).telegram = c.data_version.ensures.0 ∙ ap version_of c.telegram-t.ensures in the_version_is)) at c.if-data_version-s.false),
+    )

@@ -44,9 +44,9 @@ loop-r-preserved c =
       rw e.route_first-f.ensures.end_of.is
           (next_between l ((let the_kept : Kept ((let the_under : SignalList = list_of c.args.list.now (counts_of c.args.n) in the_under)) = kept_of c.args.list.now (counts_of c.args.n) c.requires.served.0.laid in the_kept)) s.args.store.now s.args.clock s.args.before.now s.args.after.now p.loop-r.r p.loop-r.pos p.loop-r.invariant.2 t.loop-r-test.true),
       reached_past p.loop-r.invariant.3 e.route_first-f.ensures.reaches ((let the_ends : c.route_first-f.result.end ≤ 8 * length c.args.after.now = let t = c in
-    let p = t in
-    let s = c in
-    omega (arith, c.route_first-f.ensures.end_of.is, s.requires.served.0.room p.loop-r.r t.loop-r-test.true, s.requires.served.1) in the_ends)) c.if-f.false,
+          let p = t in
+          let s = c in
+          omega (arith, c.route_first-f.ensures.end_of.is, s.requires.served.0.room p.loop-r.r t.loop-r-test.true, s.requires.served.1) in the_ends)) c.if-f.false,
     )
 
 pub bits_from-requires : goal.bits_from-requires

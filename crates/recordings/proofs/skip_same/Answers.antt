@@ -45,15 +45,21 @@ returns-then-not-same_eight c =
 
 pub overflow_add-q : goal.overflow_add-q
 overflow_add-q c =
-    omega (arith, (let the_room : c.loop-q.q + 8 ≤ length c.args.x.now = let a = c.args in
-    let q = c.loop-q.q in
-    omega (arith, leb-true 8 (length a.x.now - q) (both (leb 8 (length a.x.now - q)) (leb 8 (length a.y.now - q)) c.loop-q-test.true).0) in the_room))
+    omega (
+      arith,
+      (let the_room : c.loop-q.q + 8 ≤ length c.args.x.now = let a = c.args in
+          let q = c.loop-q.q in
+          omega (arith, leb-true 8 (length a.x.now - q) (both (leb 8 (length a.x.now - q)) (leb 8 (length a.y.now - q)) c.loop-q-test.true).0) in the_room),
+    )
 
 pub loop-q-smaller : goal.loop-q-smaller
 loop-q-smaller c =
-    omega (arith, (let the_room : c.loop-q.q + 8 ≤ length c.args.x.now = let a = c.args in
-    let q = c.loop-q.q in
-    omega (arith, leb-true 8 (length a.x.now - q) (both (leb 8 (length a.x.now - q)) (leb 8 (length a.y.now - q)) c.loop-q-test.true).0) in the_room))
+    omega (
+      arith,
+      (let the_room : c.loop-q.q + 8 ≤ length c.args.x.now = let a = c.args in
+          let q = c.loop-q.q in
+          omega (arith, leb-true 8 (length a.x.now - q) (both (leb 8 (length a.x.now - q)) (leb 8 (length a.y.now - q)) c.loop-q-test.true).0) in the_room),
+    )
 
 pub returns : goal.returns
 returns c =

@@ -17,9 +17,12 @@ use Rattle.shown.proofs.show_under.Goals.{In-Read-2}
 
 pub width_in-requires : goal.width_in-requires
 unfolding reading_under
-width_in-requires c = (c.requires, ((let the_fitted : let a = c.args in (a.signal < a.n.signals) × (c.in-Read.r.value < 2 ^ ((list_of a.list.now (counts_of a.n)).signal a.signal).width) = let s = c in
-    let a = s.args in
-    fits_width a.list.now (counts_of a.n) s.requires a.store.now a.clock a.vehicle a.signal (as_reading c.in-Read.r) (sym ((let the_given : let a = c.args in gives (as_reading c.in-Read.r) ≡ reading_by a.store.now a.clock a.vehicle a.signal (list_of a.list.now (counts_of a.n)) = sym (ap read_answer c.in-Read.is) ∙ c.read_under-read.ensures in the_given))) in the_fitted)).0)
+width_in-requires c = (
+  c.requires,
+  ((let the_fitted : let a = c.args in (a.signal < a.n.signals) × (c.in-Read.r.value < 2 ^ ((list_of a.list.now (counts_of a.n)).signal a.signal).width) = let s = c in
+      let a = s.args in
+      fits_width a.list.now (counts_of a.n) s.requires a.store.now a.clock a.vehicle a.signal (as_reading c.in-Read.r) (sym ((let the_given : let a = c.args in gives (as_reading c.in-Read.r) ≡ reading_by a.store.now a.clock a.vehicle a.signal (list_of a.list.now (counts_of a.n)) = sym (ap read_answer c.in-Read.is) ∙ c.read_under-read.ensures in the_given))) in the_fitted)).0,
+)
 
 pub shown_as-requires : goal.shown_as-requires
 unfolding reading_under

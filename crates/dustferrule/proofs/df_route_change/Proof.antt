@@ -1,9 +1,0 @@
-use borrow.Author.Rules.{rules}
-use Rattle.dustferrule.proofs.df_route_change.Statement.{statement}
-use Rattle.dustferrule.proofs.df_route_change.Tie as tie
-
-returns : tie.Need-returns
-returns c = cc
-
-pub df-route-change-spec : {M : Type 1} → statement M
-df-route-change-spec = tie.close (tie.spec (λ c κs. search rules) (λ c κs. search rules) returns)
