@@ -14,7 +14,7 @@ from files import HERE
 TABLE = os.path.join(HERE, "..", "crates", "paper", "specs", "Serials.antt")
 # behind the number, behind the variant; in the order of their numbers
 LETTERS = [("", ""), ("R", ""), ("M", ""), ("R", "d"), ("R", "e"), ("E", ""), ("A", "")]
-NAMES = ["no-letter", "letter-R", "letter-M", "letters-R-d", "letters-R-e", "letter-E", "letter-A"]
+NAMES = ["no_letter", "letter_R", "letter_M", "letters_R_d", "letters_R_e", "letter_E", "letter_A"]
 
 
 def parts(text):

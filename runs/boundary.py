@@ -91,9 +91,9 @@ def of_raw():
 
 def of_proved():
     text = read(PROVED)
-    structs = {name: re.findall(r"pub (\w+): (\w+)", body) for name, body in re.findall(r"#\[repr\(C\)\]\npub struct (\w+) \{(.*?)\n\}", text, re.S)}
+    structs = {name: re.findall(r"pub (\w+): (\w+)", body) for name, body in re.findall(r"#\[repr\(C\)\]\n#\[derive\([\w, ]*\)\]\npub struct (\w+) \{(.*?)\n\}", text, re.S)}
     calls = {}
-    for name, given, returned in re.findall(r'#\[no_mangle\]\npub extern "C" fn (df_\w+)\((.*?)\) -> (\w+)', text, re.S):
+    for name, given, returned in re.findall(r'#\[unsafe\(no_mangle\)\]\npub extern "C" fn (df_\w+)\((.*?)\) -> (\w+)', text, re.S):
         parameters = [one for word, of in re.findall(r"(\w+): ([^,]+)", given) for one in given_in_proved(word, of.strip())]
         calls[name] = parameters, structs.get(returned, returned)
     return calls

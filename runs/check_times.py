@@ -17,7 +17,7 @@ def crates(tree, asked):
     """The crates of crates.txt that are asked for, or all, and those that they stand on, each behind those that it lists."""
     with open(os.path.join(tree, "crates.txt"), encoding="utf-8") as f:
         lines = [line.split("#")[0] for line in f]
-    listed = {name.strip(): deps.split() for name, deps in (line.split(":", 1) for line in lines if ":" in line)}
+    listed = {name.split()[0]: deps.split() for name, deps in (line.split(":", 1) for line in lines if ":" in line)}
     ordered = []
 
     def add(name):
@@ -39,7 +39,7 @@ def checked(tree, crate):
         return used.ru_utime + used.ru_stime
 
     began = spent()
-    done = subprocess.run(["rt", "check", crate], cwd=tree, env=dict(os.environ, RT_JOBS="1"), capture_output=True, text=True)
+    done = subprocess.run(["rt", "check", "--jobs", "1"], cwd=os.path.join(tree, "crates", crate), capture_output=True, text=True)
     if done.returncode != 0:
         sys.exit(f"{crate} is not proved in {tree}:\n{done.stdout[-2000:]}{done.stderr[-2000:]}")
     return round(spent() - began, 1)

@@ -11,13 +11,14 @@ ROOT = os.path.dirname(os.path.dirname(os.path.abspath(__file__)))
 DOOR = "gateway"
 # products above the door that are proved from its promises alone, and whose laws they may use
 PRODUCTS = {"doors": {"paper", "bools"}}
+KIT = {"std"}  # the library of the language, whose laws anybody may use
 
 
 def crates():
     """Each crate of crates.txt with those that it lists."""
     with open(os.path.join(ROOT, "crates.txt"), encoding="utf-8") as f:
         lines = [line.split("#")[0] for line in f]
-    return {name.strip(): deps.split() for name, deps in (line.split(":", 1) for line in lines if ":" in line)}
+    return {name.split()[0]: deps.split() for name, deps in (line.split(":", 1) for line in lines if ":" in line)}
 
 
 def below(listed, name):
@@ -41,6 +42,19 @@ def code(text):
     return [(n, line) for n, line in enumerate(text.splitlines(), 1) if not re.match(r"\s*(//|ghost |requires |ensures )", line)]
 
 
+def items(text):
+    """Each `pub use` of the lines of code, which may go over several, and each other line, with its first line's number."""
+    item, at = "", 0
+    for n, line in code(text):
+        at, item = (at, item) if item else (n, "")
+        item = (item + " " + line.strip()).strip()
+        if item and (item.endswith(";") or not item.startswith("pub use")):
+            yield at, item
+            item = ""
+    if item:
+        yield at, item
+
+
 def logic(crate):
     """What a crate says and proves: its definitions and proofs, and the ghost lines of its code."""
     for part in ("specs", "proofs"):
@@ -54,8 +68,8 @@ def past_promises(product, allowed):
     """Each law of another crate that a product uses."""
     for path, text in logic(product):
         for n, line in enumerate(text.splitlines(), 1):
-            for crate in re.findall(r"\buse Rattle·(\w+)\.proofs\b", line):
-                if crate not in allowed:
+            for crate in re.findall(r"\buse Rattle\.(\w+)\.proofs\b", line):
+                if crate not in allowed | KIT | {product}:
                     yield f"{path}:{n}: {product} uses a law of {crate}"
 
 
@@ -70,9 +84,14 @@ def main():
         for path, text in sources(crate):
             for n, line in code(text):
                 bad += [f"{path}:{n}: past the door: {c}::" for c in re.findall(r"\b([a-z_]\w*)::", line) if c in library]
-    offered = [m for _, text in sources(DOOR) for m in re.findall(r"^pub use (\w+)::(\w+);$", text, re.M)]
+    offered = []
     for path, text in sources(DOOR):
-        bad += [f"{path}:{n}: not a `pub use`" for n, line in code(text) if line and not re.match(r"pub use \w+::\w+;$", line)]
+        for n, item in items(text):
+            named = re.fullmatch(r"pub use (\w+)::(?:(\w+)|\{([\w, ]+)\});", item)
+            if named:
+                offered += [(named[1], word) for word in re.findall(r"\w+", named[2] or named[3])]
+            elif item != "#![tactic(auto)]":
+                bad.append(f"{path}:{n}: not a `pub use`")
     for crate, item in offered:
         for path, text in sources(crate):
             for head in re.findall(rf"^pub fn {item}\(.*?^\{{", text, re.M | re.S):

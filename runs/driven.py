@@ -5,6 +5,7 @@ the tools that this needs. Builds, breaks and follows the README in copies of th
     runs/driven.py [PART..]     all parts, or these: status, list, input, install, build, once, readme
 """
 import contextlib
+import glob
 import os
 import re
 import shutil
@@ -17,8 +18,10 @@ import printed
 
 ROOT = printed.ROOT
 PROGRAMS = ("judge", "extends", "compare", "convert", "take", "sweep", "believe", "differ", "marshal", "compose", "relay", "remedies", "write_remedies", "christening", "desk", "recording")
+LONGEST = 900  # seconds that a program may take to be proved beside all else that the gate does
 TOOLS = ("sh", "awk", "readlink", "uname")  # what an installed program needs beside itself
 BUILT = ("bin", "stamp")  # of target/: what a run goes by that finds all proved
+PROVED = os.path.join(ROOT, "target", "ci")  # and what it goes by where the libraries are proved
 OTHER = os.uname().machine != "x86_64"
 COACH, NEXT, WRONG, STORE = "data/coach.list", "data/coach-next.list", "data/coach-wrong.list", "data/scene/train.store"
 COACH_2, PLAIN, OFF = "data/coach-2.list", "data/plain-coach.list", "data/coach-off.list"
@@ -42,7 +45,7 @@ def check(what, is_so, shown=""):
 
 
 def run(words, folder=ROOT, **more):
-    return subprocess.run(words, cwd=folder, stdin=more.pop("stdin", subprocess.DEVNULL), capture_output=True, text=True, timeout=300, **more)
+    return subprocess.run(words, cwd=folder, stdin=more.pop("stdin", subprocess.DEVNULL), capture_output=True, text=True, timeout=LONGEST, **more)
 
 
 def ends(what, done, status, out=None, err=None):
@@ -56,21 +59,29 @@ def copy(libraries=False):
     """A copy of the tree as it stands, with what is built; with the proved libraries, which are only read, to build a program."""
     with tempfile.TemporaryDirectory() as folder:
         tree = os.path.join(folder, "tree")
-        shutil.copytree(ROOT, tree, symlinks=True, ignore=shutil.ignore_patterns("target", ".git", "tmp", "__pycache__"))
+        shutil.copytree(ROOT, tree, symlinks=True, ignore=shutil.ignore_patterns("target", ".git", "tmp", "__pycache__", "out"))
         os.mkdir(os.path.join(tree, "target"))
         for part in BUILT:
             shutil.copytree(os.path.join(ROOT, "target", part), os.path.join(tree, "target", part))
         if libraries:
-            os.symlink(os.path.join(ROOT, "target", "rlib"), os.path.join(tree, "target", "rlib"))
+            for rlib in glob.glob(os.path.join(ROOT, "crates", "*", "out", "rlib")):
+                shutil.copytree(rlib, os.path.join(tree, os.path.relpath(rlib, ROOT)), copy_function=linked)
+            if os.path.exists(PROVED):
+                shutil.copy2(PROVED, os.path.join(tree, "target"))
         yield tree
 
 
+def linked(one, other):
+    """A file of a library, which rt and rattle only read."""
+    try:
+        os.link(one, other)
+    except OSError:
+        shutil.copy2(one, other)
+
+
 def emulator():
-    """Where the machine is not x86-64: the kit's emulator, as an installed program is told of it."""
-    if not OTHER:
-        return {}
-    kit = os.path.join(run(["rt", "doc"]).stdout.split("/docs/")[0], "on", os.uname().machine, "toolchain")
-    return {"DUSTFERRULE_EMULATOR": f"{kit}/bin/qemu-x86_64 {kit}/lib/ld-linux-x86-64.so.2 --library-path {kit}/lib"}
+    """Where the machine is not x86-64: the emulator that the programs of the tree are run by, as an installed program is told of it."""
+    return {"DUSTFERRULE_EMULATOR": os.environ["DUSTFERRULE_EMULATOR"]} if OTHER else {}
 
 
 def statuses(how, start, env=None):
@@ -300,32 +311,51 @@ def build():
         ends("the other programs are as they were", run([me, "extends", COACH, NEXT], tree), 0, "extends: yes\n")
 
 
-# rt, which notes each check and whether another was under way
+# rt and rattle, which note each build and whether another was under way
 NOTING = """#!/bin/sh
-[ "$1" = check ] || exec {rt} "$@"
-mkdir {notes}/busy || : >{notes}/two-at-once
-: >{notes}/check.$$
-{rt} "$@"
-status=$?
-rmdir {notes}/busy
-exit $status
+note() {{
+    mkdir {notes}/busy || : >{notes}/two-at-once
+    : >{notes}/check.$$
+    "$@"
+    status=$?
+    rmdir {notes}/busy
+    exit $status
+}}
+case $0:$1 in
+*/rt:run) note {rt} "$@" ;;
+*/rt:doc) echo {notes}/kit/START-HERE.md ;;
+*/rt:*) exec {rt} "$@" ;;
+*/rattle:build) note {kit}/bin/rattle "$@" ;;
+*) exec {kit}/bin/rattle "$@" ;;
+esac
 """
+
+
+def notes_builds(notes):
+    """A PATH with such an rt, beside a kit with such a rattle."""
+    kit, own = os.path.dirname(run(["rt", "doc"]).stdout.strip()), os.path.join(notes, "kit")
+    os.makedirs(os.path.join(own, "bin"))
+    os.mkdir(os.path.join(notes, "bin"))
+    for name in set(os.listdir(kit)) - {"bin"}:
+        os.symlink(os.path.join(kit, name), os.path.join(own, name))
+    for name in set(os.listdir(os.path.join(kit, "bin"))) - {"rattle"}:
+        os.symlink(os.path.join(kit, "bin", name), os.path.join(own, "bin", name))
+    for path in (os.path.join(notes, "bin", "rt"), os.path.join(own, "bin", "rattle")):
+        with open(path, "w") as f:
+            f.write(NOTING.format(rt=shutil.which("rt"), kit=kit, notes=notes))
+        os.chmod(path, 0o755)
+    return os.path.join(notes, "bin") + ":" + os.environ["PATH"]
 
 
 def once():
     for time_of_it in ("first", "second"):
-        with copy() as tree, tempfile.TemporaryDirectory() as notes:
-            os.mkdir(os.path.join(notes, "bin"))
-            rt = os.path.join(notes, "bin", "rt")
-            with open(rt, "w") as f:
-                f.write(NOTING.format(rt=shutil.which("rt"), notes=notes))
-            os.chmod(rt, 0o755)
+        with copy(libraries=True) as tree, tempfile.TemporaryDirectory() as notes:
+            env = {**os.environ, "PATH": notes_builds(notes)}
             time.sleep(0.01)  # newer than all that is built
-            os.utime(os.path.join(tree, "crates"))
-            env = {**os.environ, "PATH": os.path.dirname(rt) + ":" + os.environ["PATH"]}
+            os.utime(os.path.join(tree, "crates", "judge", "src", "main.rt"))
             words = [os.path.join(tree, "run"), "judge", os.path.join(tree, COACH)]
             six = [subprocess.Popen(words, env=env, stdin=subprocess.DEVNULL, stdout=subprocess.PIPE, stderr=subprocess.PIPE, text=True) for _ in range(6)]
-            got = [(*p.communicate(timeout=300), p.returncode) for p in six]
+            got = [(*p.communicate(timeout=LONGEST), p.returncode) for p in six]
             check(f"six at once, the {time_of_it} time", all(out == OK and code == 0 for out, _, code in got), got)
             checks = [name for name in os.listdir(notes) if name.startswith("check.")]
             check("one builds, the others wait", len(checks) == 1 and not os.path.exists(os.path.join(notes, "two-at-once")), sorted(os.listdir(notes)))

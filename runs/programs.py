@@ -1158,12 +1158,7 @@ def run(folder, words, before=None):
 
 def bare(program):
     """The program without ./run, which gathers what it prints."""
-    path, machine = os.path.join(ROOT, "target", "bin", program), os.uname().machine
-    if machine == "x86_64":
-        return [path]
-    guide = subprocess.run(["rt", "doc"], stdout=subprocess.PIPE, check=True).stdout.decode().strip()
-    kit = os.path.join(os.path.dirname(os.path.dirname(guide)), "on", machine, "toolchain")
-    return [f"{kit}/bin/qemu-x86_64", f"{kit}/lib/ld-linux-x86-64.so.2", "--library-path", f"{kit}/lib", path]
+    return [*os.environ.get("DUSTFERRULE_EMULATOR", "").split(), os.path.join(ROOT, "target", "bin", program)]
 
 
 def pages(folder, words):

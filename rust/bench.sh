@@ -7,8 +7,9 @@
 #   check    each ratio above 1.05 on that page whose call has no reason there; fails if there is one
 #   worst    the slowest input of the greatest size that a search finds for each call, in so many seconds each (20), from this seed (1); it leaves
 #            their lists and stores in target/bench/worst. With page: into docs/BENCHMARK.md
-#   lookup   known codes by halving beside the linear scan that stood before, and today's reads, all in one process; the libraries of both
-#            commits are proved and built from this clone's history, some ten minutes each, once
+#   lookup   known codes by halving beside the linear scan that stood before, and today's reads, all in one process. The libraries of both
+#            commits of this clone's history are written for the kit rattle-kit-5b and proved by it alone: BENCH_LIB_HISTORY names a folder that
+#            holds libNAME.a and libNAME_known.a of each, NAME being linear and halving, as this script of commit 9aad29a made them with that kit
 # On x86-64 the product's own archive is linked. On another machine emulated times would mean nothing: there the module that the archive
 # is made of is compiled for the machine, by the kit's compiler with the kit's flags.
 set -euo pipefail
@@ -35,32 +36,22 @@ built() {
     (cd rust && "$cargo" build "$@" --locked -q --profile measured -p bench)
 }
 
-# The commit that brought the lookup by halving. It and the one before it differ in that alone.
-HALVING=5c0cb04471b87f973d5f55e27b08a37a2cd00002
-
-# of_history NAME COMMIT: the library of a commit, its calls as NAME_df_.., and its lookup, which it does not export, as NAME_known
+# of_history NAME: the library of a commit of before, its calls as NAME_df_.., and its lookup, which it does not export, as NAME_known. By halving is
+# 5c0cb04471b87f973d5f55e27b08a37a2cd00002, linear the commit before it: they differ in that alone.
 of_history() {
-    local name=$1 here=$PWD commit tree
-    commit=$(git rev-parse -q --verify "$2^{commit}") || { echo "bench.sh: $2 is not in this clone's history" >&2; exit 1; }
-    tree=$room/history/$commit
-    if [ ! -e "$tree" ]; then
-        rm -rf "$tree.new" && mkdir -p "$tree.new"
-        git archive "$commit" | tar -x -C "$tree.new"
-        mv "$tree.new" "$tree"
-    fi
-    (
-        cd "$tree"
-        . "$here/rust/module.sh"
-        library >&2
-        sed "s/@df_/@${name}_df_/g" "$kept/module.ll" | archive "$machine" "$name" "$room/$machine"
-        { sed 's/^define \(.*@df_\)/define internal \1/' "$kept/module.ll" && sed "s/NAME/$name/" "$here/rust/bench/known.ll"; } |
-            archive "$machine" "${name}_known" "$room/$machine"
-    )
+    local file
+    for file in "lib$1.a" "lib${1}_known.a"; do
+        [ -e "${BENCH_LIB_HISTORY:-}/$file" ] || {
+            echo "bench.sh: no $file in the folder BENCH_LIB_HISTORY: those commits are proved by the kit rattle-kit-5b, not by $(rt version)" >&2
+            exit 1
+        }
+        mkdir -p "$room/$machine" && cp "$BENCH_LIB_HISTORY/$file" "$room/$machine/"
+    done
 }
 
 looked_up() {
-    of_history linear "$HALVING^"
-    of_history halving "$HALVING"
+    of_history linear
+    of_history halving
     libraries "$machine"
     BENCH_LIB=$room/$machine built cargo_here --features lookup
     rust/target/measured/bench lookup >"$room/lookup.md"

@@ -3,9 +3,10 @@
 # archive and of its module compiled for Arm.
 #   check                     docs/FIRMWARE.md has the tables that are measured
 #   page, print               writes them there, or prints them
-#   compare [CASES [SEED]]    on Arm: every call of the header from C, and the comparison with the independent implementation, of the Arm build
+#   compare [CASES [SEED]]    of the Arm build, every call of the header from C: on Arm, or emulated where Debian's gcc-aarch64-linux-gnu and
+#                             qemu-user are installed; on Arm also the comparison with the independent implementation
 #   library MACHINE FOLDER    libdustferrule.a for a processor (x86_64, aarch64 ..) into a folder
-# The compiler is the kit's, which compiles for either processor on either, so that the tables are the same wherever they are measured.
+# The compiler is the kit's, which compiles for either processor.
 set -euo pipefail
 cd "$(dirname "$0")/.."
 room=$PWD/target/firmware
@@ -31,6 +32,13 @@ measured() {
 compared() {
     local log=$room/compare.log
     if [ "$(uname -m)" != aarch64 ]; then
+        if command -v aarch64-linux-gnu-gcc qemu-aarch64 >"$room/found" && [ "$(wc -l <"$room/found")" = 2 ]; then
+            library_for aarch64 "$room/aarch64"
+            aarch64-linux-gnu-gcc -static -std=c99 -O2 -Iinclude examples/c/every.c -L"$room/aarch64" -ldustferrule -o "$room/every"
+            echo "C, Arm build, emulated: $(qemu-aarch64 "$room/every")"
+        else
+            echo "C, Arm build: not run, this machine is $(uname -m) and has no emulator and compiler for it"
+        fi
         echo "compare, Arm build: not run, this machine is $(uname -m)"
         return
     fi
@@ -51,6 +59,7 @@ check | page | print)
     ;;
 compare)
     . .ci/native.sh
+    mkdir -p "$room"
     shift
     compared "${@:-200000}"
     ;;

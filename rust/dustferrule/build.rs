@@ -1,5 +1,5 @@
 //! Finds the proved library: in the folder that `DUSTFERRULE_LIB` names, an archive for the processor that the build is for; else where
-//! `rt staticlib` writes it, an archive for x86-64.
+//! `./run library` writes it, an archive for x86-64.
 
 use std::env;
 use std::path::{Path, PathBuf};
@@ -26,7 +26,7 @@ fn main() {
     let archive = folder.join(ARCHIVE);
     if !archive.is_file() {
         println!(
-            "cargo::error=there is no {}: run `rt staticlib dustferrule` in the root of the repository, or name the folder that holds {ARCHIVE} in DUSTFERRULE_LIB",
+            "cargo::error=there is no {}: run `./run library` in the root of the repository, or name the folder that holds {ARCHIVE} in DUSTFERRULE_LIB",
             archive.display()
         );
         return;
