@@ -14,28 +14,20 @@ define internal i1 @lies_within(i64 %len, i64 %start, i64 %width) {
 }
 
 define i64 @proved_read_field(ptr %octets, i64 %len, i64 %start, i64 %width) {
-  %slice = alloca [16 x i8], align 8
-  store ptr %octets, ptr %slice, align 8
-  %second = getelementptr i8, ptr %slice, i64 8
-  store i64 %len, ptr %second, align 8
   %good = call i1 @lies_within(i64 %len, i64 %start, i64 %width)
   br i1 %good, label %within, label %without
 within:
-  %value = call i64 @"octets::read_field"(ptr %slice, i64 %start, i64 %width)
+  %value = call i64 @"octets::read_field"(ptr %octets, i64 %len, i64 %start, i64 %width)
   ret i64 %value
 without:
   ret i64 0
 }
 
 define void @proved_write_field(ptr %octets, i64 %len, i64 %start, i64 %width, i64 %value) {
-  %slice = alloca [16 x i8], align 8
-  store ptr %octets, ptr %slice, align 8
-  %second = getelementptr i8, ptr %slice, i64 8
-  store i64 %len, ptr %second, align 8
   %good = call i1 @lies_within(i64 %len, i64 %start, i64 %width)
   br i1 %good, label %within, label %without
 within:
-  call void @"octets::write_field"(ptr %slice, i64 %start, i64 %width, i64 %value)
+  call void @"octets::write_field"(ptr %octets, i64 %len, i64 %start, i64 %width, i64 %value)
   ret void
 without:
   ret void
