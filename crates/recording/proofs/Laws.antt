@@ -1,5 +1,5 @@
 -- A field, bit by bit. Assumes nothing.
-use Rattle.std.proofs.Common.{◌≡◌, ℕ, zero, suc, ◌+◌, ◌-◌, ◌*◌, ◌/◌, ◌%◌, ◌^◌, ◌<◌, ◌≤◌, List, [], ◌∷◌, length, get_or, sym, refl, ap, ◌∙◌, add-one, arith, pow_mono}
+use Rattle.std.proofs.Common.{◌≡◌, ℕ, zero, suc, ◌+◌, ◌-◌, ◌*◌, ◌/◌, ◌%◌, ◌^◌, ◌<◌, ◌≤◌, List, [], ◌∷◌, length, get_or, refl, ap, ◌∙◌, add-one, arith, pow_mono}
 use native.Mathlib.Nat.{zero-div}
 use Rattle.paper.specs.Octets.{bit, field}
 use Rattle.paper.proofs.FieldLaws.{bit_lt, field_lt}
