@@ -1,6 +1,7 @@
 // The library as C and Rust link it: every public call, with numbers and slices at the boundary and results as plain structs.
 // A result's refusal is 0 where the call was not refused, and every field that an answer does not use is 0.
 #![tactic(auto)]
+
 ghost use Rattle.std.specs.Prelude.{◌≡◌, map, length};
 ghost use Rattle.paper.specs.Answer.{gives};
 ghost use Rattle.paper.specs.Telegrams.{check_place};
