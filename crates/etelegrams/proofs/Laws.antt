@@ -18,10 +18,11 @@ use Rattle.paper.specs.ETelegrams.{requests, report_to, is_request, is_report, e
 use Rattle.paper.proofs.AnswerLaws.{not_refused, and_then_lem, gives_one, one_answer}
 use Rattle.paper.proofs.NumberLaws.{number_two, number_back, number-octets_of_front, length-octets_of, part_over, length_over, over-over}
 use Rattle.paper.proofs.RemedyLaws.{limit_least}
-use Rattle.refusals.proofs.Laws.{numbered, numbered_of}
-use Rattle.etelegrams.specs.declared.ERead.{ERead}
-use Rattle.etelegrams.specs.declared.ERead.TheVariants as E
-use Rattle.etelegrams.specs.Answers.{e_read_answer}
+use Rattle.std.specs.Prelude.{Result}
+use Rattle.refusals.proofs.WrittenLaws.{one_result}
+use Rattle.refusals.specs.declared.Refusal.{Refusal}
+use Rattle.etelegrams.specs.declared.EReading as code
+use Rattle.etelegrams.specs.Answers.{e_reading_of, e_read_answer}
 use Rattle.paper.proofs.FirstLaws.{all_at, some_true, some_false, some_none, some_at}
 
 -- ---- the codes
@@ -241,14 +242,5 @@ read_back t head s out new e =
 
 -- ---- the contract settles the answer
 
-told : Answer EReading → ERead
-told (gives x) = E.Read (record { code = x.code; report = x.report; status = x.status })
-told (refused n at) = E.Refused (numbered n at)
-
-told_of_lem : (r : ERead) → told (e_read_answer r) ≡ r
-unfolding told
-told_of_lem (E.Read r) = refl
-told_of_lem (E.Refused f) = ap E.Refused (numbered_of f)
-
-pub one_e_read : (a : Answer EReading) (v w : ERead) → e_read_answer v ≡ a → e_read_answer w ≡ a → v ≡ w
-one_e_read = one_answer e_read_answer told told_of_lem
+pub one_e_read : (a : Answer EReading) (v w : Result code.EReading Refusal) → e_read_answer v ≡ a → e_read_answer w ≡ a → v ≡ w
+one_e_read = one_result e_reading_of (λ x. record { code = x.code; report = x.report; status = x.status }) (λ x. refl)

@@ -1,19 +1,17 @@
 -- Which case of the code's enums stands for which of the paper's answers.
-use Rattle.std.specs.Prelude.{not, List, ℕ, eqb, ltb, length}
+use Rattle.std.specs.Prelude.{Result, not, List, ℕ, eqb, ltb, length}
 use Rattle.paper.specs.Answer.{Answer, gives, refuse_if}
 use Rattle.paper.specs.Octets.{over}
 use Rattle.paper.specs.ETelegrams as paper
-use Rattle.refusals.specs.Refusal.{refusal_of}
+use Rattle.refusals.specs.declared.Refusal.{Refusal}
+use Rattle.refusals.specs.Outcome.{answer_of}
 use Rattle.etelegrams.specs.declared.EReading.{EReading}
-use Rattle.etelegrams.specs.declared.ERead.{ERead}
-use Rattle.etelegrams.specs.declared.ERead.TheVariants as E
 
 abbrev pub e_reading_of : EReading → paper.EReading
 e_reading_of r = record { code = r.code; report = r.report; status = r.status }
 
-abbrev pub e_read_answer : ERead → Answer paper.EReading
-e_read_answer (E.Read r) = gives (e_reading_of r)
-e_read_answer (E.Refused f) = refusal_of f
+abbrev pub e_read_answer : Result EReading Refusal → Answer paper.EReading
+e_read_answer = answer_of e_reading_of
 
 -- the paper's `answering` from what was read on
 unfoldable pub answer_on : paper.EReading → List ℕ → ℕ → List ℕ → Answer (List ℕ)

@@ -6,20 +6,14 @@ ghost use Rattle.paper.specs.ETelegrams.{is_request, is_report, e_limit, e_readi
 ghost use Rattle.etelegrams.specs.Answers.{e_reading_of, e_read_answer, answer_on};
 ghost use Rattle.refusals.specs.Outcome.{Written};
 
-use refusals::{Outcome, Refusal};
+use refusals::Refusal;
 
 // What a telegram says: its code, whether that is a report's, and octet 9.
-#[derive(Clone, Copy)]
+#[derive(Clone, Copy, Debug, PartialEq, Eq)]
 pub struct EReading {
     pub code: u16,
     pub report: bool,
     pub status: u8,
-}
-
-#[derive(Clone, Copy)]
-pub enum ERead {
-    Read(EReading),
-    Refused(Refusal),
 }
 
 // The longest telegram of a code.
@@ -71,28 +65,28 @@ fn is_report(code: u16) -> bool
 }
 
 // Reads the code, request or report, and octet 9. Refused: 21 for the length, 22 for a code that is neither.
-pub fn e_read(telegram: &[u8]) -> ERead
+pub fn e_read(telegram: &[u8]) -> Result<EReading, Refusal>
     ensures { e_read_answer result ≡ e_reading telegram.now }
 {
     if telegram.len() < 9 {
-        return ERead::Refused(Refusal::E_LENGTH);
+        return Err(Refusal::ELength);
     }
     let code = octets::read16(telegram, 6) as u16;
     if e_limit(code) < telegram.len() {
-        return ERead::Refused(Refusal::E_LENGTH);
+        return Err(Refusal::ELength);
     }
     let status = telegram[8];
     if is_request(code) {
-        return ERead::Read(EReading {
+        return Ok(EReading {
             code,
             report: false,
             status,
         });
     }
     if !is_report(code) {
-        return ERead::Refused(Refusal::E_CODE);
+        return Err(Refusal::ECode);
     }
-    ERead::Read(EReading {
+    Ok(EReading {
         code,
         report: true,
         status,
@@ -100,31 +94,28 @@ pub fn e_read(telegram: &[u8]) -> ERead
 }
 
 // The answer to what was read: head, report code and status, 9 octets.
-fn answer(read: EReading, head: &[u8], status: u8, out: &mut [u8]) -> Outcome
+fn answer(read: EReading, head: &[u8], status: u8, out: &mut [u8]) -> Result<(), Refusal>
     ensures { Written (answer_on (e_reading_of read) head.now status out.old) out.old result out.new }
 {
     if read.report {
-        return Outcome::Refused(Refusal::ANSWER_TO_REPORT);
+        return Err(Refusal::AnswerToReport);
     }
     if head.len() != 6 {
-        return Outcome::Refused(Refusal::HEAD_LENGTH);
+        return Err(Refusal::HeadLength);
     }
     if out.len() < 9 {
-        return Outcome::Refused(Refusal::OUTPUT_SHORT);
+        return Err(Refusal::OutputShort);
     }
     octets::copy_over(out, 0, head);
     octets::write16(out, 6, read.code as u32 + 0x0A00);
     out[8] = status;
-    Outcome::Done
+    Ok(())
 }
 
 // Answers a request: a head, the report's code and a status into the first 9 octets of `out`; the rest stays. Refused: 21 to 25.
-pub fn e_answer(telegram: &[u8], head: &[u8], status: u8, out: &mut [u8]) -> Outcome
+pub fn e_answer(telegram: &[u8], head: &[u8], status: u8, out: &mut [u8]) -> Result<(), Refusal>
     ensures { Written (answering telegram.now head.now status out.old) out.old result out.new }
 {
-    let read = e_read(telegram);
-    match read {
-        ERead::Read(r) => answer(r, head, status, out),
-        ERead::Refused(f) => Outcome::Refused(f),
-    }
+    let read = e_read(telegram)?;
+    answer(read, head, status, out)
 }

@@ -1,18 +1,13 @@
 -- `etelegrams::e_answer` meets its contract. Assumes nothing.
 use Rattle.paper.specs.ETelegrams.{answering}
-use Rattle.refusals.specs.Refusal.{number_of, carried_of}
-use Rattle.paper.proofs.AnswerLaws.{stays}
 use Rattle.etelegrams.specs.Answers.{answer_on}
-use Rattle.refusals.proofs.WrittenLaws.{written_on, written_refused}
+use Rattle.refusals.proofs.WrittenLaws.{written_on, written_stays}
 use Rattle.etelegrams.proofs.e_answer.Goals as goal
 
-pub returns-in-Read : goal.returns-in-Read
-unfolding answering answer_on
-returns-in-Read c =
-    written_on _ _ _ _ _ _ c.in-Read.ensures c.answer.ensures
-
-pub returns-in-Refused : goal.returns-in-Refused
+pub returns-in_err-read : goal.returns-in_err-read
 unfolding answering
-returns-in-Refused c =
-    let f = c.in-Refused.f in
-    written_refused f _ _ (stays (number_of f) (carried_of f) _ _ c.in-Refused.ensures)
+returns-in_err-read c = written_stays _ _ _ _ _ c.from_residual.ensures c.in_err-read.ensures
+
+pub returns : goal.returns
+unfolding answering answer_on
+returns c = written_on _ _ _ _ _ _ c.in_ok-read.ensures c.answer.ensures
