@@ -13,22 +13,21 @@ use borrow.Author.Count.{below_none, below_more}
 use borrow.Author.Tests.{lt-ltb, le-ltb, le-leb, lt-leb, ltb-true, ltb-false, leb-true}
 use Rattle.paper.specs.Answer.{Answer, gives, refused, refuse_if, and_then, shift}
 use Rattle.paper.specs.First.{first_bad, all}
-use Rattle.paper.specs.SignalList.{Signal, Counts as PaperCounts, field_end, entry, rest, check_rule, apart, clear_rule}
+use Rattle.paper.specs.SignalList.{Signal, Counts as PaperCounts, field_end, entry, rest, apart, clear_rule}
+use Rattle.paper.specs.SignalList.{most_checks, most_signals, most_codes, most_routes, check_size, code_size, route_size}
+use Rattle.paper.specs.SignalList.{check_at, signal_at, code_at, route_at, check_rule, signal_rule, code_rule, route_rule}
+use Rattle.paper.specs.SignalList.{ending, from_routes, from_codes, from_signals}
 use Rattle.paper.specs.SignalList.{opening, judge_entries, judge_section, judge}
-use Rattle.paper.proofs.AnswerLaws.{one_answer}
-use Rattle.paper.proofs.FirstLaws.{first_most, first_passed, all_true, all_false, all_at}
+use Rattle.paper.proofs.FirstLaws.{first_passed, all_true, all_false, all_at}
 use Rattle.bools.proofs.Tests.{both}
 use Rattle.paper.proofs.ListLaws.{check_kept, opened_of, laid, within_rest}
 use Rattle.paper.specs.Accepted.{Laid, RefusedWithin}
+use Rattle.std.specs.Prelude.{Result}
 use Rattle.refusals.specs.declared.Refusal.{Refusal}
-use Rattle.refusals.specs.Refusal.{refusal_of}
-use Rattle.refusals.proofs.Laws.{numbered, numbered_of}
+use Rattle.refusals.proofs.WrittenLaws.{HandedOn, handed_on, one_result}
 use Rattle.lists.specs.declared.Counts.{Counts}
-use Rattle.lists.specs.declared.Judged.{Judged}
-use Rattle.lists.specs.declared.Judged.TheVariants.{Accepted, Refused}
-use Rattle.lists.specs.declared.Section.{Section}
-use Rattle.lists.specs.declared.Section.TheVariants.{Entries, Refused as Unopened}
-use Rattle.lists.specs.Judged.{counts_of, judged_answer, section_answer}
+use Rattle.lists.specs.declared.Broken.{Broken}
+use Rattle.lists.specs.Judged.{counts_of, rule_number, sized_answer, judged_answer}
 
 -- what follows a section is judged as the rest of the list, at its place in the list
 abbrev pub onward : ℕ → List ℕ → (ℕ → List ℕ → Answer PaperCounts) → ℕ → Answer PaperCounts
@@ -44,6 +43,43 @@ pub record Part : Type 0 where
   pub octets : List ℕ
   pub next : ℕ → Answer PaperCounts
 
+-- those of document 01, each from its count on
+abbrev pub routes_from : ℕ → ℕ → (ℕ → Signal) → ℕ → ℕ → List ℕ → Part
+routes_from size signals signal checks codes xs = record {
+  limit = most_routes;
+  size = route_size;
+  rule = route_rule signals signal (route_at xs);
+  octets = xs;
+  next = ending size signals signal checks codes xs;
+}
+
+abbrev pub codes_from : ℕ → ℕ → (ℕ → Signal) → ℕ → List ℕ → Part
+codes_from size signals signal checks xs = record {
+  limit = most_codes;
+  size = code_size;
+  rule = code_rule signals signal (code_at xs);
+  octets = xs;
+  next = onward code_size xs (from_routes size signals signal checks);
+}
+
+abbrev pub signals_from : ℕ → ℕ → (ℕ → ℕ) → List ℕ → Part
+signals_from size checks check xs = record {
+  limit = most_signals;
+  size = size;
+  rule = signal_rule checks check (signal_at size xs);
+  octets = xs;
+  next = onward size xs (λ n. from_codes size n (signal_at size xs) checks);
+}
+
+abbrev pub checks_from : ℕ → List ℕ → Part
+checks_from size xs = record {
+  limit = most_checks;
+  size = check_size;
+  rule = check_rule (check_at xs);
+  octets = xs;
+  next = onward check_size xs (λ n. from_signals size n (check_at xs));
+}
+
 abbrev pub judged_part : Part → Answer PaperCounts
 judged_part p = and_then (judge_section p.limit p.size p.rule p.octets) p.next
 
@@ -53,23 +89,17 @@ pub record Opens (p : Part) (n : ℕ) : Type 0 where
   pub within : n ≤ p.limit
   pub present : entry p.size n ≤ length p.octets
 
--- s is what `open` answered
-module _ (p : Part) {s : Section} (said : section_answer s ≡ opening p.limit p.size p.octets) where
-  pub opens : (n : ℕ) → s ≡ Entries n → Opens p n
-  opens n e =
-      let told : gives n ≡ opening p.limit p.size p.octets = sym (ap section_answer e) ∙ said in
-      let o = opened_of _ _ _ n (sym told) in
-      record { told = told; within = o.within; present = o.present }
+module _ (p : Part) where
+  pub opens : (n : ℕ) → gives n ≡ opening p.limit p.size p.octets → Opens p n
+  opens n told = let o = opened_of _ _ _ n (sym told) in record { told = told; within = o.within; present = o.present }
 
-  pub not_opened : (f : Refusal) → s ≡ Unopened f → refusal_of f ≡ judged_part p
+  -- what did not open is the answer of the whole
+  pub not_opened : (r : Result Counts Broken) (b : Broken) → HandedOn r b → refused (rule_number b.rule) b.at ≡ opening p.limit p.size p.octets
+      → sized_answer r ≡ judged_part p
   unfolding judge_section
-  not_opened f e = let told : refusal_of f ≡ opening p.limit p.size p.octets = sym (ap section_answer e) ∙ said in rw (← told)
+  not_opened r b h told = rw (handed_on r b h, ← told)
 
 module _ {p : Part} {n : ℕ} (o : Opens p n) where
-  -- the first that a loop over its entries found
-  pub found_small : {k : ℕ} → k ≡ first_bad p.rule n → k ≤ p.limit
-  found_small e = omega (arith, e, first_most p.rule n, o.within)
-
   -- `at` is what the loop over its entries answered
   module _ {at : ℕ} (is : at ≡ entry p.size (first_bad p.rule n)) where
     pub entry_broken : at < entry p.size n → refused 3 at ≡ judged_part p
@@ -158,24 +188,13 @@ module _ (checks : ℕ) (check : ℕ → ℕ) where
 
 -- ---- what an accepted list keeps
 
-module _ (form : ℕ) (xs : List ℕ) (n : Counts) (e : judged_answer (Accepted n) ≡ judge form xs) where
+module _ (form : ℕ) (xs : List ℕ) (n : Counts) (e : gives (counts_of n) ≡ judge form xs) where
   pub accepted_laid : Laid xs (counts_of n)
   accepted_laid = laid form xs (counts_of n) (sym e)
 
--- the same where an answer turned out to be an acceptance
-pub laid_of : (form : ℕ) (xs : List ℕ) (j : Judged) (n : Counts) → j ≡ Accepted n → judged_answer j ≡ judge form xs → Laid xs (counts_of n)
-laid_of form xs j n e a = accepted_laid form xs n (sym (ap judged_answer e) ∙ a)
-
 -- ---- the contract settles the answer
 
-told : Answer PaperCounts → Judged
-told (gives x) = Accepted (record { checks = x.checks; signals = x.signals; codes = x.codes; routes = x.routes; version = x.version; size = x.size })
-told (refused n at) = Refused (numbered n at)
-
-told_of_lem : (r : Judged) → told (judged_answer r) ≡ r
-unfolding told
-told_of_lem (Accepted n) = refl
-told_of_lem (Refused f) = ap Refused (numbered_of f)
-
-pub one_judged : (a : Answer PaperCounts) (v w : Judged) → judged_answer v ≡ a → judged_answer w ≡ a → v ≡ w
-one_judged = one_answer judged_answer told told_of_lem
+pub one_judged : (a : Answer PaperCounts) (v w : Result Counts Refusal) → judged_answer v ≡ a → judged_answer w ≡ a → v ≡ w
+one_judged =
+    one_result counts_of
+    (λ x. record { checks = x.checks; signals = x.signals; codes = x.codes; routes = x.routes; version = x.version; size = x.size }) (λ x. refl)

@@ -2,7 +2,7 @@
 // hands on the rest past its entries.
 #![tactic(auto)]
 
-ghost use Rattle.std.specs.Prelude.{◌≡◌, ◌-◌, ◌^◌, ◌≤◌, ◌<◌, max, true, cond, length, leb};
+ghost use Rattle.std.specs.Prelude.{◌≡◌, ◌-◌, ◌^◌, ◌≤◌, ◌<◌, max, true, cond, length, leb, IfOk};
 ghost use Rattle.paper.specs.Answer.{shift};
 ghost use Rattle.paper.specs.First.{first_bad, all};
 ghost use Rattle.paper.specs.SignalList.{entry, check_size, signal_size, code_size, route_size, check_at, signal_at, code_at, route_at};
@@ -11,10 +11,13 @@ ghost use Rattle.paper.specs.SignalList.{from_routes, from_codes, from_signals, 
 ghost use Rattle.paper.specs.SignalList.{list_of, signals_part, codes_part, routes_part, place_of};
 ghost use Rattle.paper.specs.Accepted.{RefusedWithin, Laid, Sized};
 ghost use Rattle.entries.specs.Entries.{signal_of, code_of, code_past, Parted, CheckRead, SignalRead, CodeRead, RouteRead, OctetRead};
-ghost use Rattle.lists.specs.Judged.{counts_of, section_answer, judged_answer};
+ghost use Rattle.lists.specs.Judged.{Carries, section_answer, sized_answer, judged_answer};
 
+pub use accepted::AcceptedList;
 use entries::{CHECK_SIZE, CODE_SIZE, Code, ROUTE_SIZE, Route, SERIAL_SIZE, SIGNAL_SIZE, Signal};
 use refusals::Refusal;
+
+mod accepted;
 
 // How many entries a section has at most.
 pub const MOST_CHECKS: usize = 64;
@@ -41,7 +44,7 @@ pub const LONGEST: usize = 8
     + ROUTE_SIZE * MOST_ROUTES;
 
 // What an accepted list is reported with.
-#[derive(Clone, Copy)]
+#[derive(Clone, Copy, Debug, PartialEq, Eq)]
 pub struct Counts {
     pub checks: usize,
     pub signals: usize,
@@ -52,36 +55,60 @@ pub struct Counts {
     pub size: usize,
 }
 
-// The answer for a list.
-#[derive(Clone, Copy)]
-pub enum Judged {
-    Accepted(Counts),
-    Refused(Refusal),
+// The rule that a list breaks, with the offset of the count, of the entry or of the first octet too many, in the part that was judged.
+#[derive(Clone, Copy, Debug, PartialEq, Eq)]
+pub struct Broken {
+    pub rule: Rule,
+    pub at: usize,
 }
 
-// The answer for a section's count: how many entries are present.
-#[derive(Clone, Copy)]
-pub enum Section {
-    Entries(usize),
-    Refused(Refusal),
+#[derive(Clone, Copy, Debug, PartialEq, Eq)]
+pub enum Rule {
+    Ends,
+    CountAbove,
+    Entry,
+    OctetsAfter,
+}
+
+impl From<Broken> for Refusal {
+    ghost from_gives = { λ b r. Carries b r };
+
+    fn from(b: Broken) -> Refusal {
+        match b.rule {
+            Rule::Ends => Refusal::ListEnds(b.at),
+            Rule::CountAbove => Refusal::CountAbove(b.at),
+            Rule::Entry => Refusal::EntryBroken(b.at),
+            Rule::OctetsAfter => Refusal::OctetsAfter(b.at),
+        }
+    }
 }
 
 // Inner: the count readable, within its limit, and its entries of `size` octets all present.
-pub fn open(tail: &[u8], limit: usize, size: usize) -> Section
+pub fn open(tail: &[u8], limit: usize, size: usize) -> Result<usize, Broken>
     requires { size ≤ 18 }
-    ensures { section_answer result ≡ opening limit size tail.now }
+    ensures answer { section_answer result ≡ opening limit size tail.now }
+    ensures present { IfOk result (λ n. (n ≤ limit) × (entry size n ≤ length tail.now)) }
 {
     if tail.len() < 2 {
-        return Section::Refused(Refusal(Refusal::LIST_ENDS, 0));
+        return Err(Broken {
+            rule: Rule::Ends,
+            at: 0,
+        });
     }
     let n = octets::read16(tail, 0);
     if limit < n {
-        return Section::Refused(Refusal(Refusal::COUNT_ABOVE, 0));
+        return Err(Broken {
+            rule: Rule::CountAbove,
+            at: 0,
+        });
     }
     if tail.len() < 2 + size * n {
-        return Section::Refused(Refusal(Refusal::LIST_ENDS, 0));
+        return Err(Broken {
+            rule: Rule::Ends,
+            at: 0,
+        });
     }
-    Section::Entries(n)
+    Ok(n)
 }
 
 // Inner: the rest of a list past a section of n entries.
@@ -96,14 +123,13 @@ pub fn rest(tail: &[u8], size: usize, n: usize) -> &[u8]
 // Inner: the first of n checks that breaks its rule, n where none does.
 pub fn first_bad_check(list: &[u8], n: usize) -> usize
     requires { entry check_size n ≤ length list.now }
-    ensures { result ≡ first_bad (check_rule (check_at list.now)) n }
+    ensures first { result ≡ first_bad (check_rule (check_at list.now)) n }
+    ensures within { result ≤ n }
 {
-    let mut k = 0;
-    while k < n {
+    for k in 0..n {
         if !entries::check_rule(list, k) {
             return k;
         }
-        k += 1;
     }
     n
 }
@@ -177,17 +203,16 @@ fn code_past(c: Code) -> usize
 pub fn first_bad_code(sig: &[u8], size: usize, signals: usize, tail: &[u8], n: usize) -> usize
     requires le_size { (16 ≤ size) × (entry size signals ≤ length sig.now) }
     requires n_in_bounds { entry code_size n ≤ length tail.now }
-    ensures { result ≡ first_bad (code_rule signals (signal_at size sig.now) (code_at tail.now)) n }
+    ensures first { result ≡ first_bad (code_rule signals (signal_at size sig.now) (code_at tail.now)) n }
+    ensures within { result ≤ n }
 {
     let mut least = 0;
-    let mut k = 0;
-    while k < n {
+    for k in 0..n {
         let c = entries::code_at(tail, k);
         if !entries::code_rule(sig, size, signals, least, c) {
             return k;
         }
         least = code_past(c);
-        k += 1;
     }
     n
 }
@@ -196,17 +221,16 @@ pub fn first_bad_code(sig: &[u8], size: usize, signals: usize, tail: &[u8], n: u
 pub fn first_bad_route(sig: &[u8], size: usize, signals: usize, tail: &[u8], n: usize) -> usize
     requires le_size { (16 ≤ size) × (entry size signals ≤ length sig.now) }
     requires n_in_bounds { entry route_size n ≤ length tail.now }
-    ensures { result ≡ first_bad (route_rule signals (signal_at size sig.now) (route_at tail.now)) n }
+    ensures first { result ≡ first_bad (route_rule signals (signal_at size sig.now) (route_at tail.now)) n }
+    ensures within { result ≤ n }
 {
     let mut past = 0;
-    let mut k = 0;
-    while k < n {
+    for k in 0..n {
         let r = entries::route_at(tail, k);
         if !entries::route_rule(sig, size, signals, past, r) {
             return k;
         }
         past = entries::route_end(sig, size, r);
-        k += 1;
     }
     n
 }
@@ -217,10 +241,8 @@ fn version_sized(tail: &[u8], size: usize, signals: usize) -> usize
     ensures { result ≡ greatest_since signals (signal_at size tail.now) }
 {
     let mut version = 1;
-    let mut k = 0;
-    while k < signals {
-        version = greater(version, entries::since_at(tail, size, k));
-        k += 1;
+    for k in 0..signals {
+        version = version.max(entries::since_at(tail, size, k));
     }
     version
 }
@@ -236,20 +258,17 @@ fn version_of(tail: &[u8], size: usize, signals: usize) -> usize
     version_sized(tail, size, signals)
 }
 
-fn greater(a: usize, b: usize) -> usize
-    ensures { result ≡ max a b }
-{
-    if a < b { b } else { a }
-}
-
 // The answer of the rest of a list that starts `by` octets on.
-fn moved(rest: Judged, by: usize) -> Judged
-    requires { RefusedWithin (2 ^ 64 - 1) (shift by (judged_answer rest)) }
-    ensures { judged_answer result ≡ shift by (judged_answer rest) }
+fn moved(rest: Result<Counts, Broken>, by: usize) -> Result<Counts, Broken>
+    requires { RefusedWithin (2 ^ 64 - 1) (shift by (sized_answer rest)) }
+    ensures { sized_answer result ≡ shift by (sized_answer rest) }
 {
     match rest {
-        Judged::Accepted(n) => Judged::Accepted(n),
-        Judged::Refused(f) => Judged::Refused(refusals::shifted(f, by)),
+        Ok(n) => Ok(n),
+        Err(b) => Err(Broken {
+            rule: b.rule,
+            at: by + b.at,
+        }),
     }
 }
 
@@ -262,32 +281,33 @@ fn from_routes(
     checks: usize,
     codes: usize,
     tail: &[u8],
-) -> Judged
+) -> Result<Counts, Broken>
     requires { (16 ≤ size) × (entry size signals ≤ length sig.now) × (version ≡ greatest_since signals (signal_at size sig.now)) }
-    ensures { judged_answer result ≡ from_routes size signals (signal_at size sig.now) checks codes tail.now }
+    ensures { sized_answer result ≡ from_routes size signals (signal_at size sig.now) checks codes tail.now }
 {
-    let opened = open(tail, MOST_ROUTES, ROUTE_SIZE);
-    match opened {
-        Section::Refused(f) => Judged::Refused(f),
-        Section::Entries(routes) => {
-            let at = 2 + ROUTE_SIZE * first_bad_route(sig, size, signals, tail, routes);
-            let end = 2 + ROUTE_SIZE * routes;
-            if at < end {
-                return Judged::Refused(Refusal(Refusal::ENTRY_BROKEN, at));
-            }
-            if end < tail.len() {
-                return Judged::Refused(Refusal(Refusal::OCTETS_AFTER, end));
-            }
-            Judged::Accepted(Counts {
-                checks,
-                signals,
-                codes,
-                routes,
-                version,
-                size,
-            })
-        }
+    let routes = open(tail, MOST_ROUTES, ROUTE_SIZE)?;
+    let at = 2 + ROUTE_SIZE * first_bad_route(sig, size, signals, tail, routes);
+    let end = 2 + ROUTE_SIZE * routes;
+    if at < end {
+        return Err(Broken {
+            rule: Rule::Entry,
+            at,
+        });
     }
+    if end < tail.len() {
+        return Err(Broken {
+            rule: Rule::OctetsAfter,
+            at: end,
+        });
+    }
+    Ok(Counts {
+        checks,
+        signals,
+        codes,
+        routes,
+        version,
+        size,
+    })
 }
 
 // From its codes on.
@@ -298,86 +318,80 @@ fn from_codes(
     version: usize,
     checks: usize,
     tail: &[u8],
-) -> Judged
+) -> Result<Counts, Broken>
     requires { (16 ≤ size) × (entry size signals ≤ length sig.now) × (version ≡ greatest_since signals (signal_at size sig.now)) }
-    ensures { judged_answer result ≡ from_codes size signals (signal_at size sig.now) checks tail.now }
+    ensures { sized_answer result ≡ from_codes size signals (signal_at size sig.now) checks tail.now }
 {
-    let opened = open(tail, MOST_CODES, CODE_SIZE);
-    match opened {
-        Section::Refused(f) => Judged::Refused(f),
-        Section::Entries(codes) => {
-            let at = 2 + CODE_SIZE * first_bad_code(sig, size, signals, tail, codes);
-            let end = 2 + CODE_SIZE * codes;
-            if at < end {
-                return Judged::Refused(Refusal(Refusal::ENTRY_BROKEN, at));
-            }
-            moved(
-                from_routes(
-                    sig,
-                    size,
-                    signals,
-                    version,
-                    checks,
-                    codes,
-                    rest(tail, CODE_SIZE, codes),
-                ),
-                end,
-            )
-        }
+    let codes = open(tail, MOST_CODES, CODE_SIZE)?;
+    let at = 2 + CODE_SIZE * first_bad_code(sig, size, signals, tail, codes);
+    let end = 2 + CODE_SIZE * codes;
+    if at < end {
+        return Err(Broken {
+            rule: Rule::Entry,
+            at,
+        });
     }
+    moved(
+        from_routes(
+            sig,
+            size,
+            signals,
+            version,
+            checks,
+            codes,
+            rest(tail, CODE_SIZE, codes),
+        ),
+        end,
+    )
 }
 
 // From its signals on; list starts at the checks' count.
-fn from_signals(list: &[u8], checks: usize, tail: &[u8], size: usize) -> Judged
+fn from_signals(list: &[u8], checks: usize, tail: &[u8], size: usize) -> Result<Counts, Broken>
     requires checks_in_bounds { (entry check_size checks ≤ length list.now) × (all (check_rule (check_at list.now)) checks ≡ true) }
     requires sized { Sized size }
-    ensures { judged_answer result ≡ from_signals size checks (check_at list.now) tail.now }
+    ensures { sized_answer result ≡ from_signals size checks (check_at list.now) tail.now }
 {
-    let opened = open(tail, MOST_SIGNALS, size);
-    match opened {
-        Section::Refused(f) => Judged::Refused(f),
-        Section::Entries(signals) => {
-            let at = first_bad_signal(list, checks, tail, size, signals);
-            let end = 2 + size * signals;
-            if at < end {
-                return Judged::Refused(Refusal(Refusal::ENTRY_BROKEN, at));
-            }
-            let version = version_of(tail, size, signals);
-            moved(
-                from_codes(
-                    tail,
-                    size,
-                    signals,
-                    version,
-                    checks,
-                    rest(tail, size, signals),
-                ),
-                end,
-            )
-        }
+    let signals = open(tail, MOST_SIGNALS, size)?;
+    let at = first_bad_signal(list, checks, tail, size, signals);
+    let end = 2 + size * signals;
+    if at < end {
+        return Err(Broken {
+            rule: Rule::Entry,
+            at,
+        });
     }
+    let version = version_of(tail, size, signals);
+    moved(
+        from_codes(
+            tail,
+            size,
+            signals,
+            version,
+            checks,
+            rest(tail, size, signals),
+        ),
+        end,
+    )
 }
 
 // Judges a list whose signal entries have `size` octets.
-fn judge_sized(list: &[u8], size: usize) -> Judged
+fn judge_sized(list: &[u8], size: usize) -> Result<Counts, Broken>
     requires { Sized size }
-    ensures { judged_answer result ≡ judge_sized size list.now }
+    ensures { sized_answer result ≡ judge_sized size list.now }
 {
-    let opened = open(list, MOST_CHECKS, CHECK_SIZE);
-    match opened {
-        Section::Refused(f) => Judged::Refused(f),
-        Section::Entries(checks) => {
-            let at = 2 + CHECK_SIZE * first_bad_check(list, checks);
-            let end = 2 + CHECK_SIZE * checks;
-            if at < end {
-                return Judged::Refused(Refusal(Refusal::ENTRY_BROKEN, at));
-            }
-            moved(
-                from_signals(list, checks, rest(list, CHECK_SIZE, checks), size),
-                end,
-            )
-        }
+    let checks = open(list, MOST_CHECKS, CHECK_SIZE)?;
+    let at = 2 + CHECK_SIZE * first_bad_check(list, checks);
+    let end = 2 + CHECK_SIZE * checks;
+    if at < end {
+        return Err(Broken {
+            rule: Rule::Entry,
+            at,
+        });
     }
+    moved(
+        from_signals(list, checks, rest(list, CHECK_SIZE, checks), size),
+        end,
+    )
 }
 
 // The octets of a signal entry in a form.
@@ -392,84 +406,9 @@ pub fn entry_size(form: u8) -> usize
 }
 
 // Judges a list in the form that the caller says: its counts and version, or the first refusal that judging meets.
-pub fn judge(list: &[u8], form: u8) -> Judged
+pub fn judge(list: &[u8], form: u8) -> Result<Counts, Refusal>
     ensures { judged_answer result ≡ judgedList form list.now }
 {
-    judge_sized(list, entry_size(form))
-}
-
-// Inner: the rest of an accepted list from its signals' count on.
-pub fn signals_part(list: &[u8], n: Counts) -> &[u8]
-    requires { Laid list.now (counts_of n) }
-    ensures { result.now ≡ signals_part list.now (counts_of n) }
-{
-    rest(list, CHECK_SIZE, n.checks)
-}
-
-// Inner: from its codes' count on.
-pub fn codes_part(list: &[u8], n: Counts) -> &[u8]
-    requires { Laid list.now (counts_of n) }
-    ensures { result.now ≡ codes_part list.now (counts_of n) }
-{
-    rest(signals_part(list, n), n.size, n.signals)
-}
-
-// Inner: from its routes' count on.
-pub fn routes_part(list: &[u8], n: Counts) -> &[u8]
-    requires { Laid list.now (counts_of n) }
-    ensures { result.now ≡ routes_part list.now (counts_of n) }
-{
-    rest(codes_part(list, n), CODE_SIZE, n.codes)
-}
-
-// Inner: check j of an accepted list.
-pub fn check_in(list: &[u8], n: Counts, j: usize) -> usize
-    requires { (Laid list.now (counts_of n)) × (j < n.checks) }
-    ensures { CheckRead ((list_of list.now (counts_of n)).check j) result }
-{
-    entries::check_at(list, j)
-}
-
-// Inner: signal k of an accepted list.
-pub fn signal_in(list: &[u8], n: Counts, k: usize) -> Signal
-    requires { (Laid list.now (counts_of n)) × (k < n.signals) }
-    ensures { SignalRead ((list_of list.now (counts_of n)).signal k) result }
-{
-    entries::signal_at(signals_part(list, n), n.size, k)
-}
-
-// Inner: its code entry e.
-pub fn code_in(list: &[u8], n: Counts, e: usize) -> Code
-    requires { (Laid list.now (counts_of n)) × (e < n.codes) }
-    ensures { CodeRead (codes_part list.now (counts_of n)) e result }
-{
-    entries::code_at(codes_part(list, n), e)
-}
-
-// Inner: its route r.
-pub fn route_in(list: &[u8], n: Counts, r: usize) -> Route
-    requires { (Laid list.now (counts_of n)) × (r < n.routes) }
-    ensures { RouteRead (routes_part list.now (counts_of n)) r result }
-{
-    entries::route_at(routes_part(list, n), r)
-}
-
-// Inner: the width of signal k, which a route to it has too.
-pub fn width_in(list: &[u8], n: Counts, k: usize) -> usize
-    requires { (Laid list.now (counts_of n)) × (k < n.signals) }
-    ensures { OctetRead ((list_of list.now (counts_of n)).signal k).width result }
-{
-    entries::width_at(signals_part(list, n), n.size, k)
-}
-
-// Inner: the place of the check that the signal names, 0 for none: the same check may have another number in another list.
-pub fn place_in(list: &[u8], n: Counts, s: Signal) -> usize
-    requires { (Laid list.now (counts_of n)) × (s.check ≤ n.checks) }
-    ensures { result ≡ place_of (list_of list.now (counts_of n)) (signal_of s) }
-{
-    let check = s.check;
-    if check == 0 {
-        return 0;
-    }
-    check_in(list, n, check - 1)
+    let counts = judge_sized(list, entry_size(form))?;
+    Ok(counts)
 }

@@ -1,15 +1,9 @@
 // Fields, numbers and runs of octets in lent slices. What has a `requires` is inner: its caller in the library shows it.
 #![tactic(auto)]
 
-ghost use Rattle.std.specs.Prelude.{◌≡◌, ◌+◌, ◌-◌, ◌*◌, ◌%◌, ◌^◌, ◌<◌, ◌≤◌, min, length, replicate};
+ghost use Rattle.std.specs.Prelude.{◌≡◌, ◌+◌, ◌-◌, ◌*◌, ◌%◌, ◌^◌, ◌<◌, ◌≤◌, length, replicate};
 ghost use Rattle.paper.specs.Octets.{field, fits, put, octets_of, over, field_of, with_field};
 ghost use Rattle.octets.specs.Fields.{Within, FieldRead, NumberRead, merged};
-
-fn least(a: usize, b: usize) -> usize
-    ensures { result ≡ min a b }
-{
-    if a < b { a } else { b }
-}
 
 // Whether v fits in a field of w bits: any value does from 64 bits on.
 pub fn fits(v: u64, w: usize) -> bool
@@ -108,7 +102,7 @@ pub fn read_field(s: &[u8], start: usize, width: usize) -> u64
     ensures { FieldRead s.now start width result }
 {
     if 8 <= s.len() {
-        let q = least(start / 8, s.len() - 8);
+        let q = (start / 8).min(s.len() - 8);
         let b = start - 8 * q;
         if b + width <= 64 {
             return read_window(s, q, b, width);
@@ -183,7 +177,7 @@ pub fn write_field(s: &mut [u8], start: usize, width: usize, v: u64)
         return;
     }
     if 8 <= s.len() {
-        let q = least(start / 8, s.len() - 8);
+        let q = (start / 8).min(s.len() - 8);
         let b = start - 8 * q;
         if b + width <= 64 {
             write_window(s, q, b, width, v);
@@ -237,10 +231,9 @@ pub fn copy_over(d: &mut [u8], at: usize, s: &[u8])
     requires { at + length s.now ≤ length d.old }
     ensures { d.new ≡ over d.old at s.now }
 {
-    let mut i = 0;
-    while i < s.len() {
+    // No `copy_from_slice`: it calls `memcpy`, a symbol that a firmware would have to bring.
+    for i in 0..s.len() {
         d[at + i] = s[i];
-        i += 1;
     }
 }
 
@@ -249,10 +242,8 @@ pub fn fill_zero(d: &mut [u8], at: usize, n: usize)
     requires { at + n ≤ length d.old }
     ensures { d.new ≡ over d.old at (replicate n 0) }
 {
-    let mut i = 0;
-    while i < n {
+    for i in 0..n {
         d[at + i] = 0;
-        i += 1;
     }
 }
 

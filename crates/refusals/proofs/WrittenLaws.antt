@@ -87,11 +87,11 @@ one_written a old r s new other t u = (one_outcome _ r s t.outcome u.outcome, t.
 
 -- ---- what `?` hands on
 
--- r is the refusal f
-abbrev pub HandedOn : {A : Type 0} → Result A Refusal → Refusal → Type 0
+-- r is the error f
+abbrev pub HandedOn : {A E : Type 0} → Result A E → E → Type 0
 HandedOn r f = IsErr r × IsErrAnd r (λ e. e ≡ f)
 
-pub handed_on : {A : Type 0} (r : Result A Refusal) (f : Refusal) → HandedOn r f → r ≡ Err f
+pub handed_on : {A E : Type 0} (r : Result A E) (f : E) → HandedOn r f → r ≡ Err f
 handed_on (Ok a) f h = absurd (clash h.0)
 handed_on (Err e) f h = ap Err h.1
 

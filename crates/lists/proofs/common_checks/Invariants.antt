@@ -1,15 +1,6 @@
 -- `lists::common_checks` meets its contract: every check passed lies below 320. Assumes nothing.
 use Prim.Native.Nat.{ℕ, ◌-◌, ◌≤◌, ◌<◌}
-use mathlib.Core.Path.{◌≡◌, sym, ◌∙◌}
-use mathlib.Core.Bool.{true}
-use native.Mathlib.Omega.{arith}
-use lib.Dec.{ltb}
-use borrow.Author.Count.{below_none, below_more}
-use borrow.Author.Tests.{ltb-true}
-use borrow.Author.Rules.{rules}
 use Rattle.paper.specs.SignalList.{check_at}
-use Rattle.bools.proofs.Tests.{both}
-use Rattle.lists.proofs.Laws.{none_before}
 use Rattle.lists.proofs.common_checks.Given as goal
 
 abbrev pub invariant-loop-j : goal.invariant-loop-j

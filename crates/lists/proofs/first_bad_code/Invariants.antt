@@ -1,15 +1,9 @@
 -- `lists::first_bad_code` meets its contract: every entry passed keeps its rule. Assumes nothing.
-use Prim.Native.Nat.{◌-◌}
-use mathlib.Core.Path.{◌≡◌, ap, ◌∙◌}
-use borrow.Author.Rules.{rules}
 use Rattle.paper.specs.SignalList.{signal_at, code_at, code_rule}
-use Rattle.paper.proofs.LoopLaws.{Passed, passed_none, passed_more, fails_here, fails_nowhere}
+use Rattle.paper.proofs.LoopLaws.{Passed}
 use Rattle.entries.specs.Entries.{code_past}
-use Rattle.entries.proofs.Laws.{Before, before_first, before_next, code_keeps_lem}
+use Rattle.entries.proofs.Laws.{Before}
 use Rattle.lists.proofs.first_bad_code.Given as goal
 
 abbrev pub invariant-loop-k : goal.invariant-loop-k
 invariant-loop-k l = (Passed (code_rule l.signals (signal_at l.size l.sig) (code_at l.tail)) l.n l.k) × (Before (λ j. code_past (code_at l.tail j)) l.k l.least)
-
-abbrev pub decreases-loop-k : goal.decreases-loop-k
-decreases-loop-k l = l.n - l.k

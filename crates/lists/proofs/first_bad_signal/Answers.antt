@@ -1,22 +1,19 @@
-use Prim.Native.Nat.{ℕ, ◌+◌, ◌-◌, ◌^◌, ◌≤◌, ◌<◌}
+use Prim.Native.Nat.{◌+◌, ◌^◌, ◌≤◌, ◌<◌}
 use mathlib.Core.Path.{◌≡◌, refl, sym, ap, ◌∙◌}
-use mathlib.Core.List.{List}
 use mathlib.Core.Bool.{true, ◌&&◌}
 use native.Mathlib.Omega.{arith}
 use lib.Dec.{ltb}
 use lib.ListN.{length}
 use borrow.Author.Tests.{ltb-true}
-use borrow.Author.Rules.{rules}
-use Rattle.paper.specs.SignalList.{Signal, field_end, entry, check_at, signal_at, signal_rule}
+use Rattle.paper.specs.SignalList.{Signal, field_end, entry, check_at}
 use Rattle.bools.proofs.Tests.{both}
 use Rattle.paper.proofs.ListLaws.{entry_in}
-use Rattle.paper.proofs.LoopLaws.{Passed, passed_none, passed_more, fails_here, fails_nowhere}
+use Rattle.paper.proofs.LoopLaws.{passed_none, passed_more, fails_here, fails_nowhere}
 use Rattle.entries.specs.Entries.{signal_of}
-use Rattle.entries.proofs.Laws.{Before, before_first, before_next, own_breaks, own_passes}
-use Rattle.lists.proofs.Laws.{Behind, behind_none, behind_more, behind_later, behind_resumed, shares_none, shares_one}
+use Rattle.entries.proofs.Laws.{before_first, before_next, own_breaks, own_passes}
+use Rattle.lists.proofs.Laws.{behind_none, behind_more, behind_later, behind_resumed, shares_none, shares_one}
 use mathlib.Core.Bool.{not}
 use Rattle.lists.proofs.first_bad_signal.Goals as goal
-use Rattle.lists.proofs.first_bad_signal.Invariants.{Stands}
 use Rattle.lists.proofs.first_bad_signal.Goals.{After-common_checks-common, After-signal_at-s, At-loop-kind, Else-n-k, In-loop-kind, Start}
 
 pub signals-init : goal.signals-init

@@ -1,21 +1,11 @@
 -- `lists::first_bad_signal` meets its contract. The outer invariant: every signal passed keeps its rule, and the checks before `from` end at or before the
 -- last one's end; the inner: the checks passed end at or before the signal's start. Assumes nothing.
-use Prim.Native.Nat.{ℕ, ◌+◌, ◌-◌, ◌^◌, ◌≤◌, ◌<◌}
-use mathlib.Core.Path.{◌≡◌, refl, sym, ap, ◌∙◌}
+use Prim.Native.Nat.{ℕ, ◌-◌}
 use mathlib.Core.List.{List}
-use mathlib.Core.Bool.{true, ◌&&◌}
-use native.Mathlib.Omega.{arith}
-use lib.Dec.{ltb}
-use lib.ListN.{length}
-use borrow.Author.Tests.{ltb-true}
-use borrow.Author.Rules.{rules}
-use Rattle.paper.specs.SignalList.{Signal, field_end, entry, check_at, signal_at, signal_rule}
-use Rattle.bools.proofs.Tests.{both}
-use Rattle.paper.proofs.ListLaws.{entry_in}
-use Rattle.paper.proofs.LoopLaws.{Passed, passed_none, passed_more, fails_here, fails_nowhere}
-use Rattle.entries.specs.Entries.{signal_of}
-use Rattle.entries.proofs.Laws.{Before, before_first, before_next, own_breaks, own_passes}
-use Rattle.lists.proofs.Laws.{Behind, behind_none, behind_more, behind_later, behind_resumed, shares_none, shares_one}
+use Rattle.paper.specs.SignalList.{field_end, check_at, signal_at, signal_rule}
+use Rattle.paper.proofs.LoopLaws.{Passed}
+use Rattle.entries.proofs.Laws.{Before}
+use Rattle.lists.proofs.Laws.{Behind}
 use Rattle.lists.proofs.first_bad_signal.Given as goal
 
 pub record Stands (list : List ℕ) (checks : ℕ) (tail : List ℕ) (size n kind past from k : ℕ) : Type 0 where

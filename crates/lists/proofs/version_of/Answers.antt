@@ -1,8 +1,7 @@
 -- `lists::version_of` meets its contract. Assumes nothing.
-use mathlib.Core.Path.{◌≡◌, sym, ap, ◌∙◌}
+use mathlib.Core.Path.{sym, ap, ◌∙◌}
 use Prim.Native.Nat.{ℕ}
 use native.Mathlib.Omega.{arith}
-use borrow.Author.Rules.{rules}
 use Rattle.paper.specs.SignalList.{signal_at, greatest_since}
 use Rattle.lists.proofs.version_of.Goals as goal
 

@@ -1,10 +1,11 @@
-use Prim.Native.Nat.{◌≤◌, ◌-◌}
+use Prim.Native.Nat.{max}
+use Rattle.std.proofs.lemmas.Grind.{common_steps}
 use mathlib.Core.Path.{◌≡◌, refl}
 use native.Mathlib.Numerals.{add-one}
 use native.Mathlib.Omega.{arith}
 use borrow.Author.Rules.{rules}
 use Rattle.paper.specs.First.{greatest}
-use Rattle.paper.specs.SignalList.{signal_at, greatest_since}
+use Rattle.paper.specs.SignalList.{greatest_since}
 use Rattle.paper.proofs.ListLaws.{entry_in}
 use Rattle.lists.proofs.version_sized.Goals as goal
 
@@ -19,7 +20,9 @@ since_at-requires c =
 
 pub loop-k-preserved : goal.loop-k-preserved
 unfolding greatest_since greatest
-loop-k-preserved c = (search rules, rw (add-one, ← c.loop-k.invariant.1, ← c.since_at.ensures.is) c.greater-version.ensures)
+loop-k-preserved c =
+    let e : c.max-version.result ≡ max c.loop-k.version c.since_at.result = grind (arith, common_steps) in
+    (search rules, rw (add-one, ← c.loop-k.invariant.1, ← c.since_at.ensures.is) e)
 
 pub returns : goal.returns
 returns c =
