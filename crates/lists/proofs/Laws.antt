@@ -1,7 +1,7 @@
 -- How a judge puts its answer together, which checks a field need not be tested against, and that an accepted list is laid out as its counts say.
 -- Assumes nothing.
 use Prim.Native.Nat.{ℕ, zero, suc, ◌+◌, ◌-◌, ◌*◌, ◌≤◌, ◌<◌}
-use mathlib.Core.Path.{◌≡◌, refl, sym, ap, ◌∙◌}
+use mathlib.Core.Path.{◌≡◌, refl, sym, ap, ap₂, ◌∙◌}
 use mathlib.Core.Bool.{Bool, true, false, cond, ◌&&◌, or-true}
 use mathlib.Core.List.{List}
 use native.Mathlib.Nat.{le_refl, add-zero, add-suc, lt_of_mul-lt-mul_left, mul-lt-mul_of_pos_left}
@@ -16,8 +16,9 @@ use Rattle.paper.specs.First.{first_bad, all}
 use Rattle.paper.specs.SignalList.{Signal, Counts as PaperCounts, field_end, entry, rest, apart, clear_rule}
 use Rattle.paper.specs.SignalList.{most_checks, most_signals, most_codes, most_routes, check_size, code_size, route_size}
 use Rattle.paper.specs.SignalList.{check_at, signal_at, code_at, route_at, check_rule, signal_rule, code_rule, route_rule}
-use Rattle.paper.specs.SignalList.{ending, from_routes, from_codes, from_signals}
+use Rattle.paper.specs.SignalList.{SignalList, list_of, under_list, ending, from_routes, from_codes, from_signals}
 use Rattle.paper.specs.SignalList.{opening, judge_entries, judge_section, judge}
+use Rattle.paper.proofs.AnswerLaws.{never_both}
 use Rattle.paper.proofs.FirstLaws.{first_passed, all_true, all_false, all_at}
 use Rattle.bools.proofs.Tests.{both}
 use Rattle.paper.proofs.ListLaws.{check_kept, opened_of, laid, within_rest}
@@ -198,3 +199,20 @@ pub one_judged : (a : Answer PaperCounts) (v w : Result Counts Refusal) → judg
 one_judged =
     one_result counts_of
     (λ x. record { checks = x.checks; signals = x.signals; codes = x.codes; routes = x.routes; version = x.version; size = x.size }) (λ x. refl)
+
+-- ---- a call by a list goes on with what is accepted, or is refused as judging is
+
+module _ {A : Type 0} (form : ℕ) (xs : List ℕ) (call : SignalList → Answer A) where
+  pub under_accepted : (l : SignalList) (y : Answer A) → gives l ≡ under_list form xs gives → y ≡ call l → y ≡ under_list form xs call
+  under_accepted l y e q = goes (judge form xs) e
+    where
+      goes : (j : Answer PaperCounts) → gives l ≡ and_then j (λ n. gives (list_of xs n)) → y ≡ and_then j (λ n. call (list_of xs n))
+      goes (gives n) e = let same : l ≡ list_of xs n = cc in q ∙ ap call same
+      goes (refused n at) e = absurd (never_both (refused n at) l n at (sym e) refl)
+
+  pub under_refused : (n at : ℕ) → refused n at ≡ under_list form xs gives → refused n at ≡ under_list form xs call
+  under_refused n at e = goes (judge form xs) e
+    where
+      goes : (j : Answer PaperCounts) → refused n at ≡ and_then j (λ m. gives (list_of xs m)) → refused n at ≡ and_then j (λ m. call (list_of xs m))
+      goes (gives m) e = absurd (never_both {A = SignalList} (refused n at) (list_of xs m) n at e refl)
+      goes (refused m b) e = ap₂ refused (cc) (cc)
