@@ -17,6 +17,9 @@ use Rattle.paper.specs.SignalList.{Code, SignalList, Counts, list_of, code_at, c
 use Rattle.paper.proofs.FirstLaws.{some_true, some_false}
 use Rattle.paper.specs.Accepted.{Laid, Kept, CodeFollows}
 use Rattle.paper.proofs.ListLaws.{kept_of}
+use Rattle.lists.specs.declared.accepted.AcceptedList.{AcceptedList}
+use Rattle.lists.specs.Judged.{counts_of}
+use Rattle.lists.specs.Listed.{list_as}
 use Rattle.known.specs.Known.{Ordered, code_keys, code_signals, Own, From}
 
 -- ---- the order of code entries
@@ -52,6 +55,9 @@ module _ (l : SignalList) (h : Kept l) where
 -- of a list that was accepted with these counts
 pub laid_ordered : (xs : List ℕ) (n : Counts) → Laid xs n → Ordered n.codes (code_at (codes_part xs n))
 laid_ordered xs n h = ordered_of (list_of xs n) (kept_of xs n h)
+
+pub listed_ordered : (l : AcceptedList) → Ordered l.counts.codes (list_as l).code
+listed_ordered l = laid_ordered l.octets.now (counts_of l.counts) l.laid
 
 -- ---- where a search for a signal's entries goes on from
 

@@ -3,18 +3,17 @@
 #![tactic(auto)]
 
 ghost use Rattle.std.specs.Prelude.{◌≡◌, ◌+◌, ◌*◌, ◌<◌};
-ghost use Rattle.paper.specs.SignalList.{list_of, knows as listKnows};
-ghost use Rattle.paper.specs.Accepted.{Laid};
+ghost use Rattle.paper.specs.SignalList.{knows as listKnows};
 ghost use Rattle.paper.specs.Search.{Between, Cut};
 ghost use Rattle.entries.specs.Entries.{code_of};
-ghost use Rattle.lists.specs.Judged.{counts_of};
+ghost use Rattle.lists.specs.Listed.{list_as};
 ghost use Rattle.known.specs.Known.{code_key, code_keys, Entries, From, Starts};
 
 use entries::Code;
-use lists::Counts;
+use lists::AcceptedList;
 
 // The code entries of a signal: from `from` to before `to`.
-#[derive(Clone, Copy)]
+#[derive(Clone, Copy, Debug, PartialEq, Eq)]
 pub struct Span {
     pub from: usize,
     pub to: usize,
@@ -29,15 +28,16 @@ fn code_key(c: Code) -> usize
 }
 
 // Inner: the first entry whose key is not below this one. It is none before `from`, and from `to` on none is below.
-pub fn first_code(list: &[u8], n: Counts, from: usize, to: usize, key: usize) -> usize
-    requires { (Laid list.now (counts_of n)) × (Between (code_keys (list_of list.now (counts_of n)).code) n.codes key from to) }
-    ensures { Cut (code_keys (list_of list.now (counts_of n)).code) n.codes key result }
+pub fn first_code(list: &AcceptedList, from: usize, to: usize, key: usize) -> usize
+    requires { Between (code_keys (list_as list.now).code) list.now.counts.codes key from to }
+    ensures { Cut (code_keys (list_as list.now).code) list.now.counts.codes key result }
 {
     let mut low = from;
     let mut high = to;
+    // While: halved, not counted.
     while low < high {
         let mid = low + (high - low) / 2;
-        if code_key(lists::code_in(list, n, mid)) < key {
+        if code_key(list.code(mid)) < key {
             low = mid + 1;
         } else {
             high = mid;
@@ -47,50 +47,49 @@ pub fn first_code(list: &[u8], n: Counts, from: usize, to: usize, key: usize) ->
 }
 
 // Inner: the entries of signal k.
-pub fn entries_of(list: &[u8], n: Counts, k: usize) -> Span
-    requires { (Laid list.now (counts_of n)) × (k < n.signals) }
-    ensures { Entries (list_of list.now (counts_of n)) k result }
+pub fn entries_of(list: &AcceptedList, k: usize) -> Span
+    requires { k < list.now.counts.signals }
+    ensures { Entries (list_as list.now) k result }
 {
-    let from = first_code(list, n, 0, n.codes, k * 65536);
-    let to = first_code(list, n, from, n.codes, (k + 1) * 65536);
+    let from = first_code(list, 0, list.counts.codes, k * 65536);
+    let to = first_code(list, from, list.counts.codes, (k + 1) * 65536);
     Span { from, to }
 }
 
 // Inner: the first entry of signal k or a later one. None before `from` is.
-pub fn reach(list: &[u8], n: Counts, from: usize, k: usize) -> usize
-    requires { (Laid list.now (counts_of n)) × (From (list_of list.now (counts_of n)) k from) }
-    ensures { Starts (list_of list.now (counts_of n)) k result }
+pub fn reach(list: &AcceptedList, from: usize, k: usize) -> usize
+    requires { From (list_as list.now) k from }
+    ensures { Starts (list_as list.now) k result }
 {
-    let mut e = from;
-    while e < n.codes {
-        if k <= lists::code_in(list, n, e).signal {
+    for e in from..list.counts.codes {
+        if k <= list.code(e).signal {
             return e;
         }
-        e += 1;
     }
-    e
+    list.counts.codes
 }
 
 // Inner: the entries of signal k, from those of a signal before on.
-pub fn entries_from(list: &[u8], n: Counts, from: usize, k: usize) -> Span
-    requires { (Laid list.now (counts_of n)) × (k < n.signals) × (From (list_of list.now (counts_of n)) k from) }
-    ensures { Entries (list_of list.now (counts_of n)) k result }
+pub fn entries_from(list: &AcceptedList, from: usize, k: usize) -> Span
+    requires { (k < list.now.counts.signals) × (From (list_as list.now) k from) }
+    ensures { Entries (list_as list.now) k result }
 {
-    let first = reach(list, n, from, k);
-    let to = reach(list, n, first, k + 1);
+    let first = reach(list, from, k);
+    let to = reach(list, first, k + 1);
     Span { from: first, to }
 }
 
 // Of the entries of signal k, the first that does not end below the code: a search for its key, which within a signal rises by its high alone.
-fn first_high(list: &[u8], n: Counts, own: Span, k: usize, code: usize) -> usize
-    requires { (Laid list.now (counts_of n)) × (Entries (list_of list.now (counts_of n)) k own) × (code < 65536) }
-    ensures { Cut (code_keys (list_of list.now (counts_of n)).code) n.codes (k * 65536 + code) result }
+fn first_high(list: &AcceptedList, own: Span, k: usize, code: usize) -> usize
+    requires { (Entries (list_as list.now) k own) × (code < 65536) }
+    ensures { Cut (code_keys (list_as list.now).code) list.now.counts.codes (k * 65536 + code) result }
 {
     let mut low = own.from;
     let mut high = own.to;
+    // While: halved, not counted.
     while low < high {
         let mid = low + (high - low) / 2;
-        if lists::code_in(list, n, mid).high < code {
+        if list.code(mid).high < code {
             low = mid + 1;
         } else {
             high = mid;
@@ -100,9 +99,9 @@ fn first_high(list: &[u8], n: Counts, own: Span, k: usize, code: usize) -> usize
 }
 
 // Inner: whether signal k, with these entries, knows a code. Its ranges never touch, so the first that does not end below the code decides.
-pub fn knows(list: &[u8], n: Counts, k: usize, own: Span, code: u64) -> bool
-    requires { (Laid list.now (counts_of n)) × (k < n.signals) × (Entries (list_of list.now (counts_of n)) k own) }
-    ensures { result ≡ listKnows (list_of list.now (counts_of n)) k code }
+pub fn knows(list: &AcceptedList, k: usize, own: Span, code: u64) -> bool
+    requires { (k < list.now.counts.signals) × (Entries (list_as list.now) k own) }
+    ensures { result ≡ listKnows (list_as list.now) k code }
 {
     if own.from == own.to {
         return true;
@@ -110,9 +109,9 @@ pub fn knows(list: &[u8], n: Counts, k: usize, own: Span, code: u64) -> bool
     if 65535 < code {
         return false;
     }
-    let e = first_high(list, n, own, k, code as usize);
+    let e = first_high(list, own, k, code as usize);
     if own.to <= e {
         return false;
     }
-    lists::code_in(list, n, e).low as u64 <= code
+    list.code(e).low as u64 <= code
 }

@@ -1,32 +1,22 @@
-use Prim.Native.Nat.{◌-◌}
-use mathlib.Core.Path.{ap}
+-- `known::reach` meets its contract. Assumes nothing.
+use mathlib.Core.Path.{◌≡◌, ap, subst}
 use native.Mathlib.Omega.{arith}
-use borrow.Author.Rules.{rules}
-use Rattle.paper.specs.SignalList.{Code, list_of}
+use Rattle.paper.specs.SignalList.{Code}
 use Rattle.paper.proofs.SearchLaws.{none_between}
-use Rattle.lists.specs.Judged.{counts_of}
-use Rattle.known.specs.Known.{From}
-use Rattle.known.proofs.Laws.{laid_ordered, reach_more, reach_here}
+use Rattle.lists.specs.Listed.{list_as}
+use Rattle.known.specs.Known.{Starts}
+use Rattle.known.proofs.Laws.{listed_ordered, reach_more, reach_here}
 use Rattle.known.proofs.reach.Goals as goal
 
-pub returns-then-k-code_in : goal.returns-then-k-code_in
-returns-then-k-code_in c =
-    let r = c in
-    let t = r in
-    let l = t in
-    let s = l in
-    reach_here _ _ (laid_ordered s.args.list.now (counts_of s.args.n) s.requires.0) _ _ l.loop-e.invariant t.loop-e-test.true
-    (omega (arith, ap (λ (x : Code). x.signal) r.code_in.ensures.is))
+pub returns-then-k-code : goal.returns-then-k-code
+returns-then-k-code c =
+    reach_here _ _ (listed_ordered c.args.list.now) _ _ c.loop-e.invariant c.loop-e-test.true (omega (arith, ap (λ (x : Code). x.signal) c.code.ensures.is))
 
 pub loop-e-preserved : goal.loop-e-preserved
 loop-e-preserved c =
-    let r = c in
-    let t = r in
-    let l = t in
-    let s = l in
-    reach_more _ _ (laid_ordered s.args.list.now (counts_of s.args.n) s.requires.0) _ _ l.loop-e.invariant t.loop-e-test.true
-    (omega (arith, ap (λ (x : Code). x.signal) r.code_in.ensures.is))
+    reach_more _ _ (listed_ordered c.args.list.now) _ _ c.loop-e.invariant c.loop-e-test.true (omega (arith, ap (λ (x : Code). x.signal) c.code.ensures.is))
 
 pub returns : goal.returns
 returns c =
-    none_between _ _ _ _ _ c.loop-e.invariant c.loop-e-test.false
+    let last : c.loop-e.e ≡ c.args.list.now.counts.codes = omega (arith, c.loop-e.invariant.most) in
+    subst (Starts (list_as c.args.list.now) c.args.k) last (none_between _ _ _ _ _ c.loop-e.invariant c.loop-e-test.false)
