@@ -1,24 +1,19 @@
 -- Five runs of octets are one slot, and the tests of a taking are its refusals. Assumes nothing.
-use Rattle.std.proofs.Common.{◌≡◌, ℕ, ◌+◌, ◌-◌, ◌%◌, ◌<◌, ◌≤◌, List, [], ◌∷◌, ◌++◌, length, take, drop, set, replicate, sym, refl, ap, ◌∙◌, append_assoc, add-one, arith, length-append, length-drop, length-take}
+use Rattle.std.proofs.Common.{◌≡◌, ℕ, ◌+◌, ◌-◌, ◌≤◌, List, [], ◌∷◌, ◌++◌, length, take, drop, set, replicate, cond, Option, Some, None, Result, sym, refl, ap, ◌∙◌, append_assoc, add-one, arith, length-append, length-drop, length-take}
 use lib.ListN.{length-replicate}
 use lib.Seq.{set_split}
-use Rattle.paper.specs.Answer.{Answer, gives, refused, and_then}
+use Rattle.paper.specs.Answer.{Answer, gives, and_then}
 use Rattle.paper.specs.Octets.{octets_of, over}
-use Rattle.paper.specs.Store.{telegram_octets, slot_head, slot_octets, store_octets, vehicles, slot_start, turn, age, slot_to, taken, taking, Takes}
+use Rattle.paper.specs.Store.{telegram_octets, slot_head, slot_octets, store_octets, vehicles, slot_start, slot_to, gap, taken, taking, gapping, Takes}
 use Rattle.paper.specs.Reading as paper
-use Rattle.paper.proofs.AnswerLaws.{past, one_answer}
+use Rattle.paper.specs.Reading.{held_in, holding}
+use Rattle.paper.proofs.AnswerLaws.{past}
 use Rattle.paper.proofs.NumberLaws.{length-octets_of, over-over}
 use Rattle.paper.proofs.StoreLaws.{takes}
 use Rattle.refusals.specs.declared.Refusal.{Refusal}
-use Rattle.refusals.specs.declared.Outcome.TheVariants as O
-use Rattle.refusals.specs.Refusal.{refusal_of}
-use Rattle.refusals.specs.Outcome.{Written}
-use Rattle.refusals.proofs.Laws.{numbered, numbered_of}
-use Rattle.store.specs.declared.HeldOutcome.{HeldOutcome}
-use Rattle.store.specs.declared.HeldOutcome.TheVariants as H
-use Rattle.store.specs.declared.GapOutcome.{GapOutcome}
-use Rattle.store.specs.declared.GapOutcome.TheVariants as G
-use Rattle.store.specs.Store.{held_answer, gap_answer, telegram_tests, taking_tests}
+use Rattle.refusals.proofs.WrittenLaws.{one_result}
+use Rattle.store.specs.declared.Held.{Held}
+use Rattle.store.specs.Store.{as_held, held_answer, gap_answer, finding, telegram_tests, taking_tests}
 
 -- ---- the slot
 
@@ -63,52 +58,35 @@ slot_whole store v whole first last = simp (length-take, length-drop) (omega ari
 -- ---- the tests
 
 module _ (store : List ℕ) (v now : ℕ) (telegram : List ℕ) where
-  tested : taking store v now telegram ≡ and_then (taking_tests (length store) v telegram) (λ _. gives (taken store v now telegram))
+  pub tested : taking store v now telegram ≡ and_then (taking_tests (length store) v telegram) (λ _. gives (taken store v now telegram))
   unfolding taking taking_tests telegram_tests
   tested =
       past _ 5 0 _ _ _ (past _ 6 0 _ _ _ (past _ 7 0 _ _ _ (past _ 8 0 _ _ _ (past _ 9 0 _ _ _ (past _ 10 0 _ _ _ refl)))))
 
-  pub took_refused : (f : Refusal) → refusal_of f ≡ taking_tests (length store) v telegram → Written (taking store v now telegram) store (O.Refused f) store
-  took_refused f e = record { outcome = rw (tested, ← e); octets = rw (tested, ← e) }
-
-  pub took_done : gives tt ≡ taking_tests (length store) v telegram → Written (taking store v now telegram) store O.Done (taken store v now telegram)
-  took_done e = record { outcome = rw (tested, ← e); octets = rw (tested, ← e) }
-
   pub tested_takes : gives tt ≡ taking_tests (length store) v telegram → Takes store v telegram
   tested_takes e = (takes store v now telegram (taken store v now telegram) (rw (tested, ← e))).0
 
--- ---- what is held
+-- ---- what is held, and the gap: of the slot that is found
 
--- the outcome can be told from the paper's answer, so any two that the contract admits are equal
-told : Answer paper.Held → HeldOutcome
-told (gives h) = H.Held (record { heard = h.heard; expired = h.expired; kind = h.type; version = h.version; age = h.age })
-told (refused n at) = H.Refused (numbered n at)
+pub held_found : (store : List ℕ) (now v : ℕ) → holding store now v ≡ and_then (finding store v) (λ s. gives (held_in s now))
+unfolding holding finding
+held_found store now v = past _ 5 0 _ _ _ (past _ 6 0 _ _ _ refl)
 
-told_of_lem : (r : HeldOutcome) → told (held_answer r) ≡ r
-unfolding told
-told_of_lem (H.Held h) = refl
-told_of_lem (H.Refused f) = ap H.Refused (numbered_of f)
+pub gap_found : (store : List ℕ) (v : ℕ) → gapping store v ≡ and_then (finding store v) (λ s. gives (gap s))
+unfolding gapping finding
+gap_found store v = past _ 5 0 _ _ _ (past _ 6 0 _ _ _ refl)
 
-pub one_held : (a : Answer paper.Held) (v w : HeldOutcome) → held_answer v ≡ a → held_answer w ≡ a → v ≡ w
-one_held = one_answer held_answer told told_of_lem
+-- what is held can be told from the paper's, so any two results that the contract admits are equal
+held_told : paper.Held → Option Held
+held_told h = cond h.heard (Some (record { expired = h.expired; kind = h.type; version = h.version; age = h.age })) None
 
--- ---- the gap
+held_told_of : (h : Option Held) → held_told (as_held h) ≡ h
+unfolding held_told
+held_told_of (Some h) = refl
+held_told_of None = refl
 
-gap_told : Answer ℕ → GapOutcome
-gap_told (gives n) = G.Gap n
-gap_told (refused n at) = G.Refused (numbered n at)
+pub one_held : (a : Answer paper.Held) (v w : Result (Option Held) Refusal) → held_answer v ≡ a → held_answer w ≡ a → v ≡ w
+one_held = one_result as_held held_told held_told_of
 
-gap_told_of : (r : GapOutcome) → gap_told (gap_answer r) ≡ r
-unfolding gap_told
-gap_told_of (G.Gap n) = refl
-gap_told_of (G.Refused f) = ap G.Refused (numbered_of f)
-
-pub one_gap : (a : Answer ℕ) (v w : GapOutcome) → gap_answer v ≡ a → gap_answer w ≡ a → v ≡ w
-one_gap = one_answer gap_answer gap_told gap_told_of
-
--- ---- age
-
--- the number that the stamp added to wraps back to the clock
-pub age_wraps : (now stamp r : ℕ) → now < turn → stamp < turn → r < turn → (r + stamp) % turn ≡ now → r ≡ age now stamp
-unfolding age
-age_wraps now stamp r h k l e = omega arith
+pub one_gap : (a : Answer ℕ) (v w : Result ℕ Refusal) → gap_answer v ≡ a → gap_answer w ≡ a → v ≡ w
+one_gap = one_result (λ n. n) (λ n. n) (λ n. refl)

@@ -3,9 +3,6 @@ use Rattle.std.proofs.Common.{ℕ, List, ap, ◌∙◌, arith, length-drop, leng
 use Rattle.paper.specs.Store.{slot_of, slot_from, moved, taken}
 use Rattle.store.proofs.renew_slot.Goals as goal
 
-pub moved-before-requires : goal.moved-before-requires
-moved-before-requires c = rw c.slot.ensures (simp (length-take, length-drop) (omega arith))
-
 pub returns : goal.returns
 unfolding taken slot_of
 returns c =

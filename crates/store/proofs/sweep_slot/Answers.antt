@@ -3,9 +3,6 @@ use Rattle.std.proofs.Common.{arith, length-drop, length-take}
 use Rattle.paper.specs.Store.{slot_of, swept_one}
 use Rattle.store.proofs.sweep_slot.Goals as goal
 
-pub is_stale-requires : goal.is_stale-requires
-is_stale-requires c = rw c.slot.ensures (simp (length-take, length-drop) (omega arith))
-
 pub returns-then-is_stale : goal.returns-then-is_stale
 unfolding swept_one slot_of
 returns-then-is_stale c = simp (← c.slot.ensures, ← c.if-is_stale.ensures)

@@ -1,6 +1,6 @@
--- `store::gap_in` meets its contract. Assumes nothing.
+-- `store::slots::Slot::gap` meets its contract. Assumes nothing.
 use Rattle.paper.specs.Store.{gap}
-use Rattle.store.proofs.gap_in.Goals as goal
+use Rattle.store.proofs.slots.Slot.gap.Goals as goal
 
 pub returns-then-was_heard : goal.returns-then-was_heard
 unfolding gap

@@ -1,6 +1,6 @@
--- `store::held_in` meets its contract. Assumes nothing.
+-- `store::slots::Slot::held` meets its contract. Assumes nothing.
 use Rattle.paper.specs.Reading.{held_in}
-use Rattle.store.proofs.held_in.Goals as goal
+use Rattle.store.proofs.slots.Slot.held.Goals as goal
 
 pub returns-then-not-is_heard : goal.returns-then-not-is_heard
 unfolding held_in

@@ -1,7 +1,7 @@
--- `store::is_heard` meets its contract. Assumes nothing.
+-- `store::slots::Slot::is_heard` meets its contract. Assumes nothing.
 use Rattle.std.proofs.Common.{eq-eqb, ne_eqb}
 use Rattle.paper.specs.Reading.{heard}
-use Rattle.store.proofs.is_heard.Goals as goal
+use Rattle.store.proofs.slots.Slot.is_heard.Goals as goal
 
 pub returns-then-not-was_heard : goal.returns-then-not-was_heard
 unfolding heard
