@@ -13,8 +13,8 @@ use refusals::Refusal;
 
 pub mod slots;
 
-use slots::{Slot, EXPIRED, HEAD, HEARD, PREVIOUS, SLOT};
 pub use slots::TELEGRAM;
+use slots::{EXPIRED, HEAD, HEARD, PREVIOUS, SLOT, Slot};
 
 pub const VEHICLES: usize = 63;
 
@@ -55,6 +55,7 @@ pub fn slot(store: &[u8], vehicle: usize) -> Slot<'_>
 }
 
 // The slot of a vehicle. Refused: 5 and 6.
+#[tactic(auto, unfolding(crate::specs::Store::finding, paper::specs::Store::slot_of, paper::specs::Answer::refuse_if))]
 fn find_slot(store: &[u8], vehicle: usize) -> Result<Slot<'_>, Refusal>
     ensures { answer_of (λ s. slot_from s.octets.now) result ≡ finding store.now vehicle }
 {
@@ -68,6 +69,7 @@ fn find_slot(store: &[u8], vehicle: usize) -> Result<Slot<'_>, Refusal>
 }
 
 // What a vehicle's slot says of its telegram at `clock`; none where nothing was heard. Refused: 5 and 6.
+#[tactic(auto, using(crate::proofs::Laws::held_found, refusals::proofs::WrittenLaws::stays_err))]
 pub fn holding(store: &[u8], clock: u32, vehicle: usize) -> Result<Option<Held>, Refusal>
     ensures { held_answer result ≡ held_of store.now clock vehicle }
 {
@@ -76,6 +78,7 @@ pub fn holding(store: &[u8], clock: u32, vehicle: usize) -> Result<Option<Held>,
 }
 
 // Stamp less previous stamp, in ms: the gap between the last two telegrams taken from a vehicle; after the first, its stamp. Refused: 5 and 6.
+#[tactic(auto, using(crate::proofs::Laws::gap_found, refusals::proofs::WrittenLaws::stays_err))]
 pub fn gap(store: &[u8], vehicle: usize) -> Result<u32, Refusal>
     ensures { gap_answer result ≡ gapping store.now vehicle }
 {
@@ -84,6 +87,7 @@ pub fn gap(store: &[u8], vehicle: usize) -> Result<u32, Refusal>
 }
 
 // The first of the refusals 7 to 10 that applies to a telegram.
+#[tactic(auto, unfolding(crate::specs::Store::telegram_tests, paper::specs::Answer::refuse_if))]
 fn telegram_tests(telegram: &[u8]) -> Result<(), Refusal>
     ensures { outcome_of result ≡ telegram_tests telegram.now }
 {
@@ -104,6 +108,7 @@ fn telegram_tests(telegram: &[u8]) -> Result<(), Refusal>
 }
 
 // The first of the refusals 5 to 10 that applies to a telegram for a store of `octets` octets.
+#[tactic(auto, unfolding(crate::specs::Store::taking_tests, paper::specs::Answer::refuse_if))]
 fn taking_tests(octets: usize, vehicle: usize, telegram: &[u8]) -> Result<(), Refusal>
     ensures { outcome_of result ≡ taking_tests octets vehicle telegram.now }
 {
@@ -117,6 +122,7 @@ fn taking_tests(octets: usize, vehicle: usize, telegram: &[u8]) -> Result<(), Re
 }
 
 // Inner: the whole slot, the octets behind a short telegram too.
+#[tactic(auto, using(crate::proofs::Laws::five_runs))]
 fn write_slot(store: &mut [u8], vehicle: usize, clock: u32, before: u32, telegram: &[u8])
     requires { (length store.old ≡ store_octets) × (1 ≤ vehicle) × (vehicle ≤ vehicles) × (length telegram.now ≤ telegram_octets) }
     ensures { store.new ≡ over store.old (slot_start vehicle) (slot_to clock before telegram.now) }
@@ -131,6 +137,7 @@ fn write_slot(store: &mut [u8], vehicle: usize, clock: u32, before: u32, telegra
 }
 
 // Inner: the slot with the new telegram, and the stamp that it had behind the new one.
+#[tactic(auto, unfolding(paper::specs::Store::taken, paper::specs::Store::slot_of))]
 fn renew_slot(store: &mut [u8], vehicle: usize, clock: u32, telegram: &[u8])
     requires { (length store.old ≡ store_octets) × (1 ≤ vehicle) × (vehicle ≤ vehicles) × (length telegram.now ≤ telegram_octets) }
     ensures { store.new ≡ taken store.old vehicle clock telegram.now }
@@ -140,6 +147,7 @@ fn renew_slot(store: &mut [u8], vehicle: usize, clock: u32, telegram: &[u8])
 }
 
 // Takes a telegram of a vehicle, heard at `clock`, into the store. Refused: 5 to 10, and the store stays as it was.
+#[tactic(auto, using(crate::proofs::Laws::tested, crate::proofs::Laws::tested_takes, paper::proofs::StoreLaws::type_short, refusals::proofs::WrittenLaws::written_stays, refusals::proofs::WrittenLaws::written_done))]
 pub fn take(store: &mut [u8], vehicle: usize, clock: u32, telegram: &[u8]) -> Result<(), Refusal>
     ensures { Written (taking store.old vehicle clock telegram.now) store.old result store.new }
 {
@@ -149,6 +157,7 @@ pub fn take(store: &mut [u8], vehicle: usize, clock: u32, telegram: &[u8]) -> Re
 }
 
 // Inner: one vehicle's slot.
+#[tactic(auto, unfolding(paper::specs::Store::swept_one, paper::specs::Store::slot_of))]
 fn sweep_slot(store: &mut [u8], vehicle: usize, clock: u32)
     requires { (length store.old ≡ store_octets) × (1 ≤ vehicle) × (vehicle ≤ vehicles) }
     ensures { store.new ≡ swept_one store.old clock vehicle }
@@ -160,6 +169,7 @@ fn sweep_slot(store: &mut [u8], vehicle: usize, clock: u32)
 }
 
 // Inner: every vehicle's slot.
+#[tactic(auto, unfolding(paper::specs::Store::swept_to))]
 fn sweep_slots(store: &mut [u8], clock: u32)
     requires { length store.old ≡ store_octets }
     ensures { store.new ≡ swept store.old clock }
@@ -170,10 +180,11 @@ fn sweep_slots(store: &mut [u8], clock: u32)
 }
 
 // Marks every slot as expired that was heard and is older, at `clock`, than any time limit allows. Refused: 5, and the store stays as it was.
+#[tactic(auto, using(paper::proofs::SweepLaws::sweeps_it, refusals::proofs::WrittenLaws::written_refused, refusals::proofs::WrittenLaws::written_done), unfolding(paper::specs::Store::sweeping, paper::specs::Answer::refuse_if))]
 pub fn sweep(store: &mut [u8], clock: u32) -> Result<(), Refusal>
     ensures { Written (sweeping store.old clock) store.old result store.new }
 {
-    if store.len() != STORE {
+    if !is_store(store) {
         return Err(Refusal::StoreLength);
     }
     sweep_slots(store, clock);

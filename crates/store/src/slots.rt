@@ -32,6 +32,7 @@ pub struct Slot<'a> {
 }
 
 // A clock that went back gives a large age.
+#[tactic(auto, unfolding(paper::specs::Store::age))]
 fn age(clock: u32, stamp: u32) -> u32
     ensures { result ≡ age clock stamp }
 {
@@ -82,17 +83,14 @@ impl<'a> Slot<'a> {
     }
 
     // Heard, expired since or not, and its head is an R-telegram's. Each test is a branch, which is nearly always foreseen.
+    #[tactic(auto, unfolding(paper::specs::Reading::heard))]
     pub fn is_heard(self) -> bool
         ensures { result ≡ heard (slot_from self.entry.octets.now) }
     {
-        if !self.was_heard() {
-            return false;
-        }
         let t = self.telegram();
-        if telegrams::application_type(t) != 1 {
-            return false;
-        }
-        telegrams::is_type(telegrams::telegram_type(t))
+        self.was_heard()
+            && telegrams::application_type(t) == 1
+            && telegrams::is_type(telegrams::telegram_type(t))
     }
 
     // A sweep has marked it.
@@ -113,6 +111,7 @@ impl<'a> Slot<'a> {
     }
 
     // What it says of its telegram.
+    #[tactic(auto, unfolding(paper::specs::Reading::held_in))]
     pub(crate) fn held(self, clock: u32) -> Option<Held>
         ensures { as_held result ≡ held_in (slot_from self.entry.octets.now) clock }
     {
@@ -129,6 +128,7 @@ impl<'a> Slot<'a> {
     }
 
     // The gap between its last two telegrams, 0 where none was heard.
+    #[tactic(auto, unfolding(paper::specs::Store::gap))]
     pub(crate) fn gap(self) -> u32
         ensures { result ≡ gap (slot_from self.entry.octets.now) }
     {
@@ -146,6 +146,7 @@ impl<'a> Slot<'a> {
     }
 
     // Heard, and not within the longest time limit any more.
+    #[tactic(auto, unfolding(paper::specs::Store::stale))]
     pub(crate) fn is_stale(self, clock: u32) -> bool
         ensures { result ≡ stale (slot_from self.entry.octets.now) clock }
     {

@@ -24,6 +24,7 @@ pub fn is_carried(telegram: usize, signal: usize) -> bool
 }
 
 // Inner: the first four bits of a telegram.
+#[tactic(auto, unfolding(paper::specs::Telegrams::application_type))]
 pub fn application_type(telegram: &[u8]) -> usize
     requires { 2 ≤ length telegram.now }
     ensures { (result ≡ application_type telegram.now) × (result < 16) }
@@ -32,6 +33,7 @@ pub fn application_type(telegram: &[u8]) -> usize
 }
 
 // Inner: the next four.
+#[tactic(auto, unfolding(paper::specs::Telegrams::telegram_type))]
 pub fn telegram_type(telegram: &[u8]) -> usize
     requires { 2 ≤ length telegram.now }
     ensures { (result ≡ telegram_type telegram.now) × (result < 16) }
@@ -40,13 +42,10 @@ pub fn telegram_type(telegram: &[u8]) -> usize
 }
 
 // Inner: octet 2, where 0 is read as 1.
+#[tactic(auto, unfolding(paper::specs::Telegrams::version_of))]
 pub fn data_version(telegram: &[u8]) -> usize
     requires { 2 ≤ length telegram.now }
     ensures { (result ≡ version_of telegram.now) × (result < 256) }
 {
-    let v = octets::wide(telegram[1]);
-    if v == 0 {
-        return 1;
-    }
-    v
+    octets::wide(telegram[1]).max(1)
 }
