@@ -1,50 +1,35 @@
--- A part of a slice, sets of keys, and what judging the blocks one after the other shows. Assumes nothing.
-use Prim.Native.Nat.{ℕ, zero, suc, ◌+◌, ◌-◌, ◌/◌, ◌%◌, ◌^◌, ◌≤◌, ◌<◌, min}
+-- Sets of keys, and what judging the blocks one after the other shows. Assumes nothing.
+use Prim.Native.Nat.{ℕ, zero, suc, ◌+◌, ◌-◌, ◌/◌, ◌%◌, ◌^◌, ◌≤◌, ◌<◌}
 use native.Mathlib.Nat.{lt_irrefl, div-eq_of_lt, pow-suc}
 use native.Mathlib.Numerals.{add-one}
 use native.Mathlib.Decide.{dec_lt, ℕ_discrete}
 use native.Mathlib.Omega.{arith}
-use mathlib.Core.Path.{◌≡◌, refl, sym, ap, ap₂, ◌∙◌}
+use mathlib.Core.Path.{◌≡◌, refl, sym, ap, ◌∙◌}
 use mathlib.Core.Bool.{Bool, true, false, not, cond, ◌||◌, or-true, or-false}
 use mathlib.Core.List.{List, [], ◌∷◌}
 use lib.Dec.{ltb, eqb}
-use lib.ListN.{length, get_or, take, drop, length-take, length-drop}
-use lib.Seq.{get_or-take, ext_get_or}
+use lib.ListN.{length, take, drop}
 use lib.Bits.{bit_or, or_shr, or_mod, or_zero_r}
 use lib.Pow.{pow-lt, pow_pos, pow-add, shl-shr}
 use borrow.Author.Count.{below_more}
-use borrow.Author.Tests.{lt-ltb, le-ltb, eq-eqb, ne_eqb, eqb-false, not-false}
+use borrow.Author.Tests.{lt-ltb, le-ltb, eq-eqb, ne_eqb, eqb-true, not-false}
 use Rattle.bools.proofs.Tests.{both}
-use Rattle.paper.specs.Answer.{Answer, gives, refused, refuse_if, Sought, found, nothing}
+use Rattle.std.specs.Prelude.{Option, Result, Ok, Err}
+use Rattle.paper.specs.Answer.{Answer, gives, refused, refuse_if, and_then, Sought, found, nothing}
 use Rattle.paper.specs.ETelegrams.{e_code, e_limit}
 use Rattle.paper.specs.First.{first_of, some}
-use Rattle.paper.specs.Remedies.{length_at, key_at, text_length_at, start, key_of, past, broken, twice, block_fault, first_fault, refuse_by, head_rule, block_count, Remedies, remedies_of, remedy_reading, Remedy, remedy_of, remedy_block, text_in, remedy_text, BlockRules}
-use Rattle.paper.proofs.AnswerLaws.{refuses, goes_past, one_answer}
+use Rattle.paper.specs.Remedies.{length_at, key_at, text_length_at, start, key_of, past, broken, twice, block_fault, first_fault, refuse_by, ordered, block_count, Remedies, remedies_of, remedy_reading, Remedy, remedy_of, remedy_block, text_in, remedy_text, BlockRules}
+use Rattle.paper.proofs.AnswerLaws.{refuses, goes_past}
 use Rattle.paper.proofs.FirstLaws.{some_true, some_false, some_none, some_at}
 use Rattle.paper.proofs.RemedyLaws.{fault_here, no_fault, field_rules, block_rules}
-use Rattle.refusals.proofs.Laws.{numbered, numbered_of}
-use Rattle.texts.specs.declared.RemediesRead.{RemediesRead}
-use Rattle.texts.specs.declared.RemediesRead.TheVariants as M
-use Rattle.texts.specs.declared.RemedyRead.{RemedyRead}
-use Rattle.texts.specs.declared.RemedyRead.TheVariants as B
-use Rattle.texts.specs.Texts.{holds, Holds, fault_at, faults_of, Fault, read_answer, remedy_answer}
-
--- ---- a part of a slice, as far as it is there
-
-part_length : (x a n b m : ℕ) → b ≡ min a x → m ≡ min n (x - b) → min m (x - b) ≡ min n (x - a)
-part_length x a n b m e f = elim (dec_lt x a) [
-  | yes h ↦ let q : b ≡ x = omega arith in omega arith
-  | no h ↦ let q : b ≡ a = omega arith in omega arith
-]
-
-pub part_is : (l : List ℕ) (a n b m : ℕ) → b ≡ min a (length l) → m ≡ min n (length l - b) → take (b + m - b) (drop b l) ≡ take n (drop a l)
-part_is l a n b m e f =
-    let k : b + m - b ≡ m = omega arith in
-    ap (λ (j : ℕ). take j (drop b l)) k
-    ∙ ext_get_or 0 (take m (drop b l)) (take n (drop a l)) (rw (length-take, length-take, length-drop, length-drop) (part_length (length l) a n b m e f)) (λ i h.
-    let g : i < min m (length l - b) = rw (length-take m (drop b l), length-drop b l) at h in
-    let s : b ≡ a = omega arith in
-    get_or-take m (drop b l) i 0 (omega arith) ∙ ap (λ (j : ℕ). get_or (drop j l) i 0) s ∙ sym (get_or-take n (drop a l) i 0 (omega arith)))
+use Rattle.refusals.specs.declared.Refusal.{Refusal}
+use Rattle.refusals.specs.declared.Refusal.TheVariants as R
+use Rattle.refusals.specs.Refusal.{refusal_of}
+use Rattle.refusals.specs.Outcome.{sought_of}
+use Rattle.refusals.proofs.WrittenLaws.{one_result, sought_told, sought_told_of}
+use Rattle.texts.specs.declared.Remedies as code
+use Rattle.texts.specs.declared.Remedy as place
+use Rattle.texts.specs.Texts.{holds, Holds, fault_at, faults_of, Fault, head_holds, placed, remedies_read, read_answer, remedy_answer}
 
 -- ---- where a block starts
 
@@ -111,6 +96,30 @@ holds_more key n set held lo hi x a b =
     ]
     ∙ refl
 
+-- ---- a fault by its number
+
+-- what is refused has one
+pub fault_some : (v : ℕ) (f : Refusal) → Fault v (Err f) → v ≡ 0 → ⊥
+unfolding refuse_if
+fault_some v f e z = let q : refusal_of {A = Unit {0}} f ≡ gives tt = e ∙ ap (λ (x : ℕ). refuse_by {A = Unit {0}} x (gives tt)) z in cc
+
+-- and what is not has none
+pub fault_none : (v : ℕ) → Fault v (Ok tt) → v ≡ 0
+unfolding refuse_if
+fault_none v e = by (eqb v 0) refl
+  where
+    by : (b : Bool) → eqb v 0 ≡ b → v ≡ 0
+    by true q = eqb-true v 0 q
+    by false q = let z : gives tt ≡ refused v 0 = e ∙ ap (λ (b : Bool). refuse_if (not b) v 0 (gives tt)) q in cc
+
+pub fault_then : {A : Type 0} (v : ℕ) (rest : Answer A) (a : Answer (Unit {0})) → a ≡ refuse_by v (gives tt) → and_then a (λ x. rest) ≡ refuse_by v rest
+unfolding refuse_if
+fault_then {A} v rest a e = ap (λ (x : Answer (Unit {0})). and_then x (λ y. rest)) e ∙ by (not (eqb v 0))
+  where
+    by : (b : Bool) → and_then (refuse_if b v 0 (gives tt)) (λ (y : Unit {0}). rest) ≡ refuse_if b v 0 rest
+    by true = refl
+    by false = refl
+
 -- ---- one block
 
 module _ (t : List ℕ) (at seen : ℕ) where
@@ -123,21 +132,21 @@ module _ (t : List ℕ) (at seen : ℕ) where
   pub not_past : at + 6 ≤ length t → at + length_at t at ≤ length t → past t at ≡ false
   not_past h k = rw (le-ltb (length t) (at + 6) h, le-ltb (length t) (at + length_at t at) k)
 
-  pub by_past : past t at ≡ true → 28 ≡ fault_at t at seen
-  unfolding fault_at
+  pub by_past : past t at ≡ true → Fault (fault_at t at seen) (Err R.BlockPast)
+  unfolding fault_at refuse_if
   by_past e = rw e
 
   module _ (p : past t at ≡ false) where
-    pub by_broken : broken t at ≡ true → 29 ≡ fault_at t at seen
-    unfolding fault_at
+    pub by_broken : broken t at ≡ true → Fault (fault_at t at seen) (Err R.RemedyField)
+    unfolding fault_at refuse_if
     by_broken e = rw (p, e)
 
-    pub by_twice : broken t at ≡ false → holds seen (key_at t at) ≡ true → 30 ≡ fault_at t at seen
-    unfolding fault_at
+    pub by_twice : broken t at ≡ false → holds seen (key_at t at) ≡ true → Fault (fault_at t at seen) (Err R.KeyTwice)
+    unfolding fault_at refuse_if
     by_twice e f = rw (p, e, f)
 
-    pub by_none : broken t at ≡ false → holds seen (key_at t at) ≡ false → 0 ≡ fault_at t at seen
-    unfolding fault_at
+    pub by_none : broken t at ≡ false → holds seen (key_at t at) ≡ false → Fault (fault_at t at seen) (Ok tt)
+    unfolding fault_at refuse_if
     by_none e f = rw (p, e, f)
 
 -- the set stands for the blocks before, where the key is in its range
@@ -157,26 +166,6 @@ unfolding fault_at block_fault twice
 fault_is t k at seen e held =
     ap (λ (a : ℕ). fault_at t a seen) e
     ∙ same_third (past t (start t k)) (broken t (start t k)) _ _ (λ b. let r = in_range_lem t (start t k) b in held (key_of t k) r.0 r.1)
-
-pub fault_most : (t : List ℕ) (at seen : ℕ) → fault_at t at seen ≤ 30
-unfolding fault_at
-fault_most t at seen = by (past t at) (broken t at) (holds seen (key_at t at))
-  where
-    by : (a b c : Bool) → first_of 28 (a ∷ b ∷ c ∷ []) 0 ≤ 30
-    by true b c = omega arith
-    by false true c = omega arith
-    by false false true = omega arith
-    by false false false = omega arith
-
-pub fault_least : (t : List ℕ) (at seen : ℕ) → (fault_at t at seen ≡ 0 → ⊥) → 28 ≤ fault_at t at seen
-unfolding fault_at
-fault_least t at seen = by (past t at) (broken t at) (holds seen (key_at t at))
-  where
-    by : (a b c : Bool) → (first_of 28 (a ∷ b ∷ c ∷ []) 0 ≡ 0 → ⊥) → 28 ≤ first_of 28 (a ∷ b ∷ c ∷ []) 0
-    by true b c n = omega arith
-    by false true c n = omega arith
-    by false false true n = omega arith
-    by false false false n = absurd (n refl)
 
 -- ---- the blocks in order
 
@@ -199,36 +188,38 @@ judged_by t n at seen k p size set e f = rw (e, f) p
 
 module _ (t : List ℕ) (n at seen k : ℕ) (p : Judged t n at seen k) where
   -- block k is at fault
-  pub judged_here : k < n → (v : ℕ) → v ≡ fault_at t at seen → (v ≡ 0 → ⊥) → Fault (faults_of t n) v
+  pub judged_here : k < n → (f : Refusal) → Fault (fault_at t at seen) (Err f) → Fault (faults_of t n) (Err f)
   unfolding faults_of
-  judged_here h v e ne =
-      let q : v ≡ first_fault (block_fault t) n = fault_here (block_fault t) n k v h p.each (sym (e ∙ fault_is t k at seen p.stands p.held)) ne in
-      let z : eqb (first_fault (block_fault t) n) 0 ≡ false = ne_eqb (first_fault (block_fault t) n) 0 (λ x. ne (q ∙ x)) in
-      record { is = rw z q; least = λ _. rw e (fault_least t at seen (λ x. ne (e ∙ x))); most = rw e (fault_most t at seen) }
+  judged_here h f e =
+      let ne = fault_some (fault_at t at seen) f e in
+      let q = fault_here (block_fault t) n k (fault_at t at seen) h p.each (sym (fault_is t k at seen p.stands p.held)) ne in
+      let z : eqb (first_fault (block_fault t) n) 0 ≡ false = ne_eqb _ 0 (λ x. ne (q ∙ x)) in
+      let is : fault_at t at seen ≡ faults_of t n = rw z q in
+      e ∙ ap (λ (x : ℕ). refuse_by {A = Unit {0}} x (gives tt)) is
 
   -- it has none
-  module _ (v : ℕ) (e : v ≡ fault_at t at seen) (none : v ≡ 0) where
+  module _ (e : Fault (fault_at t at seen) (Ok tt)) where
     block_sound : block_fault t k ≡ 0
-    block_sound = sym (fault_is t k at seen p.stands p.held) ∙ sym e ∙ none
+    block_sound = sym (fault_is t k at seen p.stands p.held) ∙ fault_none (fault_at t at seen) e
 
-    abbrev R : BlockRules t k
-    R = block_rules t k block_sound
+    abbrev B : BlockRules t k
+    B = block_rules t k block_sound
 
     pub block_begins : at + 6 ≤ length t
-    block_begins = omega (arith, p.stands, R.begins)
+    block_begins = omega (arith, p.stands, B.begins)
 
     pub block_key : (1 ≤ key_at t at) × (key_at t at ≤ 8)
-    block_key = rw p.stands (R.key_least, R.key_most)
+    block_key = rw p.stands (B.key_least, B.key_most)
 
-    pub judged_more : k < n → Judged t n (at + length_at t at) (bit_or seen (2 ^ (key_at t at - 1))) (k + 1)
+    pub judged_more : k < n → (size set : ℕ) → size ≡ length_at t at → set ≡ bit_or seen (2 ^ (key_at t at - 1)) → Judged t n (at + size) set (k + 1)
     unfolding start
-    judged_more h =
+    judged_more h size set is held =
         let one : k + 1 ≡ suc k = add-one k in
         record {
           within = omega arith;
-          stands = ap (λ (a : ℕ). a + length_at t a) p.stands ∙ ap (start t) (sym one);
-          inside = rw p.stands R.within;
-          held = rw (one, p.stands) (holds_more (key_of t) k seen p.held R.key_least R.key_most);
+          stands = ap (λ (x : ℕ). at + x) is ∙ ap (λ (a : ℕ). a + length_at t a) p.stands ∙ ap (start t) (sym one);
+          inside = rw (is, p.stands) B.within;
+          held = rw (one, held, p.stands) (holds_more (key_of t) k seen p.held B.key_least B.key_most);
           each = below_more _ _ p.each block_sound;
         }
 
@@ -240,62 +231,57 @@ module _ (t : List ℕ) (n at seen k : ℕ) (p : Judged t n at seen k) where
     at_end : at ≡ start t n
     at_end = let e : k ≡ n = omega (arith, p.within) in p.stands ∙ ap (start t) e
 
-    pub judged_after : at < length t → Fault (faults_of t n) 28
-    unfolding faults_of
-    judged_after h =
-        record { is = rw (← all_sound, lt-ltb (start t n) (length t) (omega (arith, at_end))); least = λ _. omega arith; most = omega arith }
+    pub judged_after : at < length t → Fault (faults_of t n) (Err R.BlockPast)
+    unfolding faults_of refuse_if
+    judged_after h = rw (← all_sound, lt-ltb (start t n) (length t) (omega (arith, at_end)))
 
-    pub judged_all : length t ≤ at → Fault (faults_of t n) 0
-    unfolding faults_of
-    judged_all h =
-        record { is = rw (← all_sound, le-ltb (start t n) (length t) (omega (arith, at_end))); least = λ x. absurd (x refl); most = omega arith }
+    pub judged_all : length t ≤ at → Fault (faults_of t n) (Ok tt)
+    unfolding faults_of refuse_if
+    judged_all h = rw (← all_sound, le-ltb (start t n) (length t) (omega (arith, at_end)))
 
 -- ---- the telegram
 
-module _ {A : Type 0} (f v : ℕ) (after : Bool) (rest : Answer A) (e : v ≡ cond (eqb f 0) (cond after 28 0) f) where
-  pub faults_refuse : (v ≡ 0 → ⊥) → refused v 0 ≡ refuse_by f (refuse_if after 28 0 rest)
-  unfolding refuse_if
-  faults_refuse n = by (eqb f 0) refl after refl
-    where
-      by : (b : Bool) → eqb f 0 ≡ b → (c : Bool) → after ≡ c → refused v 0 ≡ refuse_by f (refuse_if after 28 0 rest)
-      by true z true y = let q : v ≡ 28 = e ∙ ap₂ (λ (b c : Bool). cond b (cond c 28 0) f) z y in rw (z, y, q)
-      by true z false y = absurd (n (e ∙ ap₂ (λ (b c : Bool). cond b (cond c 28 0) f) z y))
-      by false z c y = let q : v ≡ f = e ∙ ap (λ (b : Bool). cond b (cond after 28 0) f) z in rw (z, q)
-
-  pub faults_pass : v ≡ 0 → rest ≡ refuse_by f (refuse_if after 28 0 rest)
-  unfolding refuse_if
-  faults_pass n = by (eqb f 0) refl after refl
-    where
-      by : (b : Bool) → eqb f 0 ≡ b → (c : Bool) → after ≡ c → rest ≡ refuse_by f (refuse_if after 28 0 rest)
-      by true z true y = let q : v ≡ 28 = e ∙ ap₂ (λ (b c : Bool). cond b (cond c 28 0) f) z y in absurd (lt_irrefl 0 (omega arith))
-      by true z false y = rw (z, y)
-      by false z c y = let q : v ≡ f = e ∙ ap (λ (b : Bool). cond b (cond after 28 0) f) z in absurd (eqb-false f 0 z (omega arith))
+-- the blocks, then octets after the last, as one fault
+in_one : {A : Type 0} (f : ℕ) (after : Bool) (rest : Answer A) → refuse_by f (refuse_if after 28 0 rest) ≡ refuse_by (cond (eqb f 0) (cond after 28 0) f) rest
+unfolding refuse_if
+in_one {A} f after rest = by (eqb f 0) refl after
+  where
+    by : (b : Bool) → eqb f 0 ≡ b → (c : Bool) → refuse_by f (refuse_if c 28 0 rest) ≡ refuse_by (cond (eqb f 0) (cond c 28 0) f) rest
+    by true z true = rw z
+    by true z false = rw z
+    by false z c = rw (z, z)
 
 module _ (t : List ℕ) where
   pub by_short : length t < 30 → refused 21 0 ≡ remedy_reading t
   unfolding remedy_reading refuse_if
   by_short h = rw (lt-ltb (length t) 30 h)
 
-  pub by_long : e_limit (e_code t) < length t → refused 21 0 ≡ remedy_reading t
-  unfolding remedy_reading refuse_if
-  by_long h = rw (lt-ltb (e_limit (e_code t)) (length t) h, or-true)
+  module _ (code most : ℕ) (e : code ≡ e_code t) (m : most ≡ e_limit code) where
+    most_is : most ≡ e_limit (e_code t)
+    most_is = m ∙ ap e_limit e
 
-  module _ (long : 30 ≤ length t) (most : length t ≤ e_limit (e_code t)) where
-    good_length : (ltb (length t) 30 || ltb (e_limit (e_code t)) (length t)) ≡ false
-    good_length = rw (le-ltb (length t) 30 long, le-ltb (e_limit (e_code t)) (length t) most)
+    pub by_long : most < length t → refused 21 0 ≡ remedy_reading t
+    unfolding remedy_reading refuse_if
+    by_long h = rw (lt-ltb (e_limit (e_code t)) (length t) (omega (arith, most_is)), or-true)
 
-    pub by_head : head_rule t ≡ false → refused 29 0 ≡ remedy_reading t
-    unfolding remedy_reading
-    by_head e = goes_past _ 21 0 _ _ good_length (refuses _ 29 0 _ (ap not e))
+    module _ (long : 30 ≤ length t) (short : length t ≤ most) where
+      good_length : (ltb (length t) 30 || ltb (e_limit (e_code t)) (length t)) ≡ false
+      good_length = rw (le-ltb (length t) 30 long, le-ltb (e_limit (e_code t)) (length t) (omega (arith, most_is)))
 
-    module _ (head : head_rule t ≡ true) (v : ℕ) (e : v ≡ faults_of t (block_count t)) where
-      pub by_fault : (v ≡ 0 → ⊥) → refused v 0 ≡ remedy_reading t
+      head_is : head_holds code (ordered t) (block_count t) ≡ head_holds (e_code t) (ordered t) (block_count t)
+      head_is = ap (λ (x : ℕ). head_holds x (ordered t) (block_count t)) e
+
+      pub by_head : head_holds code (ordered t) (block_count t) ≡ false → refused 29 0 ≡ remedy_reading t
+      unfolding remedy_reading
+      by_head h = goes_past _ 21 0 _ _ good_length (refuses _ 29 0 _ (ap not (sym head_is ∙ h)))
+
+      -- what the blocks are refused by, or what the telegram says
+      pub by_blocks : head_holds code (ordered t) (block_count t) ≡ true → (a : Answer (Unit {0})) → a ≡ refuse_by (faults_of t (block_count t)) (gives tt)
+          → and_then a (λ x. gives (remedies_of t)) ≡ remedy_reading t
       unfolding remedy_reading faults_of
-      by_fault n = goes_past _ 21 0 _ _ good_length (goes_past _ 29 0 _ _ (ap not head) (faults_refuse (first_fault (block_fault t) (block_count t)) v (ltb (start t (block_count t)) (length t)) (gives (remedies_of t)) e n))
-
-      pub by_sound : v ≡ 0 → gives (remedies_of t) ≡ remedy_reading t
-      unfolding remedy_reading faults_of
-      by_sound n = goes_past _ 21 0 _ _ good_length (goes_past _ 29 0 _ _ (ap not head) (faults_pass (first_fault (block_fault t) (block_count t)) v (ltb (start t (block_count t)) (length t)) (gives (remedies_of t)) e n))
+      by_blocks h a f =
+          goes_past _ 21 0 _ _ good_length (goes_past _ 29 0 _ _ (ap not (sym head_is ∙ h))
+          (fault_then _ _ a f ∙ sym (in_one (first_fault (block_fault t) (block_count t)) (ltb (start t (block_count t)) (length t)) (gives (remedies_of t)))))
 
 -- ---- what is answered of a block
 
@@ -312,47 +298,30 @@ module _ (t : List ℕ) (k : ℕ) where
   unfolding remedy_block
   by_last m e h = rw (sym e, le-ltb k m.count h) refl
 
-  pub by_refusal : (n at : ℕ) → refused n at ≡ remedy_reading t → refused n at ≡ remedy_block t k
-  unfolding remedy_block
-  by_refusal n at e = rw (sym e) refl
-
   -- its text
-  pub by_found : (b : Remedy) → gives (found b) ≡ remedy_block t k → take b.size (drop b.at t) ≡ remedy_text t k
+  pub by_found : (b : place.Remedy) → gives (found (placed b)) ≡ remedy_block t k → take b.size (drop b.at t) ≡ remedy_text t k
   unfolding remedy_text
   by_found b e = ap (text_in t) e
 
-  pub by_nothing : gives nothing ≡ remedy_block t k → take 0 (drop 0 t) ≡ remedy_text t k
+  pub by_nothing : gives nothing ≡ remedy_block t k → [] ≡ remedy_text t k
   unfolding remedy_text
   by_nothing e = ap (text_in t) e
 
-  pub by_refused : (n at : ℕ) → refused n at ≡ remedy_block t k → take 0 (drop 0 t) ≡ remedy_text t k
+  pub by_refused : (n at : ℕ) → refused n at ≡ remedy_block t k → [] ≡ remedy_text t k
   unfolding remedy_text
   by_refused n at e = ap (text_in t) e
 
 -- ---- the contract settles the answer
 
-told : Answer Remedies → RemediesRead
-told (gives m) = M.Read (record { language = m.language; ordered = m.ordered; count = m.count })
-told (refused n at) = M.Refused (numbered n at)
+pub one_remedies : (a : Answer Remedies) (v w : Result code.Remedies Refusal) → read_answer v ≡ a → read_answer w ≡ a → v ≡ w
+one_remedies = one_result remedies_read (λ m. record { language = m.language; ordered = m.ordered; count = m.count }) (λ x. refl)
 
-told_of_lem : (r : RemediesRead) → told (read_answer r) ≡ r
-unfolding told
-told_of_lem (M.Read m) = refl
-told_of_lem (M.Refused f) = ap M.Refused (numbered_of f)
+back : Remedy → place.Remedy
+back b = record { key = b.key; at = b.at; size = b.size }
 
-pub one_remedies : (a : Answer Remedies) (v w : RemediesRead) → read_answer v ≡ a → read_answer w ≡ a → v ≡ w
-one_remedies = one_answer read_answer told told_of_lem
+back_of : (b : place.Remedy) → back (placed b) ≡ b
+unfolding back
+back_of b = refl
 
-block_told : Answer (Sought Remedy) → RemedyRead
-block_told (gives (found b)) = B.Found (record { key = b.key; at = b.at; size = b.size })
-block_told (gives nothing) = B.Nothing
-block_told (refused n at) = B.Refused (numbered n at)
-
-block_told_of : (r : RemedyRead) → block_told (remedy_answer r) ≡ r
-unfolding block_told
-block_told_of (B.Found b) = refl
-block_told_of B.Nothing = refl
-block_told_of (B.Refused f) = ap B.Refused (numbered_of f)
-
-pub one_remedy : (a : Answer (Sought Remedy)) (v w : RemedyRead) → remedy_answer v ≡ a → remedy_answer w ≡ a → v ≡ w
-one_remedy = one_answer remedy_answer block_told block_told_of
+pub one_remedy : (a : Answer (Sought Remedy)) (v w : Result (Option place.Remedy) Refusal) → remedy_answer v ≡ a → remedy_answer w ≡ a → v ≡ w
+one_remedy = one_result (sought_of placed) (sought_told back) (sought_told_of placed back back_of)

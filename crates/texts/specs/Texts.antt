@@ -1,16 +1,14 @@
--- A block's faults by a set of keys, and the paper's answer for each case of the code's enums.
-use Rattle.std.specs.Prelude.{ℕ, ◌-◌, ◌/◌, ◌%◌, ◌^◌, ◌≤◌, ◌≡◌, Bool, cond, ◌&&◌, List, [], ◌∷◌, ltb, leb, eqb, length}
-use Rattle.paper.specs.Answer.{Answer, gives, Sought, found, nothing}
+-- A block's faults by a set of keys, and the paper's answer for each result of a call.
+use Rattle.std.specs.Prelude.{Option, Result, ℕ, ◌-◌, ◌/◌, ◌%◌, ◌^◌, ◌≤◌, ◌≡◌, Bool, cond, ◌&&◌, List, [], ◌∷◌, ltb, leb, eqb, length}
+use Rattle.paper.specs.Answer.{Answer, gives, Sought}
 use Rattle.paper.specs.First.{first_of, some}
 use Rattle.paper.specs.Remedies as paper
-use Rattle.paper.specs.Remedies.{key_at, past, broken, start, block_fault, first_fault}
+use Rattle.paper.specs.Remedies.{key_at, past, broken, start, block_fault, first_fault, refuse_by}
 use Rattle.paper.specs.ETelegrams.{remedy_code}
-use Rattle.refusals.specs.Refusal.{refusal_of}
-use Rattle.texts.specs.declared.RemediesRead.{RemediesRead}
-use Rattle.texts.specs.declared.RemediesRead.TheVariants as R
+use Rattle.refusals.specs.declared.Refusal.{Refusal}
+use Rattle.refusals.specs.Outcome.{answer_of, sought_of, outcome_of}
+use Rattle.texts.specs.declared.Remedies.{Remedies}
 use Rattle.texts.specs.declared.Remedy.{Remedy}
-use Rattle.texts.specs.declared.RemedyRead.{RemedyRead}
-use Rattle.texts.specs.declared.RemedyRead.TheVariants as B
 
 -- key x is in the set: its bit x - 1
 abbrev pub holds : ℕ → ℕ → Bool
@@ -27,11 +25,9 @@ Holds key n set = (x : ℕ) → 1 ≤ x → x ≤ 8 → holds set x ≡ some (λ
 unfoldable pub faults_of : List ℕ → ℕ → ℕ
 faults_of t n = cond (eqb (first_fault (block_fault t) n) 0) (cond (ltb (start t n) (length t)) 28 0) (first_fault (block_fault t) n)
 
--- a number that a block is refused by, or 0
-pub record Fault (expected r : ℕ) : Type 0 where
-  pub is : r ≡ expected
-  pub least : (r ≡ 0 → ⊥) → 28 ≤ r
-  pub most : r ≤ 30
+-- refused by this number, and by none where it is 0
+abbrev pub Fault : ℕ → Result (Unit {0}) Refusal → Type 0
+Fault expected r = outcome_of r ≡ refuse_by expected (gives tt)
 
 -- the paper's `head_rule` by its numbers
 abbrev pub head_holds : ℕ → ℕ → ℕ → Bool
@@ -40,11 +36,11 @@ head_holds code ordered count = eqb code remedy_code && leb ordered 1 && leb 1 c
 abbrev pub placed : Remedy → paper.Remedy
 placed b = record { key = b.key; at = b.at; size = b.size }
 
-abbrev pub read_answer : RemediesRead → Answer paper.Remedies
-read_answer (R.Read r) = gives (record { language = r.language; ordered = r.ordered; count = r.count })
-read_answer (R.Refused f) = refusal_of f
+abbrev pub remedies_read : Remedies → paper.Remedies
+remedies_read r = record { language = r.language; ordered = r.ordered; count = r.count }
 
-abbrev pub remedy_answer : RemedyRead → Answer (Sought paper.Remedy)
-remedy_answer (B.Found b) = gives (found (placed b))
-remedy_answer B.Nothing = gives nothing
-remedy_answer (B.Refused f) = refusal_of f
+abbrev pub read_answer : Result Remedies Refusal → Answer paper.Remedies
+read_answer = answer_of remedies_read
+
+abbrev pub remedy_answer : Result (Option Remedy) Refusal → Answer (Sought paper.Remedy)
+remedy_answer = answer_of (sought_of placed)

@@ -2,61 +2,39 @@
 // What has a `requires` is inner: its caller in the library shows it.
 #![tactic(auto)]
 
-ghost use Rattle.std.specs.Prelude.{◌≡◌, ◌+◌, ◌-◌, ◌*◌, ◌^◌, ◌<◌, ◌≤◌, min, length, get_or, take, drop};
+ghost use Rattle.std.specs.Prelude.{◌≡◌, ◌+◌, ◌-◌, ◌*◌, ◌^◌, ◌<◌, ◌≤◌, length, get_or, take, drop};
 ghost use Rattle.std.specs.Int.Bits.{bit_or};
 ghost use Rattle.paper.specs.Octets.{number};
 ghost use Rattle.paper.specs.Remedies.{start, field_rule, remedy_of, remedy_reading, remedy_block, remedy_text};
-ghost use Rattle.refusals.specs.Refusal.{number_of, carried_of};
 ghost use Rattle.texts.specs.Texts.{holds, fault_at, Fault, faults_of, head_holds, placed, read_answer, remedy_answer};
 
 use refusals::Refusal;
 
 // What a telegram says beside its blocks; ordered: octet 23, 1 where the language is the one ordered.
-#[derive(Clone, Copy)]
+#[derive(Clone, Copy, Debug, PartialEq, Eq)]
 pub struct Remedies {
     pub language: u16,
     pub ordered: u8,
     pub count: u8,
 }
 
-#[derive(Clone, Copy)]
-pub enum RemediesRead {
-    Read(Remedies),
-    Refused(Refusal),
-}
-
 // A block's key, and where its text stands: `size` octets, the first of them at `at`, counted from 0.
-#[derive(Clone, Copy)]
+#[derive(Clone, Copy, Debug, PartialEq, Eq)]
 pub struct Remedy {
     pub key: u8,
     pub at: usize,
     pub size: usize,
 }
 
-#[derive(Clone, Copy)]
-pub enum RemedyRead {
-    Found(Remedy),
-    Nothing,
-    Refused(Refusal),
-}
-
-fn least(a: usize, b: usize) -> usize
-    ensures { result ≡ min a b }
-{
-    if a < b { a } else { b }
-}
-
 // Octet i, 0 past the end.
 pub fn octet(s: &[u8], i: usize) -> u8
     ensures { result ≡ get_or s.now i 0 }
 {
-    if s.len() <= i {
-        return 0;
-    }
-    s[i]
+    s.get(i).copied().unwrap_or(0)
 }
 
 // Inner: the number of two octets from `at` on, of which those past the end count as 0.
+#[tactic(auto, using(paper::proofs::NumberLaws::number_two))]
 fn number_at(s: &[u8], at: usize) -> usize
     requires { at < 2 ^ 32 }
     ensures { (result ≡ number s.now at 2) × (result < 65536) }
@@ -68,22 +46,20 @@ fn number_at(s: &[u8], at: usize) -> usize
 pub fn part(s: &[u8], a: usize, n: usize) -> &[u8]
     ensures { result.now ≡ take n (drop a s.now) }
 {
-    let len = s.len();
-    let b = least(a, len);
-    let e = b + least(n, len - b);
-    &s[b..e]
+    let from = a.min(s.len());
+    let size = n.min(s.len() - from);
+    &s[from..from + size]
 }
 
 // Where block k starts, by the lengths of those before it.
+#[tactic(auto, using(crate::proofs::Laws::start_none, crate::proofs::Laws::start_more))]
 fn start_of(telegram: &[u8], k: usize) -> usize
     requires { k ≤ 255 }
     ensures { (result ≡ start telegram.now k) × (result ≤ 30 + 65535 * k) }
 {
     let mut at = 30;
-    let mut i = 0;
-    while i < k {
+    for _ in 0..k {
         at += number_at(telegram, at);
-        i += 1;
     }
     at
 }
@@ -123,66 +99,47 @@ pub fn field_rule(key: u8, size: usize) -> bool
     (1 <= key) & (key <= 8) & (size % 2 == 0) & (size <= 254)
 }
 
-// The lowest number of the block that starts at `at`, by the keys seen before it; 0 for none.
-fn fault(telegram: &[u8], at: usize, seen: u8) -> u8
+// Refuses the block that starts at `at` by its lowest number, by the keys seen before it.
+#[tactic(auto, using(crate::proofs::Laws::past_first, crate::proofs::Laws::past_length, crate::proofs::Laws::not_past, crate::proofs::Laws::by_past, crate::proofs::Laws::by_broken, crate::proofs::Laws::by_twice, crate::proofs::Laws::by_none))]
+fn fault(telegram: &[u8], at: usize, seen: u8) -> Result<(), Refusal>
     requires { at ≤ length telegram.now }
-    ensures { result ≡ fault_at telegram.now at seen }
+    ensures { Fault (fault_at telegram.now at seen) result }
 {
     let left = telegram.len() - at;
     if left < 6 {
-        return 28;
+        return Err(Refusal::BlockPast);
     }
     let size = octets::read16(telegram, at);
     if left < size {
-        return 28;
+        return Err(Refusal::BlockPast);
     }
     let key = telegram[at + 2];
     let text = octets::read16(telegram, at + 4);
-    let ok = field_rule(key, text);
-    if !(ok & (size == 6 + text)) {
-        return 29;
+    if !(field_rule(key, text) & (size == 6 + text)) {
+        return Err(Refusal::RemedyField);
     }
     if has(seen, key) {
-        return 30;
+        return Err(Refusal::KeyTwice);
     }
-    0
+    Ok(())
 }
 
-// The number of the first of n blocks that has one, then 28 for octets after the last; 0 for none.
-fn first_fault(telegram: &[u8], n: usize) -> u8
+// Refuses the first of n blocks that has a fault, then octets after the last.
+fn first_fault(telegram: &[u8], n: usize) -> Result<(), Refusal>
     requires { 30 ≤ length telegram.now }
     ensures { Fault (faults_of telegram.now n) result }
 {
     let mut at = 30;
     let mut seen = 0u8;
-    let mut k = 0;
-    while k < n {
-        let f = fault(telegram, at, seen);
-        if f != 0 {
-            return f;
-        }
+    for _ in 0..n {
+        fault(telegram, at, seen)?;
         seen = with(seen, telegram[at + 2]);
         at += octets::read16(telegram, at);
-        k += 1;
     }
     if at < telegram.len() {
-        return 28;
+        return Err(Refusal::BlockPast);
     }
-    0
-}
-
-// Inner: the refusal of a block's number.
-pub fn refusal(f: u8) -> Refusal
-    requires { (28 ≤ f) × (f ≤ 30) }
-    ensures { (number_of result ≡ f) × (carried_of result ≡ 0) }
-{
-    if f == 28 {
-        return Refusal::BLOCK_PAST;
-    }
-    if f == 29 {
-        return Refusal::REMEDY_FIELD;
-    }
-    Refusal::KEY_TWICE
+    Ok(())
 }
 
 // Octets 7 to 24.
@@ -193,27 +150,24 @@ fn head_rule(code: u16, ordered: u8, count: u8) -> bool
 }
 
 // Judges a telegram, and gives what it says beside its blocks. Refused: 21, 28, 29, 30.
-pub fn read_remedies(telegram: &[u8]) -> RemediesRead
+pub fn read_remedies(telegram: &[u8]) -> Result<Remedies, Refusal>
     ensures { read_answer result ≡ remedy_reading telegram.now }
 {
     if telegram.len() < 30 {
-        return RemediesRead::Refused(Refusal::E_LENGTH);
+        return Err(Refusal::ELength);
     }
     let code = octets::read16(telegram, 6) as u16;
     if etelegrams::e_limit(code) < telegram.len() {
-        return RemediesRead::Refused(Refusal::E_LENGTH);
+        return Err(Refusal::ELength);
     }
     let ordered = telegram[22];
     let count = telegram[23];
     if !head_rule(code, ordered, count) {
-        return RemediesRead::Refused(Refusal::REMEDY_FIELD);
+        return Err(Refusal::RemedyField);
     }
-    let f = first_fault(telegram, octets::wide(count));
-    if f != 0 {
-        return RemediesRead::Refused(refusal(f));
-    }
+    first_fault(telegram, octets::wide(count))?;
     let language = octets::read16(telegram, 20) as u16;
-    RemediesRead::Read(Remedies {
+    Ok(Remedies {
         language,
         ordered,
         count,
@@ -221,27 +175,24 @@ pub fn read_remedies(telegram: &[u8]) -> RemediesRead
 }
 
 // Block k of a telegram that is read: its key, and where its text stands; nothing past the last. Refused as above.
-pub fn remedy_block(telegram: &[u8], k: usize) -> RemedyRead
+#[tactic(auto, using(crate::proofs::Laws::by_block, crate::proofs::Laws::by_last, refusals::proofs::WrittenLaws::stays_err), unfolding(paper::specs::Remedies::remedy_block))]
+pub fn remedy_block(telegram: &[u8], k: usize) -> Result<Option<Remedy>, Refusal>
     ensures { remedy_answer result ≡ remedy_block telegram.now k }
 {
-    match read_remedies(telegram) {
-        RemediesRead::Refused(f) => RemedyRead::Refused(f),
-        RemediesRead::Read(m) => {
-            if k < octets::wide(m.count) {
-                return RemedyRead::Found(block_of(telegram, k));
-            }
-            RemedyRead::Nothing
-        }
+    let read = read_remedies(telegram)?;
+    if k < octets::wide(read.count) {
+        return Ok(Some(block_of(telegram, k)));
     }
+    Ok(None)
 }
 
 // Its text, as the part of the telegram it stands in; no octet of a telegram that is refused, and none past the last block.
+#[tactic(auto, using(crate::proofs::Laws::by_found, crate::proofs::Laws::by_nothing, crate::proofs::Laws::by_refused))]
 pub fn remedy_text(telegram: &[u8], k: usize) -> &[u8]
     ensures { result.now ≡ remedy_text telegram.now k }
 {
     match remedy_block(telegram, k) {
-        RemedyRead::Found(b) => part(telegram, b.at, b.size),
-        RemedyRead::Nothing => part(telegram, 0, 0),
-        RemedyRead::Refused(f) => part(telegram, 0, 0),
+        Ok(Some(block)) => part(telegram, block.at, block.size),
+        _ => &[],
     }
 }
