@@ -1,10 +1,8 @@
--- The answer that each case of the code's enum stands for.
-use Rattle.std.specs.Prelude.{ℕ}
-use Rattle.paper.specs.Answer.{Answer, gives}
-use Rattle.refusals.specs.Refusal.{refusal_of}
-use Rattle.grouping.specs.declared.Place.{Place}
-use Rattle.grouping.specs.declared.Place.TheVariants.{At, Refused}
+-- The answer that each result of the code stands for.
+use Rattle.std.specs.Prelude.{ℕ, Result}
+use Rattle.paper.specs.Answer.{Answer}
+use Rattle.refusals.specs.declared.Refusal.{Refusal}
+use Rattle.refusals.specs.Outcome.{answer_of}
 
-abbrev pub place_answer : Place → Answer ℕ
-place_answer (At place) = gives place
-place_answer (Refused f) = refusal_of f
+abbrev pub place_answer : Result ℕ Refusal → Answer ℕ
+place_answer = answer_of (λ x. x)

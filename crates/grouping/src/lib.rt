@@ -8,20 +8,14 @@ ghost use Rattle.grouping.specs.Place.{place_answer};
 use refusals::Refusal;
 
 // A check place and the bits that it covers, from `from` up to and without `end`, all bit addresses.
-#[derive(Clone, Copy)]
+#[derive(Clone, Copy, Debug, PartialEq, Eq)]
 pub struct Row {
     pub place: usize,
     pub from: u64,
     pub end: u64,
 }
 
-#[derive(Clone, Copy)]
-pub enum Place {
-    At(usize),
-    Refused(Refusal),
-}
-
-const ROWS: [Row; 17] = [
+static ROWS: [Row; 17] = [
     Row {
         place: 320,
         from: 368,
@@ -110,18 +104,13 @@ const ROWS: [Row; 17] = [
 ];
 
 // The check place of the bit at an address.
-pub fn check_place(bit: u64) -> Place
+pub fn check_place(bit: u64) -> Result<usize, Refusal>
     ensures { place_answer result ≡ check_place bit }
 {
-    // Once, and not at each turn: a constant is built where it stands.
-    let rows = ROWS;
-    for i in 0..17usize {
-        let row = rows[i];
-        if row.from <= bit {
-            if bit < row.end {
-                return Place::At(row.place);
-            }
+    for row in &ROWS {
+        if row.from <= bit && bit < row.end {
+            return Ok(row.place);
         }
     }
-    Place::Refused(Refusal::NO_CHECK_PLACE)
+    Err(Refusal::NoCheckPlace)
 }
