@@ -10,15 +10,16 @@ use borrow.Author.Tests.{le-leb, lt-leb, eq-eqb, ne_eqb, le-ltb, eqb-true, eqb-f
 use lib.Dec.{eqb, leb, ltb}
 use lib.ListN.{length}
 use lib.Pow.{pow_mono}
-use Rattle.paper.specs.Answer.{Answer, gives, refused}
+use Rattle.paper.specs.Answer.{Answer, refused}
 use Rattle.paper.specs.Train.{Vehicle, Members, consist_rule, is_address, member, set_to, members_of, resolving}
 use Rattle.paper.proofs.FirstLaws.{count_none, none_counted}
 use Rattle.bools.proofs.Tests.{neither}
-use Rattle.paper.proofs.AnswerLaws.{refuses, goes_past, not_here, last_here, one_answer}
-use Rattle.refusals.proofs.Laws.{numbered, numbered_of}
-use Rattle.train.specs.declared.Resolved.{Resolved}
-use Rattle.train.specs.declared.Resolved.TheVariants as R
-use Rattle.train.specs.Marks.{resolved_answer}
+use Rattle.paper.proofs.AnswerLaws.{refuses, goes_past, not_here, last_here}
+use Rattle.std.specs.Prelude.{Result}
+use Rattle.refusals.specs.declared.Refusal.{Refusal}
+use Rattle.refusals.proofs.WrittenLaws.{one_result}
+use Rattle.train.specs.declared.Members as code
+use Rattle.train.specs.Marks.{members_as, resolved_answer}
 use Rattle.paper.proofs.SetLaws.{set_lt, bits, even}
 
 -- bit v of the set is 1 exactly if vehicle v is in the train and meets the address
@@ -69,14 +70,5 @@ refused_20 train a e =
 
 -- ---- the contract settles the answer
 
-told : Answer Members → Resolved
-told (gives m) = R.Members (record { set = m.set; size = m.size })
-told (refused n at) = R.Refused (numbered n at)
-
-told_of_lem : (r : Resolved) → told (resolved_answer r) ≡ r
-unfolding told
-told_of_lem (R.Members m) = refl
-told_of_lem (R.Refused f) = ap R.Refused (numbered_of f)
-
-pub one_resolved : (a : Answer Members) (v w : Resolved) → resolved_answer v ≡ a → resolved_answer w ≡ a → v ≡ w
-one_resolved = one_answer resolved_answer told told_of_lem
+pub one_resolved : (a : Answer Members) (v w : Result code.Members Refusal) → resolved_answer v ≡ a → resolved_answer w ≡ a → v ≡ w
+one_resolved = one_result members_as (λ m. record { set = m.set; size = m.size }) (λ m. refl)

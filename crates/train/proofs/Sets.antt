@@ -2,9 +2,9 @@
 use mathlib.Core.Path.{◌≡◌, sym, ap, ◌∙◌}
 use mathlib.Core.Bool.{Bool, cond}
 use Prim.Native.Nat.{ℕ, suc, ◌+◌, ◌*◌, ◌^◌, ◌≤◌, ◌<◌}
-use native.Mathlib.Nat.{zero-mul, mul_assoc, add_comm, add-mul, mul-le-mul_left, lt_of_lt_of_le, pow-succ'}
+use native.Mathlib.Nat.{zero-mul, mul_assoc, add_comm, add-mul, mul-le-mul_left, lt_of_lt_of_le}
 use native.Mathlib.Omega.{arith}
-use lib.Pow.{pow-add, pow_pos, pow_mono}
+use lib.Pow.{pow-add, pow_mono}
 use Rattle.paper.specs.Train.{set_to}
 use Rattle.paper.proofs.SetLaws.{digit, set_lt}
 use Rattle.train.specs.Marks.{above}
@@ -27,9 +27,8 @@ pub above_all : (p : ℕ → Bool) (n s : ℕ) → above p n 0 s → s * 2 ≡ s
 unfolding set_to
 above_all p n s h = omega (arith, h)
 
-pub above_fits : (p : ℕ → Bool) (n i s : ℕ) → n ≤ 63 → above p n i s → s * 2 < 2 ^ 64
-above_fits p n i s few h =
-    let one : 2 ≤ 2 ^ suc i = omega (arith, pow-succ' 2 i, pow_pos i) in
-    let l : s * 2 ≤ s * 2 ^ suc i = mul-le-mul_left s one in
+pub above_fits : (p : ℕ → Bool) (n i d s : ℕ) → n ≤ 63 → d ≤ suc i → above p n i s → s * 2 ^ d < 2 ^ 64
+above_fits p n i d s few less h =
+    let l : s * 2 ^ d ≤ s * 2 ^ suc i = mul-le-mul_left s (pow_mono less) in
     let t : set_to p n < 2 ^ 64 = lt_of_lt_of_le (set_lt p n) (pow_mono {i = suc n} {j = 64} (omega arith)) in
     omega (arith, h)

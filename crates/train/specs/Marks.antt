@@ -1,10 +1,10 @@
--- A vehicle of the paper as a plain mark octet, and which case of the code's enum stands for which of the paper's answers.
-use Rattle.std.specs.Prelude.{◌≡◌, Bool, cond, List, map, ℕ, suc, ◌+◌, ◌-◌, ◌*◌, ◌/◌, ◌%◌, ◌^◌, eqb, length, get_or}
-use Rattle.paper.specs.Answer.{Answer, gives}
+-- A vehicle of the paper as a plain mark octet, and which result of the code stands for which of the paper's answers.
+use Rattle.std.specs.Prelude.{◌≡◌, Result, Bool, cond, List, map, ℕ, suc, ◌+◌, ◌-◌, ◌*◌, ◌/◌, ◌%◌, ◌^◌, eqb, length, get_or}
+use Rattle.paper.specs.Answer.{Answer}
 use Rattle.paper.specs.Train as paper
-use Rattle.refusals.specs.Refusal.{refusal_of}
-use Rattle.train.specs.declared.Resolved.{Resolved}
-use Rattle.train.specs.declared.Resolved.TheVariants as R
+use Rattle.refusals.specs.declared.Refusal.{Refusal}
+use Rattle.refusals.specs.Outcome.{answer_of}
+use Rattle.train.specs.declared.Members.{Members}
 
 -- the mark of weight w is set; the three high bits are not read
 abbrev pub marked : ℕ → ℕ → Bool
@@ -17,9 +17,11 @@ vehicle_of m = record { leading = eqb (m % 2) 1; coach = marked 2 m; tractive = 
 abbrev pub octet_of : paper.Vehicle → ℕ
 octet_of v = cond v.leading 1 0 + cond v.coach 2 0 + cond v.tractive 4 0 + cond v.led 8 0 + cond v.sleeping 16 0
 
-abbrev pub resolved_answer : Resolved → Answer paper.Members
-resolved_answer (R.Members m) = gives (record { set = m.set; size = m.size })
-resolved_answer (R.Refused f) = refusal_of f
+abbrev pub members_as : Members → paper.Members
+members_as m = record { set = m.set; size = m.size }
+
+abbrev pub resolved_answer : Result Members Refusal → Answer paper.Members
+resolved_answer = answer_of members_as
 
 -- the paper's definitions over mark octets: what each function of the code answers
 abbrev pub meets_of : ℕ → ℕ → ℕ → Bool

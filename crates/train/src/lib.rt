@@ -8,16 +8,10 @@ ghost use Rattle.train.specs.Marks.{vehicle_of, led_ok, consist_ok, with_mark, a
 use refusals::Refusal;
 
 // The vehicles that meet an address: bit v of the set, worth 2^v, is vehicle v, and size counts them.
-#[derive(Clone, Copy)]
+#[derive(Clone, Copy, Debug, PartialEq, Eq)]
 pub struct Members {
     pub set: u64,
     pub size: u32,
-}
-
-#[derive(Clone, Copy)]
-pub enum Resolved {
-    Members(Members),
-    Refused(Refusal),
 }
 
 // Led needs tractive and not leading.
@@ -34,9 +28,9 @@ pub fn consist_ok(marks: &[u8]) -> bool
 {
     let mut leading = 0u8;
     let mut led = true;
-    for i in 0..marks.len() {
-        leading += marks[i] % 2;
-        led = led & led_ok(marks[i]);
+    for m in marks {
+        leading += *m % 2;
+        led &= led_ok(*m);
     }
     (leading <= 1) & led
 }
@@ -44,7 +38,7 @@ pub fn consist_ok(marks: &[u8]) -> bool
 fn is_address(address: u64) -> bool
     ensures { result ≡ is_address address }
 {
-    (1 <= address) & (address <= 67) | (address == 70) | (address == 92)
+    matches!(address, 1..=67 | 70 | 92)
 }
 
 // Vehicle v alone, where the train of n has it.
@@ -52,20 +46,14 @@ fn vehicle(n: usize, v: u64) -> u64
     requires { n ≤ 63 }
     ensures { result ≡ set_to (λ i. eqb i v) n }
 {
-    if v == 0 {
-        return 0;
-    }
-    if (n as u64) < v {
-        return 0;
-    }
-    1u64 << v
+    if v == 0 || (n as u64) < v { 0 } else { 1 << v }
 }
 
 fn all(n: usize) -> u64
     requires { n ≤ 63 }
     ensures { result ≡ set_to (λ _. true) n }
 {
-    ((1u64 << n) - 1) * 2
+    ((1 << n) - 1) * 2
 }
 
 // 1 if mark k is set: 0 leading, 1 coach, 2 tractive, 3 led, 4 sleeping.
@@ -91,13 +79,9 @@ fn past_fours(marks: &[u8], k: u8) -> u64
     requires { (length marks.now ≤ 63) × (k < 8) }
     ensures { above (with_mark marks.now k) (length marks.now) (length marks.now / 4 * 4) result }
 {
-    let end = marks.len() / 4 * 4;
-    let mut set = 0u64;
-    let mut i = marks.len();
-    while end < i {
-        i -= 1;
-        let one = mark(marks[i], k);
-        set = set * 2 + one;
+    let mut set = 0;
+    for i in (marks.len() / 4 * 4..marks.len()).rev() {
+        set = set * 2 + mark(marks[i], k);
     }
     set
 }
@@ -108,11 +92,8 @@ fn with_mark(marks: &[u8], k: u8) -> u64
     ensures { result ≡ set_to (with_mark marks.now k) (length marks.now) }
 {
     let mut set = past_fours(marks, k);
-    let mut fours = marks.len() / 4;
-    while 0 < fours {
-        fours -= 1;
-        let next = four(marks, fours * 4, k);
-        set = set * 16 + next;
+    for fours in (0..marks.len() / 4).rev() {
+        set = set * 16 + four(marks, fours * 4, k);
     }
     set * 2
 }
@@ -121,10 +102,8 @@ fn set_of(marks: &[u8], address: u64) -> u64
     requires { length marks.now ≤ 63 }
     ensures { result ≡ set_of marks.now address }
 {
-    if address <= 63 {
-        return vehicle(marks.len(), address);
-    }
     match address {
+        0..=63 => vehicle(marks.len(), address),
         64 => with_mark(marks, 0),
         65 => with_mark(marks, 3),
         66 => all(marks.len()),
@@ -137,25 +116,22 @@ fn set_of(marks: &[u8], address: u64) -> u64
 
 // The vehicles of the train that meet the address. Refused: 17 for the number of vehicles, 18 for the consist's rule,
 // 19 for the address, 20 if nobody meets it.
-pub fn resolve(marks: &[u8], address: u64) -> Resolved
+pub fn resolve(marks: &[u8], address: u64) -> Result<Members, Refusal>
     ensures { resolved_answer result ≡ resolving (map vehicle_of marks.now) address }
 {
-    if marks.len() == 0 {
-        return Resolved::Refused(Refusal::CONSIST_LENGTH);
-    }
-    if 63 < marks.len() {
-        return Resolved::Refused(Refusal::CONSIST_LENGTH);
+    if marks.is_empty() || 63 < marks.len() {
+        return Err(Refusal::ConsistLength);
     }
     if !consist_ok(marks) {
-        return Resolved::Refused(Refusal::CONSIST_RULE);
+        return Err(Refusal::ConsistRule);
     }
     if !is_address(address) {
-        return Resolved::Refused(Refusal::ADDRESS_UNLISTED);
+        return Err(Refusal::AddressUnlisted);
     }
     let set = set_of(marks, address);
-    let size = u64::count_ones(set);
+    let size = set.count_ones();
     if size == 0 {
-        return Resolved::Refused(Refusal::NOBODY_MEETS);
+        return Err(Refusal::NobodyMeets);
     }
-    Resolved::Members(Members { set, size })
+    Ok(Members { set, size })
 }

@@ -13,34 +13,30 @@ use Rattle.train.proofs.Over.{map_length, map_at, digit_of_lem, all_more, count_
 use Rattle.train.proofs.consist_ok.Goals as goal
 use Rattle.train.proofs.consist_ok.Invariants.{leads, obeys}
 
-pub loop-i-init : goal.loop-i-init
+pub loop-m-init : goal.loop-m-init
 unfolding count
-loop-i-init c =
-    let marks = c.args.marks.now in
-    (refl, omega arith, refl, sym (all_true (obeys marks) 0 (λ k h. absurd (omega arith))))
+loop-m-init c = (refl, sym (all_true (obeys c.args.marks.now) 0 (λ k h. absurd (omega arith))))
 
 pub overflow_add-leading : goal.overflow_add-leading
 overflow_add-leading c =
-    let n = count_le (leads c.args.marks.now) c.loop-i.i in
+    let n = count_le (leads c.args.marks.now) c.loop-m.m-index in
     omega (arith, n)
 
-pub loop-i-preserved : goal.loop-i-preserved
-loop-i-preserved c =
+pub loop-m-preserved : goal.loop-m-preserved
+loop-m-preserved c =
     let marks = c.args.marks.now in
-    let i = c.loop-i.i in
+    let i = c.loop-m.m-index in
     let m = get_or marks i 0 in
     let leading : m % 2 ≡ cond (leads marks i) 1 0 = digit_of_lem m ∙ ap (λ (v : Vehicle). cond v.leading 1 0) (sym (map_at marks i)) in
-    let led : c.led_ok-led.result ≡ obeys marks i = c.led_ok-led.ensures ∙ ap led_rule (sym (map_at marks i)) in (
-      refl,
-      omega arith,
-      ap₂ ◌+◌ c.loop-i.invariant.2 leading ∙ sym (count_more (leads marks) i),
-      ap₂ ◌&&◌ c.loop-i.invariant.3 led ∙ sym (all_more (obeys marks) i),
+    let led = c.led_ok-led.ensures ∙ ap led_rule (sym (map_at marks i)) in (
+      ap₂ ◌+◌ c.loop-m.invariant.0 leading ∙ sym (count_more (leads marks) i),
+      ap₂ ◌&&◌ c.loop-m.invariant.1 led ∙ sym (all_more (obeys marks) i),
     )
 
 pub returns : goal.returns
 unfolding consist_rule
 returns c =
     let marks = c.args.marks.now in
-    let end : c.loop-i.i ≡ length marks = omega arith in
-    let at : c.loop-i.i ≡ length (map vehicle_of marks) = end ∙ sym (map_length marks) in
-    ap₂ (λ (n : ℕ) (b : Bool). leb n 1 && b) (c.loop-i.invariant.2 ∙ ap (count (leads marks)) at) (c.loop-i.invariant.3 ∙ ap (all (obeys marks)) at)
+    let end : c.loop-m.m-index ≡ length marks = omega arith in
+    let at : c.loop-m.m-index ≡ length (map vehicle_of marks) = end ∙ sym (map_length marks) in
+    ap₂ (λ (n : ℕ) (b : Bool). leb n 1 && b) (c.loop-m.invariant.0 ∙ ap (count (leads marks)) at) (c.loop-m.invariant.1 ∙ ap (all (obeys marks)) at)

@@ -2,8 +2,8 @@
 use mathlib.Core.Path.{◌≡◌}
 use mathlib.Core.Bool.{Bool}
 use mathlib.Core.List.{List, map}
-use Prim.Native.Nat.{ℕ, ◌-◌, ◌≤◌}
-use lib.ListN.{length, get_or}
+use Prim.Native.Nat.{ℕ}
+use lib.ListN.{get_or}
 use Rattle.paper.specs.First.{all, count}
 use Rattle.paper.specs.Train.{no_vehicle, led_rule}
 use Rattle.train.specs.Marks.{vehicle_of}
@@ -15,8 +15,5 @@ leads marks k = (get_or (map vehicle_of marks) k no_vehicle).leading
 abbrev pub obeys : List ℕ → ℕ → Bool
 obeys marks k = led_rule (get_or (map vehicle_of marks) k no_vehicle)
 
-abbrev pub invariant-loop-i : goal.invariant-loop-i
-invariant-loop-i l = (l.i-end ≡ length l.marks) × (l.i ≤ length l.marks) × (l.leading ≡ count (leads l.marks) l.i) × (l.led ≡ all (obeys l.marks) l.i)
-
-abbrev pub decreases-loop-i : goal.decreases-loop-i
-decreases-loop-i l = length l.marks - l.i
+abbrev pub invariant-loop-m : goal.invariant-loop-m
+invariant-loop-m l = (l.leading ≡ count (leads l.marks) l.m-index) × (l.led ≡ all (obeys l.marks) l.m-index)

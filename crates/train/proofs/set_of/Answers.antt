@@ -12,11 +12,11 @@ use Rattle.paper.proofs.SetLaws.{set_none}
 use Rattle.train.proofs.Over.{set_meets, set_marked}
 use Rattle.train.proofs.set_of.Goals as goal
 
-pub returns-then-address-le63 : goal.returns-then-address-le63
+pub returns-in-0-to-63 : goal.returns-in-0-to-63
 unfolding meets
-returns-then-address-le63 c =
+returns-in-0-to-63 c =
     let a = c.args in
-    c.vehicle.ensures ∙ set_meets a.marks.now a.address (λ v. eqb v a.address) (λ i. simp (le-leb _ _ c.if-address-le63.true))
+    c.vehicle.ensures ∙ set_meets a.marks.now a.address (λ v. eqb v a.address) (λ i. simp (le-leb a.address 63 (omega arith)))
 
 pub returns-in-64 : goal.returns-in-64
 unfolding meets
@@ -58,6 +58,6 @@ pub returns-in_default : goal.returns-in_default
 unfolding meets
 returns-in_default c =
     let a = c.args in
-    let past = lt-leb _ _ c.if-address-le63.false in
+    let past = lt-leb a.address 63 (omega arith) in
     set_none (λ v. false) (length a.marks.now) (λ i h. refl) ∙ set_meets a.marks.now a.address (λ v. false) (λ i.
     simp (past, ne_eqb a.address 64 (omega arith), ne_eqb a.address 65 (omega arith), ne_eqb a.address 66 (omega arith), ne_eqb a.address 67 (omega arith), ne_eqb a.address 70 (omega arith), ne_eqb a.address 92 (omega arith)))
