@@ -3,9 +3,32 @@
 
 ghost use Rattle.std.specs.Prelude.{◌≡◌, ◌≤◌, ◌<◌, ◌+◌, ◌*◌, ◌/◌, ◌%◌, ◌^◌, true, map, eqb, length};
 ghost use Rattle.paper.specs.Train.{is_address, set_to, resolving};
-ghost use Rattle.train.specs.Marks.{vehicle_of, led_ok, consist_ok, with_mark, above, set_of, resolved_answer};
+ghost use Rattle.train.specs.Marks.{vehicle_of, octet_of, led_ok, consist_ok, with_mark, above, set_of, resolved_answer};
 
 use refusals::Refusal;
+
+// The marks of one vehicle.
+#[derive(Clone, Copy, Debug, PartialEq, Eq)]
+pub struct Vehicle {
+    pub leading: bool,
+    pub coach: bool,
+    pub tractive: bool,
+    pub led: bool,
+    pub sleeping: bool,
+}
+
+impl Vehicle {
+    // Its marks as one octet.
+    pub fn octet(self) -> u8
+        ensures { result ≡ octet_of (record { leading = self.leading; coach = self.coach; tractive = self.tractive; led = self.led; sleeping = self.sleeping }) }
+    {
+        u8::from(self.leading)
+            + u8::from(self.coach) * 2
+            + u8::from(self.tractive) * 4
+            + u8::from(self.led) * 8
+            + u8::from(self.sleeping) * 16
+    }
+}
 
 // The vehicles that meet an address: bit v of the set, worth 2^v, is vehicle v, and size counts them.
 #[derive(Clone, Copy, Debug, PartialEq, Eq)]
@@ -42,7 +65,7 @@ fn is_address(address: u64) -> bool
 }
 
 // Vehicle v alone, where the train of n has it.
-fn vehicle(n: usize, v: u64) -> u64
+fn alone(n: usize, v: u64) -> u64
     requires { n ≤ 63 }
     ensures { result ≡ set_to (λ i. eqb i v) n }
 {
@@ -103,7 +126,7 @@ fn set_of(marks: &[u8], address: u64) -> u64
     ensures { result ≡ set_of marks.now address }
 {
     match address {
-        0..=63 => vehicle(marks.len(), address),
+        0..=63 => alone(marks.len(), address),
         64 => with_mark(marks, 0),
         65 => with_mark(marks, 3),
         66 => all(marks.len()),

@@ -16,7 +16,7 @@ pub returns-in-0-to-63 : goal.returns-in-0-to-63
 unfolding meets
 returns-in-0-to-63 c =
     let a = c.args in
-    c.vehicle.ensures ∙ set_meets a.marks.now a.address (λ v. eqb v a.address) (λ i. simp (le-leb a.address 63 (omega arith)))
+    c.alone.ensures ∙ set_meets a.marks.now a.address (λ v. eqb v a.address) (λ i. simp (le-leb a.address 63 (omega arith)))
 
 pub returns-in-64 : goal.returns-in-64
 unfolding meets

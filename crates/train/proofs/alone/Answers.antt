@@ -1,4 +1,4 @@
--- `train::vehicle` meets its contract. Assumes nothing.
+-- `train::alone` meets its contract. Assumes nothing.
 use mathlib.Core.Path.{◌∙◌}
 use mathlib.Core.Logic.{inl, inr}
 use Prim.Native.Nat.{suc}
@@ -8,7 +8,7 @@ use borrow.Author.Tests.{ne_eqb}
 use lib.Dec.{lit<, eqb}
 use lib.Pow.{shl_exact}
 use Rattle.paper.proofs.SetLaws.{set_none, set_alone}
-use Rattle.train.proofs.vehicle.Goals as goal
+use Rattle.train.proofs.alone.Goals as goal
 
 pub returns-then-n-v : goal.returns-then-n-v
 returns-then-n-v c =
