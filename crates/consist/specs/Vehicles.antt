@@ -2,7 +2,7 @@
 use Rattle.std.specs.Prelude.{ℕ}
 use Rattle.paper.specs.Train as paper
 use Rattle.train.specs.Marks as marks
-use Rattle.consist.specs.declared.Vehicle.{Vehicle}
+use Rattle.train.specs.declared.Vehicle.{Vehicle}
 
 abbrev pub vehicle_as : Vehicle → paper.Vehicle
 vehicle_as v = record { leading = v.leading; coach = v.coach; tractive = v.tractive; led = v.led; sleeping = v.sleeping }

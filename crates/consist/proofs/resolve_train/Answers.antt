@@ -1,20 +1,23 @@
 -- `consist::resolve_train` meets its contract. Assumes nothing.
-use Rattle.std.proofs.Common.{◌≡◌, List, ℕ, length, get_or, set, arith, add-one, ◌∙◌, ap}
+use Rattle.std.proofs.Common.{◌≡◌, List, length, take, map, set, arith, length-set, ◌∙◌, ap}
+use lib.Seq.{take-length}
+use Rattle.paper.specs.Train.{Vehicle, resolving}
+use Rattle.train.specs.Marks.{vehicle_of}
 use Rattle.consist.specs.Vehicles.{octet_of}
-use Rattle.consist.proofs.Laws.{no_vehicle, octets_of, answered}
+use Rattle.consist.proofs.Laws.{train_read, filled_more, long}
 use Rattle.consist.proofs.resolve_train.Goals as goal
 
-pub loop-i-init : goal.loop-i-init
-unfolding octets_of
-loop-i-init c = (omega arith, c.blank-a.ensures)
+pub returns-then-vehicles-gt63 : goal.returns-then-vehicles-gt63
+returns-then-vehicles-gt63 c = long c.args.vehicles.now c.args.address c.if-vehicles-gt63.true
 
 pub loop-i-preserved : goal.loop-i-preserved
-unfolding octets_of
 loop-i-preserved c =
-    let v = get_or c.args.vehicles.now c.loop-i.i no_vehicle in
-    rw add-one (omega arith, c.put-a.ensures ∙ ap (λ (l : List ℕ). set l c.loop-i.i (octet_of v)) c.loop-i.invariant.1)
+    let all : length (set c.loop-i.octets c.loop-i.i c.octet.result) ≡ 63 = length-set _ _ _ ∙ c.loop-i.invariant.0 in
+    (all, rw c.octet.ensures (filled_more c.args.vehicles.now c.loop-i.octets c.loop-i.i _ c.loop-i-test.true (omega arith) c.loop-i.invariant.1))
 
 pub returns : goal.returns
 returns c =
-    let e : c.loop-i.i ≡ length c.args.vehicles.now = omega arith in
-    answered c.args.vehicles.now c.loop-i.a.at c.args.address _ (rw e at c.loop-i.invariant.1) (rw e at c.finish.ensures)
+    let vs = c.args.vehicles.now in
+    let end : c.loop-i.i ≡ length vs = omega arith in
+    let filled : take (length vs) c.loop-i.octets ≡ map octet_of vs = (rw end at c.loop-i.invariant.1) ∙ ap (map octet_of) (take-length vs) in
+    c.resolve.ensures ∙ ap (λ (t : List Vehicle). resolving t c.args.address) (ap (map vehicle_of) filled ∙ train_read vs)
