@@ -1,39 +1,39 @@
 -- The parts of a reading are the reading. Assumes nothing.
 use Prim.Native.Nat.{ℕ, ◌+◌, ◌-◌, ◌*◌, ◌≤◌, ◌<◌}
-use mathlib.Core.Path.{◌≡◌, refl, sym, ap, ap₂, ◌∙◌}
-use mathlib.Core.Bool.{Bool, false, not, ◌&&◌, cond}
-use mathlib.Core.List.{List, ◌++◌, append_assoc}
+use mathlib.Core.Path.{◌≡◌, refl, sym, ap, ap₂, subst, ◌∙◌}
+use mathlib.Core.Bool.{Bool, true, false, not, ◌&&◌, cond}
+use mathlib.Core.List.{List, [], ◌∷◌, ◌++◌, append_assoc}
+use Rattle.std.specs.Prelude.{get_or, Result, Ok, Err}
 use native.Mathlib.Nat.{mul-le-mul, mul-le-mul_right}
 use native.Mathlib.Numerals.{add-one}
 use native.Mathlib.Omega.{arith}
 use native.Mathlib.Decide.{ℕ_discrete}
-use lib.ListN.{length, take, length-append}
+use lib.ListN.{length, take, drop, length-append}
 use lib.Seq.{length-take-le, take-length, take_at}
 use borrow.Rule.Slice.PartMut.{mid_of, put_mid, mid_len, same_len_mid}
 use lib.Dec.{leb, eqb}
-use borrow.Author.Tests.{le-leb, eq-eqb, ne_eqb, eqb-true, not-false}
+use borrow.Author.Tests.{lt-leb, leb-true, leb-false, le-leb, eq-eqb, ne_eqb, eqb-true, not-false}
 use Rattle.bools.proofs.Tests.{both}
-use Rattle.paper.specs.Answer.{Answer, gives, refused, and_then}
+use Rattle.paper.specs.Answer.{Answer, gives, and_then}
 use Rattle.paper.specs.First.{first_of}
 use Rattle.paper.specs.Telegrams.{forced}
-use Rattle.paper.specs.SignalList.{Signal, SignalList, Counts, field_end, list_of, place_of, knows}
-use Rattle.paper.specs.Store.{Slot, telegram_octets}
-use Rattle.paper.specs.Reading.{Reading, hindrances, reason_of, reading_of, mark_of, code_of}
+use Rattle.paper.specs.SignalList.{Signal, SignalList, Counts, field_end, list_of, place_of, knows, under_list}
+use Rattle.paper.specs.Store.{Slot, telegram_octets, slot_octets, slot_start, slot_from, slot_of}
+use Rattle.paper.specs.Reading.{Reading, hindrances, reason_of, reading_of, reading_at, mark_of, code_of}
 use Rattle.paper.specs.Readings.{Readings, in_turn}
 use Rattle.paper.proofs.FirstLaws.{first_front, first_back, first_low}
 use Rattle.paper.specs.Accepted.{Laid, SignalKept}
 use Rattle.paper.proofs.ListLaws.{kept_of}
-use Rattle.paper.proofs.AnswerLaws.{one_answer}
 use Rattle.refusals.specs.declared.Refusal.{Refusal}
-use Rattle.refusals.specs.declared.Outcome.{Outcome}
-use Rattle.refusals.specs.declared.Outcome.TheVariants as O
-use Rattle.refusals.specs.Refusal.{refusal_of}
-use Rattle.refusals.proofs.Laws.{numbered, numbered_of}
-use Rattle.refusals.proofs.WrittenLaws.{one_outcome}
+use Rattle.refusals.specs.Refusal.{number_of, carried_of, refusal_of}
+use Rattle.refusals.proofs.WrittenLaws.{HandedOn, handed_on, one_outcome, one_result}
+use Rattle.lists.proofs.Laws.{under_accepted, under_refused}
 use Rattle.octets.specs.Fields.{Within}
-use Rattle.reading.specs.declared.ReadOutcome.{ReadOutcome}
-use Rattle.reading.specs.declared.ReadOutcome.TheVariants.{Read, Refused}
-use Rattle.reading.specs.Reading.{read_answer, slot_tests, mark_tests, telegram_reason, telegram_reading, ReadInto}
+use Rattle.reading.specs.declared.reason.Reason.{Reason}
+use Rattle.reading.specs.declared.reason.Reason.TheVariants as R
+use Rattle.reading.specs.declared.Reading as code
+use Rattle.reading.specs.Reason.{reason_number}
+use Rattle.reading.specs.Reading.{as_reading, read_answer, slot_tests, mark_tests, telegram_reason, telegram_reading, ReadInto}
 
 -- ---- a reading in its two parts
 
@@ -66,13 +66,29 @@ module _ (l : SignalList) (slot : Slot) (now k : ℕ) where
       first_back 1 (slot_tests slot now (l.signal k)) (mark_tests mark known) (cond (eqb mark forced) 1 0) h in
       ap (given (l.signal k) slot.telegram) (sym e)
 
--- what the code puts together there
-pub telegram_given : (l : SignalList) (telegram : List ℕ) (k v r : ℕ)
-    → r ≡ telegram_reason (mark_of l (l.signal k) telegram) (knows l k (code_of (l.signal k) telegram))
-    → v ≡ cond (leb 2 r) (l.signal k).replacement (code_of (l.signal k) telegram)
-    → ◌≡◌ {A = Reading} (record { value = v; reason = r }) (telegram_reading l telegram k)
-unfolding telegram_reading
-telegram_given l telegram k v r e f = ap (λ (x : ℕ). record { value = x; reason = r }) f ∙ ap (given (l.signal k) telegram) e
+-- what a vehicle's slot reads is what the vehicle reads
+pub read_here : (l : SignalList) (store : List ℕ) (v now k : ℕ) {octets : List ℕ} {r : Reading} → octets ≡ take slot_octets (drop (slot_start v) store)
+    → r ≡ reading_of l (slot_from octets) now k → r ≡ reading_at l store now v k
+unfolding reading_at slot_of
+read_here l store v now k is e = e ∙ ap (λ (x : List ℕ). reading_of l (slot_from x) now k) is
+
+-- what the code puts together there: s is signal k, c the code in its field, r the reason
+module _ (l : SignalList) (telegram : List ℕ) (k : ℕ) {c m r : ℕ} {s : Signal} {b : Bool} (is : s ≡ l.signal k) (field : c ≡ code_of s telegram)
+    (knows_it : b ≡ knows l k c) (marked : m ≡ mark_of l s telegram) (reason : r ≡ telegram_reason m b) where
+  put_together : (v : ℕ) → v ≡ cond (leb 2 r) s.replacement c → ◌≡◌ {A = Reading} (record { value = v; reason = r }) (telegram_reading l telegram k)
+  unfolding telegram_reading
+  put_together v e =
+      let own : c ≡ code_of (l.signal k) telegram = field ∙ ap (λ (x : Signal). code_of x telegram) is in
+      let told : r ≡ telegram_reason (mark_of l (l.signal k) telegram) (knows l k (code_of (l.signal k) telegram)) =
+      reason ∙ ap₂ telegram_reason (marked ∙ ap (λ (x : Signal). mark_of l x telegram) is) (knows_it ∙ ap (knows l k) own) in
+      ap (λ (x : ℕ). record { value = x; reason = r }) (e ∙ ap₂ (λ (x : Signal) (y : ℕ). cond (leb 2 r) x.replacement y) is own)
+      ∙ ap (given (l.signal k) telegram) told
+
+  pub telegram_live : leb r 1 ≡ true → ◌≡◌ {A = Reading} (record { value = c; reason = r }) (telegram_reading l telegram k)
+  telegram_live h = put_together c (simp (lt-leb 2 r (omega (arith, leb-true r 1 h))))
+
+  pub telegram_replaced : leb r 1 ≡ false → ◌≡◌ {A = Reading} (record { value = s.replacement; reason = r }) (telegram_reading l telegram k)
+  telegram_replaced h = put_together s.replacement (simp (le-leb 2 r (leb-false r 1 h)))
 
 -- ---- what an accepted list tells of a signal's field and mark
 
@@ -100,32 +116,63 @@ module _ (xs : List ℕ) (n : Counts) (k : ℕ) (telegram : List ℕ) (h : Laid 
 
 -- ---- the contract settles the answer
 
-told : Answer Reading → ReadOutcome
-told (gives x) = Read (record { value = x.value; reason = x.reason })
-told (refused n at) = Refused (numbered n at)
+in_order : List Reason
+in_order =
+    R.Live ∷ R.Forced ∷ R.NeverHeard ∷ R.TooOld ∷ R.NotCarried ∷ R.NewerThanTelegram ∷ R.MarkError ∷ R.MarkUndefined ∷ R.CodeUnknown ∷ []
 
-told_of_lem : (r : ReadOutcome) → told (read_answer r) ≡ r
-unfolding told
-told_of_lem (Read r) = refl
-told_of_lem (Refused f) = ap Refused (numbered_of f)
+-- the reason of a number
+pub reason_numbered : ℕ → Reason
+unfolding in_order
+reason_numbered n = get_or in_order n R.Live
 
-pub one_read : (a : Answer Reading) (v w : ReadOutcome) → read_answer v ≡ a → read_answer w ≡ a → v ≡ w
-one_read = one_answer read_answer told told_of_lem
+pub reason_numbered_of : (r : Reason) → reason_numbered (reason_number r) ≡ r
+unfolding reason_numbered in_order
+reason_numbered_of R.Live = refl
+reason_numbered_of R.Forced = refl
+reason_numbered_of R.NeverHeard = refl
+reason_numbered_of R.TooOld = refl
+reason_numbered_of R.NotCarried = refl
+reason_numbered_of R.NewerThanTelegram = refl
+reason_numbered_of R.MarkError = refl
+reason_numbered_of R.MarkUndefined = refl
+reason_numbered_of R.CodeUnknown = refl
+
+read_back : Reading → code.Reading
+read_back r = record { value = r.value; reason = reason_numbered r.reason }
+
+read_back_of : (r : code.Reading) → read_back (as_reading r) ≡ r
+unfolding read_back
+read_back_of r = ap (λ (x : Reason). record { value = r.value; reason = x }) (reason_numbered_of r.reason)
+
+pub one_read : (a : Answer Reading) (v w : Result code.Reading Refusal) → read_answer v ≡ a → read_answer w ≡ a → v ≡ w
+one_read = one_result as_reading read_back read_back_of
 
 -- ---- a call that writes values and reasons: a refusal, new ones, or what goes on from what a first part gave
 
-pub into_refused : (f : Refusal) (a : Answer Readings) (values reasons : List ℕ) → refusal_of f ≡ a → ReadInto a values reasons (O.Refused f) values reasons
+pub into_refused : (f : Refusal) (a : Answer Readings) (values reasons : List ℕ) → refusal_of f ≡ a → ReadInto a values reasons (Err f) values reasons
 into_refused f a values reasons e = record { outcome = rw (← e); value = rw (← e); reason = rw (← e) }
 
-pub into_done : (a : Answer Readings) (values reasons : List ℕ) (r : Readings) → gives r ≡ a → ReadInto a values reasons O.Done r.values r.reasons
+pub into_done : (a : Answer Readings) (values reasons : List ℕ) (r : Readings) → gives r ≡ a → ReadInto a values reasons (Ok tt) r.values r.reasons
 into_done a values reasons r e = record { outcome = rw (← e); value = rw (← e); reason = rw (← e) }
 
-pub into_on : {A : Type 0} (n : A) (a : Answer A) (k : A → Answer Readings) (values reasons : List ℕ) (o : Outcome) (values' reasons' : List ℕ)
+pub into_on : {A : Type 0} (n : A) (a : Answer A) (k : A → Answer Readings) (values reasons : List ℕ) (o : Result (Unit {0}) Refusal) (values' reasons' : List ℕ)
     → gives n ≡ a → ReadInto (k n) values reasons o values' reasons' → ReadInto (and_then a k) values reasons o values' reasons'
 into_on n a k values reasons o values' reasons' e w = rw (← e) w
 
+-- the same of a call by a list, which judging refuses, or goes on with what is accepted
+module _ (form : ℕ) (xs : List ℕ) (call : SignalList → Answer Readings) where
+  pub into_list : {r : Result (Unit {0}) Refusal} (f : Refusal) (values reasons : List ℕ) → HandedOn r f → refusal_of f ≡ under_list form xs gives
+      → ReadInto (under_list form xs call) values reasons r values reasons
+  into_list {r} f values reasons h e =
+      rw (handed_on r f h) (into_refused f _ values reasons (under_refused form xs call (number_of f) (carried_of f) e))
+
+  pub into_listed : (l : SignalList) {values reasons : List ℕ} {o : Result (Unit {0}) Refusal} {values' reasons' : List ℕ} → gives l ≡ under_list form xs gives
+      → ReadInto (call l) values reasons o values' reasons' → ReadInto (under_list form xs call) values reasons o values' reasons'
+  into_listed l {values} {reasons} {o} {values'} {reasons'} e w =
+      subst (λ (a : Answer Readings). ReadInto a values reasons o values' reasons') (under_accepted form xs call l (call l) e refl) w
+
 -- any two outcomes that a contract admits are equal, and so is what they leave
-pub one_into : (a : Answer Readings) (values reasons : List ℕ) (r s : Outcome) (v w x y : List ℕ)
+pub one_into : (a : Answer Readings) (values reasons : List ℕ) (r s : Result (Unit {0}) Refusal) (v w x y : List ℕ)
     → ReadInto a values reasons r v x → ReadInto a values reasons s w y → (r ≡ s) × (v ≡ w) × (x ≡ y)
 one_into a values reasons r s v w x y t u =
     (one_outcome _ r s t.outcome u.outcome, t.value ∙ sym u.value, t.reason ∙ sym u.reason)

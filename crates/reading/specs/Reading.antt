@@ -1,5 +1,5 @@
 -- The code's readings as those of the paper, and the parts in which the code works them out.
-use Rattle.std.specs.Prelude.{ℕ, ◌≡◌, Bool, not, cond, List, [], ◌∷◌, ltb, leb, eqb}
+use Rattle.std.specs.Prelude.{Result, ℕ, ◌≡◌, Bool, not, cond, List, [], ◌∷◌, ltb, leb, eqb}
 use Rattle.paper.specs.Answer.{Answer, gives, refuse_if, after, forget, map_answer}
 use Rattle.paper.specs.First.{first_of}
 use Rattle.paper.specs.Telegrams.{telegram_type, version_of, carries, error, forced, undefined}
@@ -7,19 +7,16 @@ use Rattle.paper.specs.SignalList.{Signal, SignalList, knows}
 use Rattle.paper.specs.Store.{Slot, is_store, is_vehicle, timely}
 use Rattle.paper.specs.Reading as paper
 use Rattle.paper.specs.Readings.{Readings, values_at, reasons_at, in_turn}
-use Rattle.refusals.specs.Refusal.{refusal_of}
-use Rattle.refusals.specs.declared.Outcome.{Outcome}
-use Rattle.refusals.specs.Outcome.{outcome_of}
+use Rattle.refusals.specs.declared.Refusal.{Refusal}
+use Rattle.refusals.specs.Outcome.{answer_of, outcome_of}
 use Rattle.reading.specs.declared.Reading.{Reading}
-use Rattle.reading.specs.declared.ReadOutcome.{ReadOutcome}
-use Rattle.reading.specs.declared.ReadOutcome.TheVariants.{Read, Refused}
+use Rattle.reading.specs.Reason.{reason_number}
 
 abbrev pub as_reading : Reading → paper.Reading
-as_reading r = record { value = r.value; reason = r.reason }
+as_reading r = record { value = r.value; reason = reason_number r.reason }
 
-abbrev pub read_answer : ReadOutcome → Answer paper.Reading
-read_answer (Read r) = gives (as_reading r)
-read_answer (Refused f) = refusal_of f
+abbrev pub read_answer : Result Reading Refusal → Answer paper.Reading
+read_answer = answer_of as_reading
 
 -- the tests of the reasons 2 to 5, which go by the slot
 abbrev pub slot_tests : Slot → ℕ → Signal → List Bool
@@ -57,7 +54,7 @@ pub record TrainRead (l : SignalList) (store : List ℕ) (now last : ℕ) (value
   pub reason : reasons ≡ in_turn (reasons_at l store now) last
 
 -- a call that writes values and reasons: its outcome, and both areas afterwards, which are as they were where it is refused
-pub record ReadInto (answer : Answer Readings) (values reasons : List ℕ) (r : Outcome) (values' reasons' : List ℕ) : Type 0 where
+pub record ReadInto (answer : Answer Readings) (values reasons : List ℕ) (r : Result (Unit {0}) Refusal) (values' reasons' : List ℕ) : Type 0 where
   pub outcome : outcome_of r ≡ forget answer
   pub value : values' ≡ after values (map_answer (λ x. x.values) answer)
   pub reason : reasons' ≡ after reasons (map_answer (λ x. x.reasons) answer)

@@ -1,237 +1,185 @@
 // Reading out of the store: a signal of a vehicle, every signal of it, and every signal of the vehicles from 1 on.
 #![tactic(auto)]
 
-ghost use Rattle.std.specs.Prelude.{◌≡◌, ◌*◌, ◌≤◌, ◌<◌, length};
+ghost use Rattle.std.specs.Prelude.{◌≡◌, ◌*◌, ◌≤◌, ◌<◌, length, IfSome};
 ghost use Rattle.paper.specs.First.{first_of};
-ghost use Rattle.paper.specs.SignalList.{list_of};
 ghost use Rattle.paper.specs.Store.{vehicles, telegram_octets, slot_octets, store_octets, slot_from};
-ghost use Rattle.paper.specs.Reading.{mark_of, reading_at, reading};
+ghost use Rattle.paper.specs.Reading.{mark_of, reading_of, reading};
 ghost use Rattle.paper.specs.Readings.{readings_by, readings, train_by, train_readings};
-ghost use Rattle.paper.specs.Accepted.{Laid};
 ghost use Rattle.entries.specs.Entries.{signal_of};
-ghost use Rattle.lists.specs.Judged.{counts_of};
+ghost use Rattle.lists.specs.Listed.{list_as};
 ghost use Rattle.known.specs.Known.{Entries};
+ghost use Rattle.reading.specs.Reason.{reason_number, hindrance_number};
 ghost use Rattle.reading.specs.Reading.{as_reading, read_answer, slot_tests, telegram_reason, telegram_reading, EachRead, TrainRead, ReadInto, reading_under};
 
 use entries::Signal;
 use known::Span;
-use lists::{Counts, Judged};
-use refusals::{Outcome, Refusal};
+use lists::AcceptedList;
+use refusals::Refusal;
+use store::slots::Slot;
 
-// A value and the paper's number of the reason it is given for.
-#[derive(Clone, Copy)]
+mod reason;
+
+pub use reason::Reason;
+
+#[derive(Clone, Copy, Debug, PartialEq, Eq)]
 pub struct Reading {
     pub value: u64,
-    pub reason: u8,
+    pub reason: Reason,
 }
 
-#[derive(Clone, Copy)]
-pub enum ReadOutcome {
-    Read(Reading),
-    Refused(Refusal),
-}
-
-// The first of the reasons 2 to 5 that applies to a signal in a slot; 0 where none does.
-fn slot_reason(slot: &[u8], clock: u32, s: Signal) -> u8
-    requires { length slot.now ≡ slot_octets }
-    ensures { result ≡ first_of 2 (slot_tests (slot_from slot.now) clock (signal_of s)) 0 }
+// The first of the reasons 2 to 5 that applies to a signal in a slot, if one does.
+fn slot_reason(slot: Slot, clock: u32, s: Signal) -> Option<Reason>
+    ensures some { IfSome result (λ r. 2 ≤ reason_number r) }
+    ensures number { hindrance_number result ≡ first_of 2 (slot_tests (slot_from slot.entry.octets.now) clock (signal_of s)) 0 }
 {
-    if !store::is_heard(slot) {
-        return 2;
+    if !slot.is_heard() {
+        return Some(Reason::NeverHeard);
     }
-    if !store::is_timely(slot, clock, s.limit) {
-        return 3;
+    if !slot.is_timely(clock, s.limit) {
+        return Some(Reason::TooOld);
     }
-    let t = store::telegram(slot);
+    let t = slot.telegram();
     if !telegrams::is_carried(telegrams::telegram_type(t), s.kind) {
-        return 4;
+        return Some(Reason::NotCarried);
     }
     if telegrams::data_version(t) < s.since {
-        return 5;
+        return Some(Reason::NewerThanTelegram);
     }
-    0
+    None
 }
 
 // The mark over a signal; no check counts as ok.
-fn mark_in(list: &[u8], n: Counts, s: Signal, telegram: &[u8]) -> usize
-    requires { (Laid list.now (counts_of n)) × (s.check ≤ n.checks) × (length telegram.now ≡ telegram_octets) }
-    ensures { result ≡ mark_of (list_of list.now (counts_of n)) (signal_of s) telegram.now }
+#[tactic(auto, unfolding(paper::specs::Reading::mark_of))]
+fn mark_in(list: &AcceptedList, s: Signal, telegram: &[u8]) -> usize
+    requires { (s.check ≤ list.now.counts.checks) × (length telegram.now ≡ telegram_octets) }
+    ensures { result ≡ mark_of (list_as list.now) (signal_of s) telegram.now }
 {
     if s.check == 0 {
         return 1;
     }
-    octets::read_field(telegram, lists::place_in(list, n, s), 2) as usize
+    octets::read_field(telegram, list.place(s), 2) as usize
 }
 
 // The first of the reasons 6 to 8 that applies, else 0 or 1.
-fn telegram_reason(mark: usize, known: bool) -> u8
-    ensures { result ≡ telegram_reason mark known }
+fn telegram_reason(mark: usize, known: bool) -> Reason
+    ensures { reason_number result ≡ telegram_reason mark known }
 {
     if mark == 0 {
-        return 6;
+        return Reason::MarkError;
     }
     if mark == 3 {
-        return 7;
+        return Reason::MarkUndefined;
     }
     if !known {
-        return 8;
+        return Reason::CodeUnknown;
     }
     if mark == 2 {
-        return 1;
+        return Reason::Forced;
     }
-    0
+    Reason::Live
 }
 
 // Signal k, which is s, out of a telegram that can be read.
-fn read_telegram(list: &[u8], n: Counts, s: Signal, telegram: &[u8], k: usize, own: Span) -> Reading
-    requires laid { (Laid list.now (counts_of n)) × (k < n.signals) × (Entries (list_of list.now (counts_of n)) k own) }
-    requires s_value { (signal_of s ≡ (list_of list.now (counts_of n)).signal k) × (length telegram.now ≡ telegram_octets) }
-    ensures { as_reading result ≡ telegram_reading (list_of list.now (counts_of n)) telegram.now k }
+fn read_telegram(list: &AcceptedList, s: Signal, telegram: &[u8], k: usize, own: Span) -> Reading
+    requires own_entries { (k < list.now.counts.signals) × (Entries (list_as list.now) k own) }
+    requires s_value { (signal_of s ≡ (list_as list.now).signal k) × (length telegram.now ≡ telegram_octets) }
+    ensures { as_reading result ≡ telegram_reading (list_as list.now) telegram.now k }
 {
     let code = octets::read_field(telegram, s.start, s.width);
-    let known = known::knows(list, n, k, own, code);
-    let reason = telegram_reason(mark_in(list, n, s, telegram), known);
-    if 2 <= reason {
+    let known = known::knows(list, k, own, code);
+    let reason = telegram_reason(mark_in(list, s, telegram), known);
+    let value = if reason.is_live() {
+        code
+    } else {
+        s.replacement
+    };
+    Reading { value, reason }
+}
+
+// Inner: signal k out of a slot, where the signal's code entries are found already.
+pub fn read_slot(list: &AcceptedList, slot: Slot, clock: u32, k: usize, own: Span) -> Reading
+    requires { (k < list.now.counts.signals) × (Entries (list_as list.now) k own) }
+    ensures { as_reading result ≡ reading_of (list_as list.now) (slot_from slot.entry.octets.now) clock k }
+{
+    let s = list.signal(k);
+    if let Some(reason) = slot_reason(slot, clock, s) {
         return Reading {
             value: s.replacement,
             reason,
         };
     }
-    Reading {
-        value: code,
-        reason,
-    }
-}
-
-// Inner: signal k of a vehicle, under a list that was accepted with these counts, where the signal's code entries are found already.
-pub fn read_with(
-    list: &[u8],
-    n: Counts,
-    store: &[u8],
-    clock: u32,
-    vehicle: usize,
-    k: usize,
-    own: Span,
-) -> Reading
-    requires laid { (Laid list.now (counts_of n)) × (k < n.signals) × (Entries (list_of list.now (counts_of n)) k own) }
-    requires store_len { (length store.now ≡ store_octets) × (1 ≤ vehicle) × (vehicle ≤ vehicles) }
-    ensures { as_reading result ≡ reading_at (list_of list.now (counts_of n)) store.now clock vehicle k }
-{
-    let s = lists::signal_in(list, n, k);
-    let slot = store::slot(store, vehicle);
-    let reason = slot_reason(slot, clock, s);
-    if reason != 0 {
-        return Reading {
-            value: s.replacement,
-            reason,
-        };
-    }
-    read_telegram(list, n, s, store::telegram(slot), k, own)
-}
-
-// Inner: signal k of a vehicle.
-pub fn read_at(
-    list: &[u8],
-    n: Counts,
-    store: &[u8],
-    clock: u32,
-    vehicle: usize,
-    k: usize,
-) -> Reading
-    requires laid { (Laid list.now (counts_of n)) × (k < n.signals) }
-    requires store_len { (length store.now ≡ store_octets) × (1 ≤ vehicle) × (vehicle ≤ vehicles) }
-    ensures { as_reading result ≡ reading_at (list_of list.now (counts_of n)) store.now clock vehicle k }
-{
-    read_with(
-        list,
-        n,
-        store,
-        clock,
-        vehicle,
-        k,
-        known::entries_of(list, n, k),
-    )
+    read_telegram(list, s, slot.telegram(), k, own)
 }
 
 // Inner: every signal of a vehicle, its value and its reason; e is where the code entries of the next are looked for.
 pub fn read_each(
-    list: &[u8],
-    n: Counts,
+    list: &AcceptedList,
     store: &[u8],
     clock: u32,
     vehicle: usize,
     values: &mut [u64],
     reasons: &mut [u8],
 )
-    requires laid { (Laid list.now (counts_of n)) × (length values.old ≡ n.signals) × (length reasons.old ≡ n.signals) }
+    requires room { (length values.old ≡ list.now.counts.signals) × (length reasons.old ≡ list.now.counts.signals) }
     requires store_len { (length store.now ≡ store_octets) × (1 ≤ vehicle) × (vehicle ≤ vehicles) }
-    ensures { EachRead (list_of list.now (counts_of n)) store.now clock vehicle values.new reasons.new }
+    ensures { EachRead (list_as list.now) store.now clock vehicle values.new reasons.new }
 {
-    let mut k = 0;
+    let slot = store::slot(store, vehicle);
     let mut e = 0;
-    while k < n.signals {
-        let own = known::entries_from(list, n, e, k);
-        let r = read_with(list, n, store, clock, vehicle, k, own);
+    for k in 0..list.counts.signals {
+        let own = known::entries_from(list, e, k);
+        let r = read_slot(list, slot, clock, k, own);
         values[k] = r.value;
-        reasons[k] = r.reason;
+        reasons[k] = r.reason.number();
         e = own.to;
-        k += 1;
     }
 }
 
 // Every signal of the vehicles 1 to `last`, vehicle after vehicle.
 fn read_vehicles(
-    list: &[u8],
-    n: Counts,
+    list: &AcceptedList,
     store: &[u8],
     clock: u32,
     last: usize,
     values: &mut [u64],
     reasons: &mut [u8],
 )
-    requires laid { (Laid list.now (counts_of n)) × (length store.now ≡ store_octets) × (last ≤ vehicles) }
-    requires values_len { (length values.old ≡ last * n.signals) × (length reasons.old ≡ last * n.signals) }
-    ensures { TrainRead (list_of list.now (counts_of n)) store.now clock last values.new reasons.new }
+    requires store_len { (length store.now ≡ store_octets) × (last ≤ vehicles) }
+    requires values_len { (length values.old ≡ last * list.now.counts.signals) × (length reasons.old ≡ last * list.now.counts.signals) }
+    ensures { TrainRead (list_as list.now) store.now clock last values.new reasons.new }
 {
-    let mut v = 0;
-    while v < last {
-        let from = v * n.signals;
-        let to = from + n.signals;
+    for v in 0..last {
+        let from = v * list.counts.signals;
+        let to = from + list.counts.signals;
         read_each(
             list,
-            n,
             store,
             clock,
             v + 1,
             &mut values[from..to],
             &mut reasons[from..to],
         );
-        v += 1;
     }
 }
 
 // Inner: a signal of a vehicle, with the refusals 5, 6 and 11.
+#[tactic(auto, unfolding(crate::specs::Reading::reading_under, store::specs::Store::finding, paper::specs::Reading::reading_at, paper::specs::Answer::refuse_if))]
 pub fn read_under(
-    list: &[u8],
-    n: Counts,
+    list: &AcceptedList,
     store: &[u8],
     clock: u32,
     vehicle: usize,
     signal: usize,
-) -> ReadOutcome
-    requires { Laid list.now (counts_of n) }
-    ensures { read_answer result ≡ reading_under (list_of list.now (counts_of n)) store.now clock vehicle signal }
+) -> Result<Reading, Refusal>
+    ensures { read_answer result ≡ reading_under (list_as list.now) store.now clock vehicle signal }
 {
-    if !store::is_store(store) {
-        return ReadOutcome::Refused(Refusal::STORE_LENGTH);
+    let slot = store::find_slot(store, vehicle)?;
+    if list.counts.signals <= signal {
+        return Err(Refusal::NoSuchSignal);
     }
-    if !store::is_vehicle(vehicle) {
-        return ReadOutcome::Refused(Refusal::VEHICLE);
-    }
-    if n.signals <= signal {
-        return ReadOutcome::Refused(Refusal::NO_SUCH_SIGNAL);
-    }
-    ReadOutcome::Read(read_at(list, n, store, clock, vehicle, signal))
+    let own = known::entries_of(list, signal);
+    Ok(read_slot(list, slot, clock, signal, own))
 }
 
 // Reads a signal of a vehicle at `clock`: its value and reason. Refused: 1 to 4, then 5, 6 and 11.
@@ -242,41 +190,37 @@ pub fn read(
     clock: u32,
     vehicle: usize,
     signal: usize,
-) -> ReadOutcome
+) -> Result<Reading, Refusal>
     ensures { read_answer result ≡ reading form list.now store.now clock vehicle signal }
 {
-    let judged = lists::judge(list, form);
-    match judged {
-        Judged::Refused(f) => ReadOutcome::Refused(f),
-        Judged::Accepted(n) => read_under(list, n, store, clock, vehicle, signal),
-    }
+    let list = AcceptedList::judged(list, form)?;
+    read_under(&list, store, clock, vehicle, signal)
 }
 
 // Every signal of a vehicle, with the refusals 5, 6 and 13.
+#[tactic(auto, unfolding(paper::specs::Answer::refuse_if))]
 fn read_all_under(
-    list: &[u8],
-    n: Counts,
+    list: &AcceptedList,
     store: &[u8],
     clock: u32,
     vehicle: usize,
     values: &mut [u64],
     reasons: &mut [u8],
-) -> Outcome
-    requires { Laid list.now (counts_of n) }
-    ensures { ReadInto (readings_by store.now clock vehicle (length values.old) (length reasons.old) (list_of list.now (counts_of n))) values.old reasons.old result values.new reasons.new }
+) -> Result<(), Refusal>
+    ensures { ReadInto (readings_by store.now clock vehicle (length values.old) (length reasons.old) (list_as list.now)) values.old reasons.old result values.new reasons.new }
 {
     if !store::is_store(store) {
-        return Outcome::Refused(Refusal::STORE_LENGTH);
+        return Err(Refusal::StoreLength);
     }
     if !store::is_vehicle(vehicle) {
-        return Outcome::Refused(Refusal::VEHICLE);
+        return Err(Refusal::Vehicle);
     }
-    let is_room = (values.len() == n.signals) & (reasons.len() == n.signals);
+    let is_room = (values.len() == list.counts.signals) & (reasons.len() == list.counts.signals);
     if !is_room {
-        return Outcome::Refused(Refusal::VALUES_OR_MARKS);
+        return Err(Refusal::ValuesOrMarks);
     }
-    read_each(list, n, store, clock, vehicle, values, reasons);
-    Outcome::Done
+    read_each(list, store, clock, vehicle, values, reasons);
+    Ok(())
 }
 
 // Reads every signal of a vehicle at `clock` into lent values and reasons, one per signal, each as `read` gives it. Refused: 1 to 4, then 5, 6, and 13
@@ -289,42 +233,38 @@ pub fn read_all(
     vehicle: usize,
     values: &mut [u64],
     reasons: &mut [u8],
-) -> Outcome
+) -> Result<(), Refusal>
     ensures { ReadInto (readings form list.now store.now clock vehicle (length values.old) (length reasons.old)) values.old reasons.old result values.new reasons.new }
 {
-    let judged = lists::judge(list, form);
-    match judged {
-        Judged::Refused(f) => Outcome::Refused(f),
-        Judged::Accepted(n) => read_all_under(list, n, store, clock, vehicle, values, reasons),
-    }
+    let list = AcceptedList::judged(list, form)?;
+    read_all_under(&list, store, clock, vehicle, values, reasons)
 }
 
 // The same of the vehicles 1 to `last`.
+#[tactic(auto, unfolding(paper::specs::Answer::refuse_if))]
 fn read_train_under(
-    list: &[u8],
-    n: Counts,
+    list: &AcceptedList,
     store: &[u8],
     clock: u32,
     last: usize,
     values: &mut [u64],
     reasons: &mut [u8],
-) -> Outcome
-    requires { Laid list.now (counts_of n) }
-    ensures { ReadInto (train_by store.now clock last (length values.old) (length reasons.old) (list_of list.now (counts_of n))) values.old reasons.old result values.new reasons.new }
+) -> Result<(), Refusal>
+    ensures { ReadInto (train_by store.now clock last (length values.old) (length reasons.old) (list_as list.now)) values.old reasons.old result values.new reasons.new }
 {
     if !store::is_store(store) {
-        return Outcome::Refused(Refusal::STORE_LENGTH);
+        return Err(Refusal::StoreLength);
     }
     if !store::is_vehicle(last) {
-        return Outcome::Refused(Refusal::VEHICLE);
+        return Err(Refusal::Vehicle);
     }
-    let many = last * n.signals;
+    let many = last * list.counts.signals;
     let is_room = (values.len() == many) & (reasons.len() == many);
     if !is_room {
-        return Outcome::Refused(Refusal::VALUES_OR_MARKS);
+        return Err(Refusal::ValuesOrMarks);
     }
-    read_vehicles(list, n, store, clock, last, values, reasons);
-    Outcome::Done
+    read_vehicles(list, store, clock, last, values, reasons);
+    Ok(())
 }
 
 // Reads every signal of the vehicles 1 to `last`, vehicle after vehicle, into values and reasons of `last` times as many as there are signals. Refused as
@@ -337,12 +277,9 @@ pub fn read_train(
     last: usize,
     values: &mut [u64],
     reasons: &mut [u8],
-) -> Outcome
+) -> Result<(), Refusal>
     ensures { ReadInto (train_readings form list.now store.now clock last (length values.old) (length reasons.old)) values.old reasons.old result values.new reasons.new }
 {
-    let judged = lists::judge(list, form);
-    match judged {
-        Judged::Refused(f) => Outcome::Refused(f),
-        Judged::Accepted(n) => read_train_under(list, n, store, clock, last, values, reasons),
-    }
+    let list = AcceptedList::judged(list, form)?;
+    read_train_under(&list, store, clock, last, values, reasons)
 }

@@ -54,9 +54,9 @@ pub fn slot(store: &[u8], vehicle: usize) -> Slot<'_>
     }
 }
 
-// The slot of a vehicle. Refused: 5 and 6.
+// Inner: the slot of a vehicle. Refused: 5 and 6.
 #[tactic(auto, unfolding(crate::specs::Store::finding, paper::specs::Store::slot_of, paper::specs::Answer::refuse_if))]
-fn find_slot(store: &[u8], vehicle: usize) -> Result<Slot<'_>, Refusal>
+pub fn find_slot(store: &[u8], vehicle: usize) -> Result<Slot<'_>, Refusal>
     ensures { answer_of (λ s. slot_from s.octets.now) result ≡ finding store.now vehicle }
 {
     if !is_store(store) {

@@ -1,27 +1,20 @@
 -- `reading::read` meets its contract. Assumes nothing.
-use mathlib.Core.Path.{◌≡◌, sym, ap, ◌∙◌}
-use borrow.Author.Rules.{rules}
-use Rattle.paper.specs.Answer.{gives}
-use Rattle.paper.specs.SignalList.{judge}
-use Rattle.paper.specs.Reading.{reading}
-use Rattle.refusals.specs.Refusal.{number_of, carried_of}
-use Rattle.paper.proofs.AnswerLaws.{stays, goes_on_lem}
-use Rattle.lists.specs.Judged.{counts_of, judged_answer}
-use Rattle.lists.proofs.Laws.{accepted_laid}
+use Rattle.paper.specs.Reading.{reading, reading_by}
+use Rattle.refusals.proofs.WrittenLaws.{handed_on}
+use Rattle.lists.specs.Listed.{list_as}
+use Rattle.lists.proofs.Laws.{under_accepted, under_refused}
 use Rattle.reading.specs.Reading.{reading_under}
 use Rattle.reading.proofs.read.Goals as goal
-use Rattle.reading.proofs.read.Goals.{In-Accepted-2}
 
-pub read_under-requires : goal.read_under-requires
-read_under-requires c = accepted_laid _ _ c.in-Accepted.n ((let the_accepted : let j = c in gives (counts_of c.in-Accepted.n) ≡ judge j.args.form j.args.list.now = sym (ap judged_answer c.in-Accepted.is) ∙ c.judge-judged.ensures in the_accepted))
-
-pub returns-in-Refused : goal.returns-in-Refused
+pub returns-in_err-list : goal.returns-in_err-list
 unfolding reading
-returns-in-Refused c =
-    let m = c in
-    let f = m.in-Refused.f in
-    stays (number_of f) (carried_of f) _ _ (sym (ap judged_answer m.in-Refused.is) ∙ m.judge-judged.ensures)
+returns-in_err-list c =
+    let a = c.args in
+    rw (handed_on _ _ c.from_residual.ensures)
+    (under_refused _ _ (reading_by a.store.now a.clock a.vehicle a.signal) _ _ c.in_err-list.ensures)
 
-pub returns-in-Accepted : goal.returns-in-Accepted
+pub returns : goal.returns
 unfolding reading reading_under
-returns-in-Accepted c = goes_on_lem _ _ _ _ ((let the_accepted : let j = c in gives (counts_of c.in-Accepted.n) ≡ judge j.args.form j.args.list.now = sym (ap judged_answer c.in-Accepted.is) ∙ c.judge-judged.ensures in the_accepted)) c.read_under.ensures
+returns c =
+    let a = c.args in
+    under_accepted _ _ (reading_by a.store.now a.clock a.vehicle a.signal) (list_as c.in_ok-list.list) _ c.in_ok-list.ensures c.read_under.ensures
