@@ -4,16 +4,15 @@ use lib.ListN.{length-replicate}
 use lib.Seq.{set_split}
 use Rattle.paper.specs.Answer.{Answer, gives, and_then}
 use Rattle.paper.specs.Octets.{octets_of, over}
-use Rattle.paper.specs.Store.{telegram_octets, slot_head, slot_octets, store_octets, vehicles, slot_start, slot_to, gap, taken, taking, gapping, Takes}
+use Rattle.paper.specs.Store.{telegram_octets, slot_head, slot_octets, store_octets, vehicles, slot_start, slot_to, taken, taking, Takes}
 use Rattle.paper.specs.Reading as paper
-use Rattle.paper.specs.Reading.{held_in, holding}
 use Rattle.paper.proofs.AnswerLaws.{past}
 use Rattle.paper.proofs.NumberLaws.{length-octets_of, over-over}
 use Rattle.paper.proofs.StoreLaws.{takes}
 use Rattle.refusals.specs.declared.Refusal.{Refusal}
 use Rattle.refusals.proofs.WrittenLaws.{one_result}
 use Rattle.store.specs.declared.Held.{Held}
-use Rattle.store.specs.Store.{as_held, held_answer, gap_answer, finding, telegram_tests, taking_tests}
+use Rattle.store.specs.Store.{as_held, held_answer, gap_answer, telegram_tests, taking_tests}
 
 -- ---- the slot
 
@@ -66,15 +65,7 @@ module _ (store : List ℕ) (v now : ℕ) (telegram : List ℕ) where
   pub tested_takes : gives tt ≡ taking_tests (length store) v telegram → Takes store v telegram
   tested_takes e = (takes store v now telegram (taken store v now telegram) (rw (tested, ← e))).0
 
--- ---- what is held, and the gap: of the slot that is found
-
-pub held_found : (store : List ℕ) (now v : ℕ) → holding store now v ≡ and_then (finding store v) (λ s. gives (held_in s now))
-unfolding holding finding
-held_found store now v = past _ 5 0 _ _ _ (past _ 6 0 _ _ _ refl)
-
-pub gap_found : (store : List ℕ) (v : ℕ) → gapping store v ≡ and_then (finding store v) (λ s. gives (gap s))
-unfolding gapping finding
-gap_found store v = past _ 5 0 _ _ _ (past _ 6 0 _ _ _ refl)
+-- ---- what is held, and the gap
 
 -- what is held can be told from the paper's, so any two results that the contract admits are equal
 held_told : paper.Held → Option Held

@@ -13,10 +13,14 @@ use refusals::Refusal;
 
 pub mod slots;
 
-pub use slots::TELEGRAM;
-use slots::{EXPIRED, HEAD, HEARD, PREVIOUS, SLOT, Slot};
+use slots::{EXPIRED, HEAD, HEARD, PREVIOUS, Slot};
 
 pub const VEHICLES: usize = 63;
+
+// The longest telegram.
+pub const TELEGRAM: usize = 128;
+
+const SLOT: usize = HEAD + TELEGRAM;
 
 pub const STORE: usize = VEHICLES * SLOT;
 
@@ -69,7 +73,7 @@ pub fn find_slot(store: &[u8], vehicle: usize) -> Result<Slot<'_>, Refusal>
 }
 
 // What a vehicle's slot says of its telegram at `clock`; none where nothing was heard. Refused: 5 and 6.
-#[tactic(auto, using(crate::proofs::Laws::held_found, refusals::proofs::WrittenLaws::stays_err))]
+#[tactic(auto, unfolding(paper::specs::Reading::holding, crate::specs::Store::finding, paper::specs::Answer::refuse_if))]
 pub fn holding(store: &[u8], clock: u32, vehicle: usize) -> Result<Option<Held>, Refusal>
     ensures { held_answer result ≡ held_of store.now clock vehicle }
 {
@@ -78,7 +82,7 @@ pub fn holding(store: &[u8], clock: u32, vehicle: usize) -> Result<Option<Held>,
 }
 
 // Stamp less previous stamp, in ms: the gap between the last two telegrams taken from a vehicle; after the first, its stamp. Refused: 5 and 6.
-#[tactic(auto, using(crate::proofs::Laws::gap_found, refusals::proofs::WrittenLaws::stays_err))]
+#[tactic(auto, unfolding(paper::specs::Store::gapping, crate::specs::Store::finding, paper::specs::Answer::refuse_if))]
 pub fn gap(store: &[u8], vehicle: usize) -> Result<u32, Refusal>
     ensures { gap_answer result ≡ gapping store.now vehicle }
 {
@@ -147,7 +151,7 @@ fn renew_slot(store: &mut [u8], vehicle: usize, clock: u32, telegram: &[u8])
 }
 
 // Takes a telegram of a vehicle, heard at `clock`, into the store. Refused: 5 to 10, and the store stays as it was.
-#[tactic(auto, using(crate::proofs::Laws::tested, crate::proofs::Laws::tested_takes, paper::proofs::StoreLaws::type_short, refusals::proofs::WrittenLaws::written_stays, refusals::proofs::WrittenLaws::written_done))]
+#[tactic(auto, using(crate::proofs::Laws::tested, crate::proofs::Laws::tested_takes, paper::proofs::StoreLaws::type_short))]
 pub fn take(store: &mut [u8], vehicle: usize, clock: u32, telegram: &[u8]) -> Result<(), Refusal>
     ensures { Written (taking store.old vehicle clock telegram.now) store.old result store.new }
 {
@@ -180,7 +184,7 @@ fn sweep_slots(store: &mut [u8], clock: u32)
 }
 
 // Marks every slot as expired that was heard and is older, at `clock`, than any time limit allows. Refused: 5, and the store stays as it was.
-#[tactic(auto, using(paper::proofs::SweepLaws::sweeps_it, refusals::proofs::WrittenLaws::written_refused, refusals::proofs::WrittenLaws::written_done), unfolding(paper::specs::Store::sweeping, paper::specs::Answer::refuse_if))]
+#[tactic(auto, unfolding(paper::specs::Store::sweeping, paper::specs::Answer::refuse_if))]
 pub fn sweep(store: &mut [u8], clock: u32) -> Result<(), Refusal>
     ensures { Written (sweeping store.old clock) store.old result store.new }
 {

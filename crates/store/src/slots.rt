@@ -7,15 +7,10 @@ ghost use Rattle.paper.specs.Reading.{heard, held_in};
 
 use crate::Held;
 
-// The longest telegram.
-pub const TELEGRAM: usize = 128;
-
 // The heard octet, the stamp and the previous stamp.
 pub(crate) const HEAD: usize = 9;
 
 pub(crate) const PREVIOUS: usize = 5;
-
-pub(crate) const SLOT: usize = HEAD + TELEGRAM;
 
 // The heard octet of a slot that was heard, and of one that a sweep found too old for any time limit. Any other was never heard.
 pub(crate) const HEARD: u8 = 1;
@@ -25,6 +20,7 @@ pub(crate) const EXPIRED: u8 = 2;
 // The longest time limit that a list may set.
 const LONGEST_LIMIT: u32 = 600000;
 
+// The octets of one slot, all of them.
 #[derive(Clone, Copy)]
 pub struct Slot<'a> {
     pub octets: &'a [u8],
@@ -110,7 +106,7 @@ impl<'a> Slot<'a> {
         age(clock, self.stamp())
     }
 
-    // What it says of its telegram.
+    // What it says of its telegram; none where nothing was heard.
     #[tactic(auto, unfolding(paper::specs::Reading::held_in))]
     pub(crate) fn held(self, clock: u32) -> Option<Held>
         ensures { as_held result ≡ held_in (slot_from self.entry.octets.now) clock }
