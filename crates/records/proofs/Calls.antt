@@ -6,23 +6,22 @@ use mathlib.Core.List.{List, map}
 use lib.ListN.{length, get_or, take, length-map, get_or-map}
 use lib.Seq.{get_or-take}
 use Rattle.paper.specs.Octets.{over}
-use Rattle.paper.specs.Answer.{Answer, gives, refused, after, map_answer, Sought, found, nothing}
+use Rattle.paper.specs.Answer.{Answer, gives, refused, after, map_answer, Sought}
 use Rattle.paper.specs.Train.{Vehicle, no_vehicle, resolving}
 use Rattle.paper.specs.Christening as paper
 use Rattle.paper.proofs.AnswerLaws.{one_answer}
 use Rattle.paper.proofs.NumberLaws.{part_over}
 use Rattle.paper.proofs.ChristeningLaws.{no_pair, vehicles_length, vehicle_at, consists}
-use Rattle.refusals.proofs.Laws.{numbered, numbered_of}
-use Rattle.train.specs.declared.Resolved.{Resolved}
+use Rattle.std.specs.Prelude.{Option, Result, Ok}
+use Rattle.refusals.specs.declared.Refusal.{Refusal}
+use Rattle.refusals.proofs.WrittenLaws.{one_result, sought_told, sought_told_of}
+use Rattle.train.specs.declared.Members.{Members}
 use Rattle.train.specs.Marks.{vehicle_of, octet_of, resolved_answer}
 use Rattle.train.proofs.MarkOctets.{marks_read, marks_back}
 use Rattle.records.specs.declared.Level.{Level}
 use Rattle.records.specs.declared.Level.TheVariants as L
-use Rattle.records.specs.declared.PropertyRead.{PropertyRead}
-use Rattle.records.specs.declared.PropertyRead.TheVariants as P
-use Rattle.records.specs.declared.Christened.{Christened}
-use Rattle.records.specs.declared.Christened.TheVariants as C
-use Rattle.records.specs.Records.{level_as, held_answer, christened_answer, ChristenedAs}
+use Rattle.records.specs.declared.Property.{Property}
+use Rattle.records.specs.Records.{level_as, held_as, held_answer, christened_answer, ChristenedAs}
 
 -- ---- the marks that come out
 
@@ -31,8 +30,8 @@ counted : (a : Answer (List Vehicle)) (n : ℕ) → gives n ≡ map_answer lengt
 counted (gives train) n e = (train, (refl, cc))
 counted (refused m at) n e = let z : ◌≡◌ {A = ℕ} 0 1 = cc in absurd (omega arith)
 
-module _ (area : List ℕ) (pairs : List paper.Pair) (old : List ℕ) (r : Christened) (n : ℕ) (new : List ℕ)
-    (room : length old ≡ 63) (told : ChristenedAs (paper.christening area pairs) old r new) (given : r ≡ C.Vehicles n) where
+module _ (area : List ℕ) (pairs : List paper.Pair) (old : List ℕ) (r : Result ℕ Refusal) (n : ℕ) (new : List ℕ)
+    (room : length old ≡ 63) (told : ChristenedAs (paper.christening area pairs) old r new) (given : r ≡ Ok n) where
   abbrev Out : Type 0
   Out = (n ≡ length pairs) × (take n new ≡ map octet_of (paper.vehicles_of area pairs))
 
@@ -58,7 +57,7 @@ module _ (area : List ℕ) (pairs : List paper.Pair) (old : List ℕ) (r : Chris
   marks_christened = comes_out.1
 
   -- resolving over the marks that come out is resolving of the vehicles described
-  pub resolves_christened : (a : ℕ) (q : Resolved) → resolved_answer q ≡ resolving (map vehicle_of (take n new)) a
+  pub resolves_christened : (a : ℕ) (q : Result Members Refusal) → resolved_answer q ≡ resolving (map vehicle_of (take n new)) a
       → resolved_answer q ≡ resolving (paper.vehicles_of area pairs) a
   resolves_christened a q e =
       e ∙ ap (λ (train : List Vehicle). resolving train a) (ap (map vehicle_of) marks_christened ∙ marks_back (paper.vehicles_of area pairs))
@@ -83,27 +82,16 @@ unfolding level_told
 level_of L.Gateway = refl
 level_of L.Vehicle = refl
 
-held_told : Sought paper.Held → PropertyRead
-held_told (found h) = P.Row (record { level = level_told h.property.level; octet = h.property.octet; bit = h.property.bit; holds = h.holds })
-held_told nothing = P.NoRow
+held_told : paper.Held → Property
+held_told h = record { level = level_told h.property.level; octet = h.property.octet; bit = h.property.bit; holds = h.holds }
 
-held_of : (row : ℕ) (r : PropertyRead) → held_told (held_answer row r) ≡ r
+held_of : (row : ℕ) (p : Property) → held_told (held_as row p) ≡ p
 unfolding held_told
-held_of row (P.Row p) = λ i. P.Row (record { level = level_of p.level i; octet = p.octet; bit = p.bit; holds = p.holds })
-held_of row P.NoRow = refl
+held_of row p = λ i. record { level = level_of p.level i; octet = p.octet; bit = p.bit; holds = p.holds }
 
-pub one_property : (row : ℕ) (a : Sought paper.Held) (r s : PropertyRead) → held_answer row r ≡ a → held_answer row s ≡ a → r ≡ s
-one_property row = one_answer (held_answer row) held_told (held_of row)
+pub one_property : (row : ℕ) (a : Sought paper.Held) (r s : Option Property) → held_answer row r ≡ a → held_answer row s ≡ a → r ≡ s
+one_property row = one_answer (held_answer row) (sought_told held_told) (sought_told_of (held_as row) held_told (held_of row))
 
-christened_told : Answer ℕ → Christened
-christened_told (gives n) = C.Vehicles n
-christened_told (refused n at) = C.Refused (numbered n at)
-
-christened_of : (r : Christened) → christened_told (christened_answer r) ≡ r
-unfolding christened_told
-christened_of (C.Vehicles n) = refl
-christened_of (C.Refused f) = ap C.Refused (numbered_of f)
-
-pub one_christened : (a : Answer (List Vehicle)) (old : List ℕ) (r s : Christened) (new other : List ℕ)
+pub one_christened : (a : Answer (List Vehicle)) (old : List ℕ) (r s : Result ℕ Refusal) (new other : List ℕ)
     → ChristenedAs a old r new → ChristenedAs a old s other → (r ≡ s) × (new ≡ other)
-one_christened a old r s new other t u = (one_answer christened_answer christened_told christened_of _ r s t.many u.many, t.octets ∙ sym u.octets)
+one_christened a old r s new other t u = (one_result (λ n. n) (λ n. n) (λ n. refl) _ r s t.many u.many, t.octets ∙ sym u.octets)

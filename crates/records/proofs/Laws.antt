@@ -9,6 +9,7 @@ use borrow.Author.Tests.{eq-eqb, ne_eqb, lt-ltb, le-ltb}
 use lib.Dec.{eqb, ltb}
 use lib.ListN.{length, get_or, set, take, drop, length-map, length-drop, get_or-map}
 use lib.Seq.{take-suc, take-suc-set, length-take-le}
+use Rattle.std.specs.Prelude.{Ok, Err}
 use Rattle.paper.specs.Octets.{over}
 use Rattle.paper.specs.Answer.{Answer, gives, refused, map_answer, after}
 use Rattle.paper.specs.Train.{Vehicle, no_vehicle, consist_rule}
@@ -18,7 +19,6 @@ use Rattle.paper.proofs.ChristeningLaws.{vehicles_length, vehicle_at}
 use Rattle.refusals.specs.declared.Refusal.{Refusal}
 use Rattle.refusals.specs.Refusal.{refusal_of}
 use Rattle.train.specs.Marks.{octet_of}
-use Rattle.records.specs.declared.Christened.TheVariants as C
 use Rattle.records.specs.Records.{pair_of, below32, ChristenedAs}
 
 -- ---- the mark octets
@@ -66,7 +66,7 @@ part_length l i n e h =
 -- ---- the answers
 
 -- the contract, from the answer that is refused or given
-pub christened_refused : (f : Refusal) (a : Answer (List Vehicle)) (old : List ℕ) → refusal_of f ≡ a → ChristenedAs a old (C.Refused f) old
+pub christened_refused : (f : Refusal) (a : Answer (List Vehicle)) (old : List ℕ) → refusal_of f ≡ a → ChristenedAs a old (Err f) old
 christened_refused f a old e =
     record {
       many = ap (map_answer length) e;
@@ -74,7 +74,7 @@ christened_refused f a old e =
     }
 
 pub christened_given : (n : ℕ) (train : List Vehicle) (a : Answer (List Vehicle)) (old new : List ℕ) → gives train ≡ a → n ≡ length train
-    → new ≡ over old 0 (map octet_of train) → ChristenedAs a old (C.Vehicles n) new
+    → new ≡ over old 0 (map octet_of train) → ChristenedAs a old (Ok n) new
 christened_given n train a old new e m o =
     record {
       many = ap gives m ∙ ap (map_answer length) e;

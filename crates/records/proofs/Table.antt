@@ -10,10 +10,10 @@ use lib.ListN.{length, get_or, get_or-map}
 use borrow.Author.Tests.{lt-ltb, le-ltb, ltb-true, ltb-false}
 use Rattle.paper.specs.Octets.{address, bit}
 use Rattle.paper.specs.Answer.{Sought, found, nothing}
+use Rattle.std.specs.Prelude.{Some}
 use Rattle.paper.specs.Christening as paper
 use Rattle.paper.proofs.ChristeningLaws.{rows_entered, row_found, found_row}
 use Rattle.records.specs.declared.Level.{Level}
-use Rattle.records.specs.declared.PropertyRead.TheVariants as P
 use Rattle.records.specs.Records.{level_as, held_answer}
 
 -- the bit of place o/b stands in element o - 1, 7 - b bits above its lowest
@@ -110,21 +110,15 @@ low i h = ap (λ (b : Bool). cond b (i + 1) (i + 9)) (lt-ltb i _ h)
 high : (i : ℕ) → 132 ≤ i → number_at i ≡ i + 9
 high i h = ap (λ (b : Bool). cond b (i + 1) (i + 9)) (le-ltb i _ h)
 
--- what is at an index, 144 being none
-abbrev pub indexed : ℕ → Sought paper.Property
-indexed i = cond (ltb i 144) (found (paper.row_at paper.properties i)) nothing
+row_of : (i : ℕ) → i < 144 → paper.row_in paper.properties (number_at i) ≡ found (paper.row_at paper.properties i)
+row_of i h = ap (paper.row_in paper.properties) (sym (number_of i h)) ∙ row_found i (omega (arith, rows_entered))
 
-row_of : (i : ℕ) → i < 144 → paper.row_in paper.properties (number_at i) ≡ indexed i
-row_of i h =
-    ap (paper.row_in paper.properties) (sym (number_of i h)) ∙ row_found i (omega (arith, rows_entered))
-    ∙ sym (ap (λ (b : Bool). cond b (found (paper.row_at paper.properties i)) nothing) (lt-ltb i _ h))
-
-pub low_row : (n : ℕ) → 1 ≤ n → n < 133 → paper.row_in paper.properties n ≡ indexed (n - 1)
+pub low_row : (n : ℕ) → 1 ≤ n → n < 133 → paper.row_in paper.properties n ≡ found (paper.row_at paper.properties (n - 1))
 low_row n h k =
     let e : n - 1 + 1 ≡ n = omega arith in
     ap (paper.row_in paper.properties) (sym e ∙ sym (low (n - 1) (omega arith))) ∙ row_of (n - 1) (omega arith)
 
-pub high_row : (n : ℕ) → 141 ≤ n → n < 153 → paper.row_in paper.properties n ≡ indexed (n - 9)
+pub high_row : (n : ℕ) → 141 ≤ n → n < 153 → paper.row_in paper.properties n ≡ found (paper.row_at paper.properties (n - 9))
 high_row n h k =
     let e : n - 9 + 9 ≡ n = omega arith in
     ap (paper.row_in paper.properties) (sym e ∙ sym (high (n - 9) (omega arith))) ∙ row_of (n - 9) (omega arith)
@@ -149,22 +143,18 @@ no_row n below above = by (paper.row_in paper.properties n) refl
 
 -- ---- what an index gives
 
-pub none_held : (octets : List ℕ) (n i : ℕ) → 144 ≤ i → paper.row_in paper.properties n ≡ indexed i → nothing ≡ paper.property_of octets n
+pub none_held : (octets : List ℕ) (n : ℕ) → paper.row_in paper.properties n ≡ nothing → nothing ≡ paper.property_of octets n
 unfolding paper.property_of
-none_held octets n i h e =
-    sym (ap (paper.held_in octets) (e ∙ ap (λ (b : Bool). cond b (found (paper.row_at paper.properties i)) nothing) (le-ltb i 144 h)))
+none_held octets n e = sym (ap (paper.held_in octets) e)
 
-module _ (octets : List ℕ) (n i : ℕ) (h : i < 144) (e : paper.row_in paper.properties n ≡ indexed i) where
-  at : paper.row_in paper.properties n ≡ found (paper.row_at paper.properties i)
-  at = e ∙ ap (λ (b : Bool). cond b (found (paper.row_at paper.properties i)) nothing) (lt-ltb i 144 h)
-
+module _ (octets : List ℕ) (n i : ℕ) (e : paper.row_in paper.properties n ≡ found (paper.row_at paper.properties i)) where
   its_row : n ≡ (paper.row_at paper.properties i).row
-  its_row = sym (found_row paper.properties n (paper.row_at paper.properties i) at).1.2
+  its_row = sym (found_row paper.properties n (paper.row_at paper.properties i) e).1.2
 
   pub row_held : (l : Level) (o b : ℕ) (holds : Bool) → level_as l ≡ (paper.row_at paper.properties i).level → o ≡ (paper.row_at paper.properties i).octet
       → b ≡ (paper.row_at paper.properties i).bit → holds ≡ paper.is_set octets o b
-      → held_answer n (P.Row (record { level = l; octet = o; bit = b; holds = holds })) ≡ paper.property_of octets n
+      → held_answer n (Some (record { level = l; octet = o; bit = b; holds = holds })) ≡ paper.property_of octets n
   unfolding paper.property_of
   row_held l o b holds lv oc bt hs =
       let all : holds ≡ paper.is_set octets (paper.row_at paper.properties i).octet (paper.row_at paper.properties i).bit = hs ∙ ap₂ (paper.is_set octets) oc bt in
-      (λ j. found (record { property = record { row = its_row j; level = lv j; octet = oc j; bit = bt j }; holds = all j })) ∙ sym (ap (paper.held_in octets) at)
+      (λ j. found (record { property = record { row = its_row j; level = lv j; octet = oc j; bit = bt j }; holds = all j })) ∙ sym (ap (paper.held_in octets) e)

@@ -2,41 +2,29 @@
 // What has a `requires` is inner: its caller in the library shows it.
 #![tactic(auto)]
 
-ghost use Rattle.std.specs.Prelude.{◌≡◌, cond, map, ◌≤◌, ◌<◌, ◌*◌, eqb, ltb, length, take};
+ghost use Rattle.std.specs.Prelude.{◌≡◌, map, ◌≤◌, ◌<◌, ◌*◌, MatchOption, length, take};
 ghost use Rattle.paper.specs.Octets.{over};
-ghost use Rattle.paper.specs.Answer.{found, nothing};
-ghost use Rattle.paper.specs.Christening.{gateway, vehicle, properties, row_at, row_in, record_octets, is_set, described, vehicles_of, christening, property_of};
+ghost use Rattle.paper.specs.Christening.{properties, row_at, row_in, record_octets, is_set, described, vehicles_of, christening, property_of};
+ghost use Rattle.refusals.specs.Outcome.{sought_of};
 ghost use Rattle.train.specs.Marks.{octet_of};
 ghost use Rattle.records.specs.Records.{pair_of, level_as, below32, coach_of, tractive_of, held_answer, ChristenedAs};
 
 use refusals::Refusal;
+use train::Vehicle;
 
-#[derive(Clone, Copy)]
+#[derive(Clone, Copy, Debug, PartialEq, Eq)]
 pub enum Level {
     Gateway,
     Vehicle,
 }
 
 // A row of table E.1, its level and its place, and whether its property holds.
-#[derive(Clone, Copy)]
+#[derive(Clone, Copy, Debug, PartialEq, Eq)]
 pub struct Property {
     pub level: Level,
     pub octet: u8,
     pub bit: u8,
     pub holds: bool,
-}
-
-#[derive(Clone, Copy)]
-pub enum PropertyRead {
-    Row(Property),
-    NoRow,
-}
-
-// How many vehicles, whose marks were written.
-#[derive(Clone, Copy)]
-pub enum Christened {
-    Vehicles(usize),
-    Refused(Refusal),
 }
 
 // Octet o of a record in the table below: of the gateway's part 8 for each from octet 22 on, of the vehicle's 128 and 8 for each from octet 50 on.
@@ -79,7 +67,7 @@ const V53: u8 = 152;
 const V54: u8 = 160;
 
 // Table E.1 by its row numbers, 1 to 132 and 141 to 152: the level, G or V, and the place, its octet and its bit.
-const PROPERTIES: [u8; 144] = [
+static PROPERTIES: [u8; 144] = [
     V50 + 0,
     V50 + 1,
     V50 + 2,
@@ -235,7 +223,7 @@ fn is_set(octets: &[u8], o: usize, b: usize) -> bool
 }
 
 // A row's level and place.
-#[derive(Clone, Copy)]
+#[derive(Clone, Copy, Debug, PartialEq, Eq)]
 struct Placed {
     level: Level,
     octet: u8,
@@ -247,8 +235,7 @@ fn row_at(i: usize) -> Placed
     requires { i < 144 }
     ensures { (level_as result.level ≡ (row_at properties i).level) × (result.octet ≡ (row_at properties i).octet) × (result.bit ≡ (row_at properties i).bit) }
 {
-    let rows = PROPERTIES;
-    let p = rows[i];
+    let p = PROPERTIES[i];
     let bit = p % 8;
     if p < 128 {
         return Placed {
@@ -264,39 +251,31 @@ fn row_at(i: usize) -> Placed
     }
 }
 
-// The row of this number, from 0; 144 where there is none.
-fn index_of(row: u32) -> usize
-    ensures { row_in properties row ≡ cond (ltb result 144) (found (row_at properties result)) nothing }
+// Where the row of this number stands in the table, from 0; none where it has no such row.
+#[tactic(auto, using(crate::proofs::Table::low_row, crate::proofs::Table::high_row, crate::proofs::Table::no_row))]
+fn index_of(row: u32) -> Option<usize>
+    ensures row { row_in properties row ≡ sought_of (row_at properties) result }
+    ensures within { MatchOption result (Unit {0}) (λ i. i < 144) }
 {
     match row {
-        1..=132 => row as usize - 1,
-        141..=152 => row as usize - 9,
-        _ => 144,
+        1..=132 => Some(row as usize - 1),
+        141..=152 => Some(row as usize - 9),
+        _ => None,
     }
 }
 
-// Whether the property of this row holds in a record, with its level and place; no row where the table has none of this number.
-pub fn property_of(octets: &[u8; 56], row: u32) -> PropertyRead
+// Whether the property of this row holds in a record, with its level and place; none where the table has no row of this number.
+pub fn property_of(octets: &[u8; 56], row: u32) -> Option<Property>
     ensures { held_answer row result ≡ property_of octets.now row }
 {
-    let i = index_of(row);
-    if 144 <= i {
-        return PropertyRead::NoRow;
-    }
+    let i = index_of(row)?;
     let p = row_at(i);
-    let level = p.level;
-    PropertyRead::Row(Property {
-        level,
+    Some(Property {
+        level: p.level,
         octet: p.octet,
         bit: p.bit,
         holds: is_set(octets, p.octet as usize, p.bit as usize),
     })
-}
-
-fn one(b: bool, w: u8) -> u8
-    ensures { (result ≡ cond b w 0) × (result ≤ w) }
-{
-    if b { w } else { 0 }
 }
 
 // 50/0, 50/1, 51/0, 51/3 or 51/4.
@@ -320,40 +299,32 @@ fn is_tractive(octets: &[u8]) -> bool
 }
 
 // The mark octet of a vehicle, as `train` reads it. Of the pair, 1 is leading and 8 is led; its other bits are not read.
+#[tactic(auto, unfolding(paper::specs::Christening::described))]
 fn mark_octet(octets: &[u8], pair: u8) -> u8
     requires { length octets.now ≡ record_octets }
     ensures { result ≡ octet_of (described octets.now (pair_of pair)) }
 {
-    let coach = is_coach(octets);
-    let tractive = is_tractive(octets);
-    let sleeping = is_set(octets, 51, 4);
-    one(pair % 2 == 1, 1)
-        + one(coach, 2)
-        + one(tractive, 4)
-        + one(pair / 8 % 2 == 1, 8)
-        + one(sleeping, 16)
+    let vehicle = Vehicle {
+        leading: pair % 2 == 1,
+        coach: is_coach(octets),
+        tractive: is_tractive(octets),
+        led: pair / 8 % 2 == 1,
+        sleeping: is_set(octets, 51, 4),
+    };
+    vehicle.octet()
 }
 
 // The mark octets of up to 63 vehicles, and zeros after them.
-#[derive(Clone, Copy)]
-struct Marks {
-    at: [u8; 63],
-}
-
-fn marks_of(records: &[u8], pairs: &[u8]) -> Marks
+fn marks_of(records: &[u8], pairs: &[u8]) -> [u8; 63]
     requires { (length pairs.now ≤ 63) × (length records.now ≡ record_octets * length pairs.now) }
-    ensures { take (length pairs.now) result.at ≡ map octet_of (vehicles_of records.now (map pair_of pairs.now)) }
+    ensures { take (length pairs.now) result ≡ map octet_of (vehicles_of records.now (map pair_of pairs.now)) }
 {
-    let mut at = [0u8; 63];
-    let mut i = 0;
-    while i < pairs.len() {
+    let mut at = [0; 63];
+    for (i, pair) in pairs.iter().enumerate() {
         let from = i * 56;
-        let end = from + 56;
-        let b = mark_octet(&records[from..end], pairs[i]);
-        at[i] = b;
-        i += 1;
+        at[i] = mark_octet(&records[from..from + 56], *pair);
     }
-    Marks { at }
+    at
 }
 
 // The mark octets over the first of `marks`. Each is below 32, so the remainder changes none; without it the compiler makes a call of `memcpy` of this,
@@ -362,36 +333,28 @@ fn write_marks(marks: &mut [u8], at: &[u8])
     requires { length at.now ≤ length marks.old }
     ensures { marks.new ≡ over marks.old 0 (map below32 at.now) }
 {
-    let mut i = 0;
-    while i < at.len() {
-        marks[i] = at[i] % 32;
-        i += 1;
+    for (i, octet) in at.iter().enumerate() {
+        marks[i] = *octet % 32;
     }
 }
 
-// Builds the consist: the mark octets that `train::resolve` takes, one a vehicle, into the first of `marks`; the others stay. One pair a vehicle: 1 leading,
-// 8 led. Refused: 31 for the records or the number of pairs, then 17 and 18.
-pub fn christen(records: &[u8], pairs: &[u8], marks: &mut [u8; 63]) -> Christened
+// Builds the consist: the mark octets that `train::resolve` takes, one a vehicle, into the first of `marks`; the others stay, and the number of vehicles is
+// given. One pair a vehicle: 1 leading, 8 led. Refused: 31 for the records or the number of pairs, then 17 and 18.
+pub fn christen(records: &[u8], pairs: &[u8], marks: &mut [u8; 63]) -> Result<usize, Refusal>
     ensures { ChristenedAs (christening records.now (map pair_of pairs.now)) marks.old result marks.new }
 {
     let n = pairs.len();
-    if records.len() % 56 != 0 {
-        return Christened::Refused(Refusal::RECORDS_MISFIT);
+    if records.len() % 56 != 0 || records.len() / 56 != n {
+        return Err(Refusal::RecordsMisfit);
     }
-    if records.len() / 56 != n {
-        return Christened::Refused(Refusal::RECORDS_MISFIT);
+    if n == 0 || 63 < n {
+        return Err(Refusal::ConsistLength);
     }
-    if n == 0 {
-        return Christened::Refused(Refusal::CONSIST_LENGTH);
+    let octets = marks_of(records, pairs);
+    let at = &octets[..n];
+    if !train::consist_ok(at) {
+        return Err(Refusal::ConsistRule);
     }
-    if 63 < n {
-        return Christened::Refused(Refusal::CONSIST_LENGTH);
-    }
-    let m = marks_of(records, pairs);
-    let at = m.at;
-    if !train::consist_ok(&at[..n]) {
-        return Christened::Refused(Refusal::CONSIST_RULE);
-    }
-    write_marks(marks, &at[..n]);
-    Christened::Vehicles(n)
+    write_marks(marks, at);
+    Ok(n)
 }

@@ -1,4 +1,4 @@
-use mathlib.Core.Path.{◌≡◌, refl, sym, ap, ◌∙◌}
+use mathlib.Core.Path.{◌≡◌, sym, ap, ◌∙◌}
 use mathlib.Core.List.{List}
 use Prim.Native.Nat.{ℕ}
 use native.Mathlib.Omega.{arith}
@@ -10,12 +10,8 @@ use Rattle.records.specs.Records.{pair_of}
 use Rattle.records.proofs.Laws.{marks_of, marks_length, filled_more, part_is, part_length}
 use Rattle.records.proofs.marks_of.Goals as goal
 
-pub loop-i-init : goal.loop-i-init
-loop-i-init c = (omega arith, refl, refl)
-
-pub mark_octet-b-requires : goal.mark_octet-b-requires
-mark_octet-b-requires c =
-    part_length c.args.records.now c.loop-i.i (length c.args.pairs.now) c.requires.1 c.loop-i-test.true
+pub mark_octet-requires : goal.mark_octet-requires
+mark_octet-requires c = part_length c.args.records.now c.loop-i.i (length c.args.pairs.now) c.requires.1 c.loop-i-test.true
 
 pub loop-i-preserved : goal.loop-i-preserved
 loop-i-preserved c =
@@ -23,10 +19,9 @@ loop-i-preserved c =
     let pairs = c.args.pairs.now in
     let i = c.loop-i.i in
     let at = c.loop-i.at in (
-      omega arith,
-      length-set at i _ ∙ c.loop-i.invariant.1,
+      length-set at i _ ∙ c.loop-i.invariant.0,
       filled_more records pairs at i _ c.loop-i-test.true (omega arith)
-          (c.mark_octet-b.ensures ∙ ap (λ (r : List ℕ). octet_of (described r (pair_of (get_or pairs i 0)))) (part_is records i)) c.loop-i.invariant.2,
+          (c.mark_octet.ensures ∙ ap (λ (r : List ℕ). octet_of (described r (pair_of (get_or pairs i 0)))) (part_is records i)) c.loop-i.invariant.1,
     )
 
 pub returns : goal.returns
@@ -34,21 +29,5 @@ returns c =
     let records = c.args.records.now in
     let pairs = c.args.pairs.now in
     let end : length pairs ≡ c.loop-i.i = omega arith in
-    ap (λ (n : ℕ). take n c.loop-i.at) end ∙ c.loop-i.invariant.2 ∙ ap (λ (n : ℕ). take n (marks_of records pairs)) (sym end ∙ sym (marks_length records pairs))
+    ap (λ (n : ℕ). take n c.loop-i.at) end ∙ c.loop-i.invariant.1 ∙ ap (λ (n : ℕ). take n (marks_of records pairs)) (sym end ∙ sym (marks_length records pairs))
     ∙ take-length (marks_of records pairs)
-
-pub overflow_mul-from : goal.overflow_mul-from
-overflow_mul-from c =
-    omega arith
-
-pub overflow_add-end : goal.overflow_add-end
-overflow_add-end c =
-    omega arith
-
-pub slice_bounds-mark_octet-count : goal.slice_bounds-mark_octet-count
-slice_bounds-mark_octet-count c =
-    omega arith
-
-pub bounds-at-i : goal.bounds-at-i
-bounds-at-i c =
-    omega arith
