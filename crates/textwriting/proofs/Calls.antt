@@ -5,23 +5,20 @@ use mathlib.Core.Path.{◌≡◌, refl, sym, ap, ap₂, ◌∙◌}
 use mathlib.Core.Bool.{true}
 use mathlib.Core.List.{List}
 use lib.ListN.{length, take, drop}
+use Rattle.std.specs.Prelude.{Result, Ok}
 use Rattle.paper.specs.Octets.{over, Octets}
 use Rattle.paper.specs.Answer.{Answer, gives, refused, after, map_answer, found}
 use Rattle.paper.specs.Remedies as paper
 use Rattle.paper.specs.Remedies.{Handed, Shaped, ReadsBack, WrittenRemedies, block_count, remedy_reading, remedy_of, remedy_block, remedy_text, with_blocks, remedy_writing, blocks_in, handed_by, reserve_to}
-use Rattle.paper.proofs.AnswerLaws.{one_answer}
 use Rattle.paper.proofs.RemedyLaws.{rules_of, read_after_write, written_again, block_found, text_found, writes_alike}
-use Rattle.refusals.proofs.Laws.{numbered, numbered_of}
+use Rattle.refusals.specs.declared.Refusal.{Refusal}
+use Rattle.refusals.proofs.WrittenLaws.{one_result}
 use Rattle.texts.specs.declared.Remedies.{Remedies}
-use Rattle.texts.specs.declared.RemediesRead.{RemediesRead}
-use Rattle.texts.specs.declared.RemediesRead.TheVariants as R
 use Rattle.texts.specs.Texts.{read_answer}
-use Rattle.textwriting.specs.declared.Wrote.{Wrote}
-use Rattle.textwriting.specs.declared.Wrote.TheVariants as W
 use Rattle.textwriting.specs.Writing.{wrote_answer, WroteAs}
 
 -- a length that is answered: the paper gives that length, and the output as it is left
-pub wrote_gives : (a : Answer WrittenRemedies) (old : List ℕ) (n : ℕ) (new : List ℕ) → WroteAs a old (W.Octets n) new → a ≡ gives (record { octets = new; size = n })
+pub wrote_gives : (a : Answer WrittenRemedies) (old : List ℕ) (n : ℕ) (new : List ℕ) → WroteAs a old (Ok n) new → a ≡ gives (record { octets = new; size = n })
 wrote_gives (gives w) old n new p =
     let e = p.size in
     let s : w.size ≡ n = cc in
@@ -30,15 +27,15 @@ wrote_gives (refused m at) old n new p = let e = p.size in let z : ◌≡◌ {A 
 
 -- ---- written, then read
 
-module _ (h : Handed) (shaped : Shaped h) (out : List ℕ) (r : Wrote) (new : List ℕ) (n : ℕ) (p : WroteAs (remedy_writing h out) out r new) (e : r ≡ W.Octets n) where
+module _ (h : Handed) (shaped : Shaped h) (out : List ℕ) (r : Result ℕ Refusal) (new : List ℕ) (n : ℕ) (p : WroteAs (remedy_writing h out) out r new) (e : r ≡ Ok n) where
   -- the telegram gives all back that was handed in, and the output past it stays
   pub wrote_reads_back : ReadsBack h (take n new) × (drop n new ≡ drop n out)
   wrote_reads_back =
-      let q : WroteAs (remedy_writing h out) out (W.Octets n) new = rw e at p in
+      let q : WroteAs (remedy_writing h out) out (Ok n) new = rw e at p in
       read_after_write h shaped out (record { octets = new; size = n }) (wrote_gives (remedy_writing h out) out n new q)
 
   -- the reader's answer
-  pub wrote_read_answer : (a : RemediesRead) → read_answer a ≡ remedy_reading (take n new)
+  pub wrote_read_answer : (a : Result Remedies Refusal) → read_answer a ≡ remedy_reading (take n new)
       → read_answer a ≡ gives (record { language = h.language; ordered = h.ordered; count = h.blocks.many })
   wrote_read_answer a q = q ∙ wrote_reads_back.0.read
 
@@ -75,8 +72,8 @@ same_but : (h g : Handed) → h.head ≡ g.head → h.carried ≡ g.carried → 
     → with_blocks h g.blocks ≡ g
 same_but h g a b c d = λ i. record { head = a i; carried = b i; language = c i; ordered = d i; blocks = g.blocks }
 
-pub read_writes_again : (t : List ℕ) → Octets t → (a : RemediesRead) (m : Remedies) → a ≡ R.Read m → read_answer a ≡ remedy_reading t → (h : Handed) → HandedOn t m h
-    → (out : List ℕ) → length t ≤ length out → (r : Wrote) (new : List ℕ) → WroteAs (remedy_writing h out) out r new
+pub read_writes_again : (t : List ℕ) → Octets t → (a : Result Remedies Refusal) (m : Remedies) → a ≡ Ok m → read_answer a ≡ remedy_reading t → (h : Handed) → HandedOn t m h
+    → (out : List ℕ) → length t ≤ length out → (r : Result ℕ Refusal) (new : List ℕ) → WroteAs (remedy_writing h out) out r new
     → (wrote_answer r ≡ gives (length t)) × (new ≡ over out 0 (reserve_to t (block_count t)))
 read_writes_again t o a m is read h on out room r new p =
     let w = rules_of t _ (sym read ∙ ap read_answer is) in
@@ -93,18 +90,9 @@ read_writes_again t o a m is read h on out room r new p =
 
 -- ---- one answer, one output
 
-told : Answer ℕ → Wrote
-told (gives n) = W.Octets n
-told (refused n at) = W.Refused (numbered n at)
+pub one_wrote : (a : Answer ℕ) (r s : Result ℕ Refusal) → wrote_answer r ≡ a → wrote_answer s ≡ a → r ≡ s
+one_wrote = one_result (λ x. x) (λ x. x) (λ x. refl)
 
-told_of_lem : (r : Wrote) → told (wrote_answer r) ≡ r
-unfolding told
-told_of_lem (W.Octets n) = refl
-told_of_lem (W.Refused f) = ap W.Refused (numbered_of f)
-
-pub one_wrote : (a : Answer ℕ) (r s : Wrote) → wrote_answer r ≡ a → wrote_answer s ≡ a → r ≡ s
-one_wrote = one_answer wrote_answer told told_of_lem
-
-pub contract_settles : (a : Answer WrittenRemedies) (old : List ℕ) (r s : Wrote) (new other : List ℕ) → WroteAs a old r new → WroteAs a old s other
+pub contract_settles : (a : Answer WrittenRemedies) (old : List ℕ) (r s : Result ℕ Refusal) (new other : List ℕ) → WroteAs a old r new → WroteAs a old s other
     → (wrote_answer r ≡ wrote_answer s) × (r ≡ s) × (new ≡ other)
 contract_settles a old r s new other t u = (t.size ∙ sym u.size, one_wrote _ r s t.size u.size, t.octets ∙ sym u.octets)

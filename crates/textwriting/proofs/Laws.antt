@@ -1,5 +1,5 @@
 -- What judging the blocks one after the other shows, octets written one run after the other, and the writer's answers. Assumes nothing.
-use Prim.Native.Nat.{ℕ, zero, suc, ◌+◌, ◌-◌, ◌*◌, ◌/◌, ◌%◌, ◌^◌, ◌≤◌, ◌<◌}
+use Prim.Native.Nat.{ℕ, suc, ◌+◌, ◌-◌, ◌*◌, ◌/◌, ◌%◌, ◌^◌, ◌≤◌, ◌<◌}
 use native.Mathlib.Nat.{lt_irrefl}
 use native.Mathlib.Numerals.{add-one}
 use native.Mathlib.Omega.{arith}
@@ -10,20 +10,21 @@ use lib.Dec.{ltb, leb, eqb}
 use lib.ListN.{length, get_or, take, drop, replicate, take-append-drop, length-append}
 use lib.Bits.{bit_or}
 use borrow.Author.Count.{below_more}
-use borrow.Author.Tests.{lt-ltb, le-ltb, ltb-false, le-leb, lt-leb, leb-true, leb-false, eq-eqb, ne_eqb, eqb-true, eqb-false, not-false}
+use borrow.Author.Tests.{lt-ltb, le-ltb, ltb-false, lt-leb, leb-true, leb-false, eq-eqb, ne_eqb, eqb-true, not-false}
 use Rattle.paper.specs.Octets.{octets_of, over}
-use Rattle.paper.specs.Answer.{Answer, gives, refused}
+use Rattle.std.specs.Prelude.{Some, None, Ok, Err}
+use Rattle.paper.specs.Answer.{Answer, gives, refused, refuse_if, and_then}
 use Rattle.paper.specs.ETelegrams.{remedy_code}
 use Rattle.paper.specs.First.{first_of}
-use Rattle.paper.specs.Remedies.{field_rule, twice, first_fault, Blocks, blocks_of, area_to, area_blocks, Handed, Shaped, handed_fault, size_to, block_octets, blocks_to, front_octets, telegram_of, WrittenRemedies, written_of, remedy_writing}
+use Rattle.paper.specs.Remedies.{field_rule, twice, first_fault, refuse_by, Blocks, blocks_of, area_to, area_blocks, Handed, Shaped, handed_fault, size_to, block_octets, blocks_to, front_octets, telegram_of, WrittenRemedies, written_of, remedy_writing}
 use Rattle.paper.proofs.NumberLaws.{over-over, length-octets_of}
 use Rattle.paper.proofs.AnswerLaws.{refuses, goes_past}
-use Rattle.paper.proofs.RemedyLaws.{fault_here, no_fault, fault_none, length_front, field_rules, handed_rules, length_block, length_blocks, size_least, sizes_alike, area_rises, area_size, writes_alike}
+use Rattle.paper.proofs.RemedyLaws as remedies
+use Rattle.paper.proofs.RemedyLaws.{fault_here, no_fault, length_front, field_rules, handed_rules, length_block, length_blocks, size_least, sizes_alike, area_rises, area_size, writes_alike}
 use Rattle.refusals.specs.declared.Refusal.{Refusal}
 use Rattle.refusals.specs.Refusal.{refusal_of}
-use Rattle.texts.specs.Texts.{holds, Holds, Fault}
-use Rattle.texts.proofs.Laws.{holds_none, holds_more}
-use Rattle.textwriting.specs.declared.Wrote.TheVariants as W
+use Rattle.texts.specs.Texts.{Holds, Fault}
+use Rattle.texts.proofs.Laws.{holds_none, holds_more, fault_some, fault_none, fault_then}
 use Rattle.textwriting.specs.Writing.{handed_of, count_holds, handed_at, front_of, size_in, Fit, WroteAs}
 
 -- ---- the blocks as handed in, in order
@@ -31,15 +32,6 @@ use Rattle.textwriting.specs.Writing.{handed_of, count_holds, handed_at, front_o
 same_second : (b v w : Bool) → (b ≡ false → v ≡ w) → first_of 29 (b ∷ v ∷ []) 0 ≡ first_of 29 (b ∷ w ∷ []) 0
 same_second true v w e = refl
 same_second false v w e = ap (λ (x : Bool). first_of 29 (false ∷ x ∷ []) 0) (e refl)
-
-handed_range : (key size seen : ℕ) → (handed_at key size seen ≤ 30) × ((handed_at key size seen ≡ 0 → ⊥) → 28 ≤ handed_at key size seen)
-unfolding handed_at
-handed_range key size seen = by (not (field_rule key size)) (holds seen key)
-  where
-    by : (a b : Bool) → (first_of 29 (a ∷ b ∷ []) 0 ≤ 30) × ((first_of 29 (a ∷ b ∷ []) 0 ≡ 0 → ⊥) → 28 ≤ first_of 29 (a ∷ b ∷ []) 0)
-    by true b = (omega arith, λ n. omega arith)
-    by false true = (omega arith, λ n. omega arith)
-    by false false = (omega arith, λ n. absurd (n refl))
 
 -- the loop stands at k
 pub record Passed (b : Blocks) (n seen k : ℕ) : Type 0 where
@@ -51,40 +43,39 @@ pub passed_none : (b : Blocks) (n : ℕ) → Passed b n 0 0
 passed_none b n = record { within = omega arith; held = holds_none b.key; each = λ j l. absurd (lt_irrefl j (omega arith)) }
 
 module _ (b : Blocks) (n seen k : ℕ) (p : Passed b n seen k) where
-  handed_is : (size : ℕ) → size ≡ length (b.text k) → handed_at (b.key k) size seen ≡ handed_fault b k
-  unfolding handed_at handed_fault twice
-  handed_is size e =
-      ap (λ (x : ℕ). handed_at (b.key k) x seen) e
-      ∙ same_second (not (field_rule (b.key k) (length (b.text k)))) _ _ (λ f.
-      let r = field_rules (b.key k) (length (b.text k)) (not-false _ f) in p.held (b.key k) r.0 r.1)
+  -- block k, by its key and the length of its text
+  module _ (key size : ℕ) (named : key ≡ b.key k) (is : size ≡ length (b.text k)) where
+    handed_is : handed_at key size seen ≡ handed_fault b k
+    unfolding handed_at handed_fault twice
+    handed_is =
+        ap₂ (λ (x y : ℕ). handed_at x y seen) named is
+        ∙ same_second (not (field_rule (b.key k) (length (b.text k)))) _ _ (λ f.
+        let r = field_rules (b.key k) (length (b.text k)) (not-false _ f) in p.held (b.key k) r.0 r.1)
 
-  module _ (size v : ℕ) (is : size ≡ length (b.text k)) (e : v ≡ handed_at (b.key k) size seen) where
-    pub passed_here : k < n → (v ≡ 0 → ⊥) → Fault (first_fault (handed_fault b) n) v
-    passed_here h ne =
-        record {
-          is = fault_here (handed_fault b) n k v h p.each (sym (e ∙ handed_is size is)) ne;
-          least = λ _. rw e ((handed_range (b.key k) size seen).1 (λ x. ne (e ∙ x)));
-          most = rw e (handed_range (b.key k) size seen).0;
-        }
+    pub passed_here : k < n → (f : Refusal) → Fault (handed_at key size seen) (Err f) → Fault (first_fault (handed_fault b) n) (Err f)
+    passed_here h f e =
+        e ∙ ap (λ (x : ℕ). refuse_by {A = Unit {0}} x (gives tt)) (fault_here (handed_fault b) n k _ h p.each (sym handed_is) (fault_some _ f e))
 
-    block_good : v ≡ 0 → handed_fault b k ≡ 0
-    block_good none = sym (handed_is size is) ∙ sym e ∙ none
+    module _ (e : Fault (handed_at key size seen) (Ok tt)) where
+      block_good : handed_fault b k ≡ 0
+      block_good = sym handed_is ∙ fault_none _ e
 
-    pub passed_key : v ≡ 0 → (1 ≤ b.key k) × (b.key k ≤ 8)
-    passed_key none = let r = handed_rules b k (block_good none) in (r.key_least, r.key_most)
+      pub passed_key : (1 ≤ key) × (key ≤ 8)
+      passed_key = let r = handed_rules b k block_good in rw named (r.key_least, r.key_most)
 
-    pub passed_more : v ≡ 0 → k < n → (set : ℕ) → set ≡ bit_or seen (2 ^ (b.key k - 1)) → Passed b n set (k + 1)
-    passed_more none h set f =
-        let r = handed_rules b k (block_good none) in
-        let one : k + 1 ≡ suc k = add-one k in
-        record {
-          within = omega arith;
-          held = rw (one, f) (holds_more b.key k seen p.held r.key_least r.key_most);
-          each = below_more _ _ p.each (block_good none);
-        }
+      pub passed_more : k < n → (set : ℕ) → set ≡ bit_or seen (2 ^ (key - 1)) → Passed b n set (k + 1)
+      passed_more h set f =
+          let r = handed_rules b k block_good in
+          let one : k + 1 ≡ suc k = add-one k in
+          record {
+            within = omega arith;
+            held = rw (one, f, named) (holds_more b.key k seen p.held r.key_least r.key_most);
+            each = below_more _ _ p.each block_good;
+          }
 
-  pub passed_all : n ≤ k → Fault (first_fault (handed_fault b) n) 0
-  passed_all h = record { is = no_fault (handed_fault b) n (λ j l. p.each j (omega arith)); least = λ x. absurd (x refl); most = omega arith }
+  pub passed_all : n ≤ k → Fault (first_fault (handed_fault b) n) (Ok tt)
+  unfolding refuse_if
+  passed_all h = ap (λ (x : ℕ). refuse_by {A = Unit {0}} x (gives tt)) (no_fault (handed_fault b) n (λ j l. p.each j (omega arith)))
 
 -- ---- octets written one run after the other
 
@@ -159,44 +150,40 @@ blocks_turn b l m r k key text e room f g h =
 
 -- ---- the telegram's octets, as far as there is room
 
-pub size_short : (b : Blocks) (room : ℕ) → room < size_to b b.many → 0 ≡ size_in b room
+pub size_short : (b : Blocks) (room : ℕ) → room < size_to b b.many → None ≡ size_in b room
 size_short b room h = rw (lt-leb (size_to b b.many) room h)
 
-pub size_whole : (b : Blocks) (room v : ℕ) → v ≡ size_to b b.many → v ≤ room → v ≡ size_in b room
-size_whole b room v e h = rw (le-leb (size_to b b.many) room (omega arith)) e
-
--- whatever the keys: 0 where there is no room for the blocks, else their size
-module _ (keys : List ℕ) (texts : List (List ℕ)) (room v : ℕ) (e : v ≡ size_in (blocks_of [] texts) room) where
+-- whatever the keys: none where there is no room for the blocks, else their size
+module _ (keys : List ℕ) (texts : List (List ℕ)) (room : ℕ) where
   abbrev N : ℕ
   N = length texts
 
   alike : size_to (blocks_of [] texts) N ≡ size_to (blocks_of keys texts) N
   alike = sizes_alike (blocks_of [] texts) (blocks_of keys texts) N (λ k h. refl)
 
-  pub no_size : v ≡ 0 → room < size_to (blocks_of keys texts) N
-  no_size z = by (leb (size_to (blocks_of [] texts) N) room) refl
+  pub no_size : None ≡ size_in (blocks_of [] texts) room → room < size_to (blocks_of keys texts) N
+  no_size e = by (leb (size_to (blocks_of [] texts) N) room) refl
     where
       by : (b : Bool) → leb (size_to (blocks_of [] texts) N) room ≡ b → room < size_to (blocks_of keys texts) N
-      by true t =
-          let q : v ≡ size_to (blocks_of [] texts) N = e ∙ ap (λ (b : Bool). cond b (size_to (blocks_of [] texts) N) 0) t in
-          absurd (lt_irrefl 0 (omega (arith, size_least (blocks_of [] texts) N)))
+      by true t = let q = e ∙ ap (λ (b : Bool). cond b (Some (size_to (blocks_of [] texts) N)) None) t in cc
       by false t = omega (arith, leb-false (size_to (blocks_of [] texts) N) room t, alike)
 
-  pub some_size : (v ≡ 0 → ⊥) → (v ≡ size_to (blocks_of keys texts) N) × (size_to (blocks_of keys texts) N ≤ room)
-  some_size n = by (leb (size_to (blocks_of [] texts) N) room) refl
+  pub some_size : (v : ℕ) → Some v ≡ size_in (blocks_of [] texts) room → (v ≡ size_to (blocks_of keys texts) N) × (size_to (blocks_of keys texts) N ≤ room)
+  some_size v e = by (leb (size_to (blocks_of [] texts) N) room) refl
     where
       by : (b : Bool) → leb (size_to (blocks_of [] texts) N) room ≡ b → (v ≡ size_to (blocks_of keys texts) N) × (size_to (blocks_of keys texts) N ≤ room)
       by true t =
-          let q : v ≡ size_to (blocks_of [] texts) N = e ∙ ap (λ (b : Bool). cond b (size_to (blocks_of [] texts) N) 0) t in
-          (q ∙ alike, omega (arith, leb-true (size_to (blocks_of [] texts) N) room t, alike))
-      by false t = absurd (n (e ∙ ap (λ (b : Bool). cond b (size_to (blocks_of [] texts) N) 0) t))
+          let q = e ∙ ap (λ (b : Bool). cond b (Some (size_to (blocks_of [] texts) N)) None) t in
+          let s : v ≡ size_to (blocks_of [] texts) N = cc in
+          (s ∙ alike, omega (arith, leb-true (size_to (blocks_of [] texts) N) room t, alike))
+      by false t = let q = e ∙ ap (λ (b : Bool). cond b (Some (size_to (blocks_of [] texts) N)) None) t in cc
 
 -- ---- the writer
 
-pub wrote_refused : (f : Refusal) (a : Answer WrittenRemedies) (old : List ℕ) → refusal_of f ≡ a → WroteAs a old (W.Refused f) old
+pub wrote_refused : (f : Refusal) (a : Answer WrittenRemedies) (old : List ℕ) → refusal_of f ≡ a → WroteAs a old (Err f) old
 wrote_refused f a old e = record { size = rw (← e); octets = rw (← e) }
 
-pub wrote_octets : (w : WrittenRemedies) (a : Answer WrittenRemedies) (old : List ℕ) → gives w ≡ a → WroteAs a old (W.Octets w.size) w.octets
+pub wrote_octets : (w : WrittenRemedies) (a : Answer WrittenRemedies) (old : List ℕ) → gives w ≡ a → WroteAs a old (Ok w.size) w.octets
 wrote_octets w a old e = record { size = rw (← e); octets = rw (← e) }
 
 module _ (h : Handed) (out : List ℕ) where
@@ -220,31 +207,20 @@ module _ (h : Handed) (out : List ℕ) (agree : h.blocks.agree ≡ true) (n : �
     by_count e =
         goes_past _ 29 0 _ _ (ap not agree) (goes_past _ 25 0 _ _ enough (refuses _ 29 0 _ (ap not (ap (count_holds h.ordered) (sym is) ∙ e))))
 
-    module _ (counted : count_holds h.ordered n ≡ true) (v : ℕ) (f : v ≡ first_fault (handed_fault h.blocks) n) where
-      good_count : not (count_holds h.ordered h.blocks.many) ≡ false
-      good_count = ap not (ap (count_holds h.ordered) (sym is) ∙ counted)
+    -- what the blocks are refused by, or the telegram
+    pub by_blocks : count_holds h.ordered n ≡ true → (a : Answer (Unit {0})) → a ≡ refuse_by (first_fault (handed_fault h.blocks) n) (gives tt)
+        → and_then a (λ x. gives (written_of h out)) ≡ remedy_writing h out
+    unfolding remedy_writing
+    by_blocks counted a e =
+        goes_past _ 29 0 _ _ (ap not agree) (goes_past _ 25 0 _ _ enough (goes_past _ 29 0 _ _ (ap not (ap (count_holds h.ordered) (sym is) ∙ counted))
+        (fault_then _ _ a (e ∙ ap (λ (i : ℕ). refuse_by {A = Unit {0}} (first_fault (handed_fault h.blocks) i) (gives tt)) is))))
 
-      first_is : v ≡ first_fault (handed_fault h.blocks) h.blocks.many
-      first_is = f ∙ ap (first_fault (handed_fault h.blocks)) is
-
-      pub by_handed : (v ≡ 0 → ⊥) → refused v 0 ≡ remedy_writing h out
-      unfolding remedy_writing
-      by_handed ne =
-          goes_past _ 29 0 _ _ (ap not agree) (goes_past _ 25 0 _ _ enough (goes_past _ 29 0 _ _ good_count
-          (ap (λ (x : ℕ). refused x 0) first_is ∙ refuses _ _ 0 _ (ap not (ne_eqb (first_fault (handed_fault h.blocks) h.blocks.many) 0 (λ z. ne (first_is ∙ z)))))))
-
-      pub by_written : v ≡ 0 → gives (written_of h out) ≡ remedy_writing h out
-      unfolding remedy_writing
-      by_written none =
-          goes_past _ 29 0 _ _ (ap not agree) (goes_past _ 25 0 _ _ enough (goes_past _ 29 0 _ _ good_count
-          (goes_past _ _ 0 _ _ (ap not (eq-eqb (first_fault (handed_fault h.blocks) h.blocks.many) 0 (sym first_is ∙ none))) refl)))
-
-      pub blocks_fit : v ≡ 0 → Fit h.blocks (length out)
-      blocks_fit none =
-          record {
-            fits = ltb-false _ _ enough;
-            short = λ k lt. (handed_rules h.blocks k (fault_none (handed_fault h.blocks) h.blocks.many (sym first_is ∙ none) k lt)).short;
-          }
+    pub blocks_fit : Fault (first_fault (handed_fault h.blocks) n) (Ok tt) → Fit h.blocks (length out)
+    blocks_fit e =
+        record {
+          fits = ltb-false _ _ enough;
+          short = λ k lt. (handed_rules h.blocks k (remedies.fault_none (handed_fault h.blocks) n (fault_none _ e) k (omega arith))).short;
+        }
 
     pub telegram_written : (new last : List ℕ) → Shaped h
         → new ≡ over out 0 (front_of h.head h.carried h.language h.ordered n) → last ≡ over new 30 (blocks_to h.blocks n) → last ≡ over out 0 (telegram_of h)
@@ -258,13 +234,13 @@ module _ (h : Handed) (out : List ℕ) (agree : h.blocks.agree ≡ true) (n : �
         (f ∙ ap (λ (i : ℕ). over new 30 (blocks_to h.blocks i)) is)
 
     -- the length that is answered and the output
-    pub written_all : count_holds h.ordered n ≡ true → 0 ≡ first_fault (handed_fault h.blocks) n → Shaped h → (v : ℕ) → v ≡ size_to h.blocks n → (new last : List ℕ)
+    pub written_all : count_holds h.ordered n ≡ true → Fault (first_fault (handed_fault h.blocks) n) (Ok tt) → Shaped h → (v : ℕ) → v ≡ size_to h.blocks n → (new last : List ℕ)
         → new ≡ over out 0 (front_of h.head h.carried h.language h.ordered n) → last ≡ over new 30 (blocks_to h.blocks n)
-        → WroteAs (remedy_writing h out) out (W.Octets v) last
-    written_all counted none shaped v q new last e f =
+        → WroteAs (remedy_writing h out) out (Ok v) last
+    written_all counted sound shaped v q new last e f =
         wrote_octets (record { octets = last; size = v }) (remedy_writing h out) out
         (ap₂ (λ (x : List ℕ) (i : ℕ). gives (record { octets = x; size = i })) (telegram_written new last shaped e f) (q ∙ ap (size_to h.blocks) is)
-        ∙ by_written counted 0 none refl)
+        ∙ by_blocks counted (gives tt) sound)
 
 -- ---- texts lent as one area
 
@@ -276,40 +252,10 @@ pub area_more : (lengths : List ℕ) (k : ℕ) → area_to lengths k + get_or le
 unfolding area_to
 area_more lengths k = ap (area_to lengths) (sym (add-one k))
 
-module _ (lengths : List ℕ) (octets left k : ℕ) (e : left + area_to lengths k ≡ octets) where
-  pub adds_over : k < length lengths → left < get_or lengths k 0 → false ≡ eqb (area_to lengths (length lengths)) octets
-  adds_over h l =
-      sym (ne_eqb (area_to lengths (length lengths)) octets (λ q. lt_irrefl octets (omega (arith, area_rises lengths (length lengths) k h))))
-
-  pub adds_end : k ≡ length lengths → eqb left 0 ≡ eqb (area_to lengths (length lengths)) octets
-  adds_end q = by (eqb left 0) refl
-    where
-      all : area_to lengths k ≡ area_to lengths (length lengths)
-      all = ap (area_to lengths) q
-
-      by : (b : Bool) → eqb left 0 ≡ b → b ≡ eqb (area_to lengths (length lengths)) octets
-      by true t = sym (eq-eqb (area_to lengths (length lengths)) octets (omega (arith, all, eqb-true left 0 t)))
-      by false t = sym (ne_eqb (area_to lengths (length lengths)) octets (λ z. eqb-false left 0 t (omega (arith, all))))
-
--- eight in a row
-pub of_eight : {A : Type 0} (f : ℕ → A) (d a b c e i j m n : A) → a ≡ f 0 → b ≡ f 1 → c ≡ f 2 → e ≡ f 3 → i ≡ f 4 → j ≡ f 5 → m ≡ f 6 → n ≡ f 7
-    → (k : ℕ) → k < 8 → get_or (a ∷ b ∷ c ∷ e ∷ i ∷ j ∷ m ∷ n ∷ []) k d ≡ f k
-of_eight f d a b c e i j m n p0 p1 p2 p3 p4 p5 p6 p7 zero h = p0
-of_eight f d a b c e i j m n p0 p1 p2 p3 p4 p5 p6 p7 (suc zero) h = p1
-of_eight f d a b c e i j m n p0 p1 p2 p3 p4 p5 p6 p7 (suc (suc zero)) h = p2
-of_eight f d a b c e i j m n p0 p1 p2 p3 p4 p5 p6 p7 (suc (suc (suc zero))) h = p3
-of_eight f d a b c e i j m n p0 p1 p2 p3 p4 p5 p6 p7 (suc (suc (suc (suc zero)))) h = p4
-of_eight f d a b c e i j m n p0 p1 p2 p3 p4 p5 p6 p7 (suc (suc (suc (suc (suc zero))))) h = p5
-of_eight f d a b c e i j m n p0 p1 p2 p3 p4 p5 p6 p7 (suc (suc (suc (suc (suc (suc zero)))))) h = p6
-of_eight f d a b c e i j m n p0 p1 p2 p3 p4 p5 p6 p7 (suc (suc (suc (suc (suc (suc (suc zero))))))) h = p7
-of_eight f d a b c e i j m n p0 p1 p2 p3 p4 p5 p6 p7 (suc (suc (suc (suc (suc (suc (suc (suc k)))))))) h = absurd (lt_irrefl 8 (omega arith))
-
-pub room_left : (n octets room : ℕ) → 30 + 6 * n ≤ room → leb octets (room - 30 - 6 * n) ≡ leb (30 + 6 * n + octets) room
-room_left n octets room h = by (leb octets (room - 30 - 6 * n)) refl
-  where
-    by : (b : Bool) → leb octets (room - 30 - 6 * n) ≡ b → b ≡ leb (30 + 6 * n + octets) room
-    by true t = sym (le-leb (30 + 6 * n + octets) room (omega (arith, leb-true octets (room - 30 - 6 * n) t)))
-    by false t = sym (lt-leb (30 + 6 * n + octets) room (omega (arith, leb-false octets (room - 30 - 6 * n) t)))
+pub adds_over : (lengths : List ℕ) (octets left k : ℕ) → left + area_to lengths k ≡ octets → k < length lengths → left < get_or lengths k 0
+    → false ≡ eqb (area_to lengths (length lengths)) octets
+adds_over lengths octets left k e h l =
+    sym (ne_eqb (area_to lengths (length lengths)) octets (λ q. lt_irrefl octets (omega (arith, area_rises lengths (length lengths) k h))))
 
 last_fails : (a b : Bool) → b ≡ false → (a && b) ≡ false
 last_fails true b e = e

@@ -1,28 +1,27 @@
--- What the parts of the writer ask and answer, and the paper's answer for each case of the code's enum.
-use Rattle.std.specs.Prelude.{ℕ, ◌≤◌, ◌<◌, ◌≡◌, Bool, true, not, cond, ◌&&◌, List, [], ◌∷◌, leb, length}
-use Rattle.paper.specs.Answer.{Answer, gives, after, map_answer}
+-- What the parts of the writer ask and answer, and the paper's answer for each result of a call.
+use Rattle.std.specs.Prelude.{Option, Some, None, Result, ℕ, ◌≤◌, ◌<◌, ◌≡◌, Bool, true, not, cond, ◌&&◌, List, [], ◌∷◌, leb, length}
+use Rattle.paper.specs.Answer.{Answer, after, map_answer}
 use Rattle.paper.specs.First.{first_of}
 use Rattle.paper.specs.Remedies.{Blocks, Handed, WrittenRemedies, field_rule, front_octets, size_to}
-use Rattle.refusals.specs.Refusal.{refusal_of}
+use Rattle.refusals.specs.declared.Refusal.{Refusal}
+use Rattle.refusals.specs.Outcome.{answer_of}
 use Rattle.texts.specs.Texts.{holds}
-use Rattle.textwriting.specs.declared.Wrote.{Wrote}
-use Rattle.textwriting.specs.declared.Wrote.TheVariants.{Octets, Refused}
 
-abbrev pub wrote_answer : Wrote → Answer ℕ
-wrote_answer (Octets n) = gives n
-wrote_answer (Refused f) = refusal_of f
+-- how many octets were written
+abbrev pub wrote_answer : Result ℕ Refusal → Answer ℕ
+wrote_answer = answer_of (λ x. x)
 
 -- the length that was written, and the output afterwards, which is as it was where the call is refused
-pub record WroteAs (answer : Answer WrittenRemedies) (old : List ℕ) (r : Wrote) (new : List ℕ) : Type 0 where
+pub record WroteAs (answer : Answer WrittenRemedies) (old : List ℕ) (r : Result ℕ Refusal) (new : List ℕ) : Type 0 where
   pub size : wrote_answer r ≡ map_answer (λ w. w.size) answer
   pub octets : new ≡ after old (map_answer (λ w. w.octets) answer)
 
 abbrev pub handed_of : List ℕ → List ℕ → ℕ → ℕ → Blocks → Handed
 handed_of head carried language ordered blocks = record { head = head; carried = carried; language = language; ordered = ordered; blocks = blocks }
 
--- the telegram's octets, 0 where the room does not hold them
-abbrev pub size_in : Blocks → ℕ → ℕ
-size_in b room = cond (leb (size_to b b.many) room) (size_to b b.many) 0
+-- the telegram's octets, where the room holds them
+abbrev pub size_in : Blocks → ℕ → Option ℕ
+size_in b room = cond (leb (size_to b b.many) room) (Some (size_to b b.many)) None
 
 -- a block's fault as handed in, by a set of keys
 unfoldable pub handed_at : ℕ → ℕ → ℕ → ℕ

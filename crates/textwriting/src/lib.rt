@@ -9,65 +9,42 @@ ghost use Rattle.textwriting.specs.Writing.{handed_at, count_holds, front_of, ha
 
 use refusals::Refusal;
 
-// How many octets were written, from the first octet of the output on.
-#[derive(Clone, Copy)]
-pub enum Wrote {
-    Octets(usize),
-    Refused(Refusal),
-}
-
-// The octets of the telegram of these texts; 0 where they are more than `room`.
-fn size_in(texts: &[&[u8]], room: usize) -> usize
+// The octets of the telegram of these texts, where they are not more than `room`.
+fn size_in(texts: &[&[u8]], room: usize) -> Option<usize>
     ensures { result ≡ size_in (blocks_of [] (map (λ x. x.now) texts.now)) room }
 {
-    if room < 30 {
-        return 0;
+    let mut left = room.checked_sub(30)?;
+    for text in texts {
+        left = left.checked_sub(6)?.checked_sub(text.len())?;
     }
-    let mut at = 30;
-    let mut k = 0;
-    while k < texts.len() {
-        let size = texts[k].len();
-        if room - at < 6 {
-            return 0;
-        }
-        if room - at - 6 < size {
-            return 0;
-        }
-        at = at + 6 + size;
-        k += 1;
-    }
-    at
+    Some(room - left)
 }
 
-// The lowest number of a block as handed in, by the keys seen before it; 0 for none.
-fn handed_fault(key: u8, size: usize, seen: u8) -> u8
-    ensures { result ≡ handed_at key size seen }
+// Refuses a block as handed in by its lowest number, by the keys seen before it.
+#[tactic(auto, using(paper::proofs::RemedyLaws::field_rules), unfolding(crate::specs::Writing::handed_at, paper::specs::Answer::refuse_if))]
+fn handed_fault(key: u8, size: usize, seen: u8) -> Result<(), Refusal>
+    ensures { Fault (handed_at key size seen) result }
 {
     if !texts::field_rule(key, size) {
-        return 29;
+        return Err(Refusal::RemedyField);
     }
     if texts::has(seen, key) {
-        return 30;
+        return Err(Refusal::KeyTwice);
     }
-    0
+    Ok(())
 }
 
-// Of the first of the blocks that has one.
-fn first_handed(keys: &[u8], texts: &[&[u8]]) -> u8
+// Refuses the first of the blocks that has a fault.
+fn first_handed(keys: &[u8], texts: &[&[u8]]) -> Result<(), Refusal>
+    requires { length keys.now ≡ length texts.now }
     ensures { Fault (first_fault (handed_fault (blocks_of keys.now (map (λ x. x.now) texts.now))) (length texts.now)) result }
 {
     let mut seen = 0u8;
-    let mut k = 0;
-    while k < texts.len() {
-        let key = texts::octet(keys, k);
-        let f = handed_fault(key, texts[k].len(), seen);
-        if f != 0 {
-            return f;
-        }
+    for (&key, text) in keys.iter().zip(texts) {
+        handed_fault(key, text.len(), seen)?;
         seen = texts::with(seen, key);
-        k += 1;
     }
-    0
+    Ok(())
 }
 
 fn write_block(out: &mut [u8], at: usize, key: u8, text: &[u8])
@@ -103,16 +80,14 @@ fn write_front(
 
 // The blocks, from octet 31 on.
 fn write_blocks(out: &mut [u8], keys: &[u8], texts: &[&[u8]])
-    requires { Fit (blocks_of keys.now (map (λ x. x.now) texts.now)) (length out.old) }
+    requires agree { length keys.now ≡ length texts.now }
+    requires room { Fit (blocks_of keys.now (map (λ x. x.now) texts.now)) (length out.old) }
     ensures { out.new ≡ over out.old 30 (blocks_to (blocks_of keys.now (map (λ x. x.now) texts.now)) (length texts.now)) }
 {
     let mut at = 30;
-    let mut k = 0;
-    while k < texts.len() {
-        let text = texts[k];
-        write_block(out, at, texts::octet(keys, k), text);
-        at = at + 6 + text.len();
-        k += 1;
+    for (&key, text) in keys.iter().zip(texts) {
+        write_block(out, at, key, text);
+        at += 6 + text.len();
     }
 }
 
@@ -132,81 +107,39 @@ pub fn write_remedies(
     keys: &[u8],
     texts: &[&[u8]],
     out: &mut [u8],
-) -> Wrote
+) -> Result<usize, Refusal>
     ensures { WroteAs (remedy_writing (handed_of head.now carried.now language ordered (blocks_of keys.now (map (λ x. x.now) texts.now))) out.old) out.old result out.new }
 {
     let n = texts.len();
     if keys.len() != n {
-        return Wrote::Refused(Refusal::REMEDY_FIELD);
+        return Err(Refusal::RemedyField);
     }
-    let size = size_in(texts, out.len());
-    if size == 0 {
-        return Wrote::Refused(Refusal::OUTPUT_SHORT);
-    }
+    let Some(size) = size_in(texts, out.len()) else {
+        return Err(Refusal::OutputShort);
+    };
     if !count_rule(ordered, n) {
-        return Wrote::Refused(Refusal::REMEDY_FIELD);
+        return Err(Refusal::RemedyField);
     }
-    let f = first_handed(keys, texts);
-    if f != 0 {
-        return Wrote::Refused(texts::refusal(f));
-    }
+    first_handed(keys, texts)?;
     write_front(out, head, carried, language, ordered, n as u8);
     write_blocks(out, keys, texts);
-    Wrote::Octets(size)
+    Ok(size)
 }
 
 // Whether the lengths add up to so many octets.
+#[tactic(auto, using(crate::proofs::Laws::area_none, crate::proofs::Laws::area_more))]
 fn adds_up(lengths: &[u16], octets: usize) -> bool
     ensures { result ≡ eqb (area_to lengths.now (length lengths.now)) octets }
 {
     let mut left = octets;
-    let mut k = 0;
-    while k < lengths.len() {
-        let size = length_at(lengths, k);
+    for &size in lengths {
+        let size = usize::from(size);
         if left < size {
             return false;
         }
         left -= size;
-        k += 1;
     }
     left == 0
-}
-
-// Where text k starts in the area.
-fn area_to(lengths: &[u16], k: usize) -> usize
-    requires { k ≤ 8 }
-    ensures { (result ≡ area_to lengths.now k) × (result ≤ 65535 * k) }
-{
-    let mut at = 0;
-    let mut i = 0;
-    while i < k {
-        at += length_at(lengths, i);
-        i += 1;
-    }
-    at
-}
-
-fn wide(x: u16) -> usize
-    ensures { (result ≡ x) × (result ≤ 65535) }
-{
-    x as usize
-}
-
-// Length k, 0 past the last.
-fn length_at(lengths: &[u16], k: usize) -> usize
-    ensures { (result ≡ get_or lengths.now k 0) × (result ≤ 65535) }
-{
-    if lengths.len() <= k {
-        return 0;
-    }
-    wide(lengths[k])
-}
-
-fn text_in<'a>(area: &'a [u8], lengths: &[u16], k: usize) -> &'a [u8]
-    requires { k ≤ 8 }
-    ensures { result.now ≡ take (get_or lengths.now k 0) (drop (area_to lengths.now k) area.now) }
-{
-    texts::part(area, area_to(lengths, k), length_at(lengths, k))
 }
 
 // Whether so many blocks with so many octets of text in all have room.
@@ -233,32 +166,29 @@ pub fn write_area(
     lengths: &[u16],
     area: &[u8],
     out: &mut [u8],
-) -> Wrote
+) -> Result<usize, Refusal>
     ensures { WroteAs (remedy_writing (handed_of head.now carried.now language ordered (area_blocks keys.now lengths.now area.now)) out.old) out.old result out.new }
 {
     let n = lengths.len();
-    let agree = adds_up(lengths, area.len());
-    if !agree {
-        return Wrote::Refused(Refusal::REMEDY_FIELD);
+    if !adds_up(lengths, area.len()) {
+        return Err(Refusal::RemedyField);
     }
     if keys.len() != n {
-        return Wrote::Refused(Refusal::REMEDY_FIELD);
+        return Err(Refusal::RemedyField);
     }
     if 8 < n {
-        if has_room(n, area.len(), out.len()) {
-            return Wrote::Refused(Refusal::REMEDY_FIELD);
-        }
-        return Wrote::Refused(Refusal::OUTPUT_SHORT);
+        return Err(if has_room(n, area.len(), out.len()) {
+            Refusal::RemedyField
+        } else {
+            Refusal::OutputShort
+        });
     }
-    let texts = [
-        text_in(area, lengths, 0),
-        text_in(area, lengths, 1),
-        text_in(area, lengths, 2),
-        text_in(area, lengths, 3),
-        text_in(area, lengths, 4),
-        text_in(area, lengths, 5),
-        text_in(area, lengths, 6),
-        text_in(area, lengths, 7),
-    ];
+    let mut texts = [&area[..0]; 8];
+    let mut at = 0;
+    for (k, &size) in lengths.iter().enumerate() {
+        let size = usize::from(size);
+        texts[k] = texts::part(area, at, size);
+        at += size;
+    }
     write_remedies(head, carried, language, ordered, keys, &texts[..n], out)
 }

@@ -1,46 +1,50 @@
-use mathlib.Core.Path.{◌≡◌, sym, ap, ◌∙◌}
-use mathlib.Core.List.{[], map}
-use Prim.Native.Nat.{ℕ, ◌-◌, ◌^◌}
-use lib.ListN.{length, get_or, get_or-map}
-use lib.Bits.{bit_or}
-use borrow.Author.Rules.{rules}
-use Rattle.paper.specs.Remedies.{blocks_of}
-use Rattle.textwriting.specs.Writing.{handed_at}
+use mathlib.Core.Path.{◌≡◌, refl, sym, ap, ◌∙◌}
+use mathlib.Core.List.{List, [], map}
+use Prim.Native.Nat.{ℕ, ◌<◌}
+use native.Mathlib.Omega.{arith}
+use lib.ListN.{length, get_or, get_or-map, length-append}
+use denote.Ref.{Bor}
+use Rattle.std.specs.Prelude.{None}
+use Rattle.std.proofs.lemmas.Grind.{common_steps}
+use Rattle.std.proofs.lemmas.Slice.Zip.{zip_turn, zip_end}
+use Rattle.refusals.proofs.WrittenLaws.{handed_on}
 use Rattle.textwriting.proofs.Laws.{passed_none, passed_here, passed_key, passed_more, passed_all}
 use Rattle.textwriting.proofs.first_handed.Goals as goal
+use Rattle.textwriting.proofs.first_handed.Goals.{In-Some, In-None}
 
-pub loop-k-init : goal.loop-k-init
-loop-k-init c = (search rules, passed_none _ _)
+-- the key and the text of this turn
+turn : (c : In-Some) → (length c.loop-key.yielded < length c.args.keys.now) × (length c.loop-key.yielded < length c.args.texts.now)
+    × ((d : ℕ) → c.in-Some.field-0-0.now ≡ get_or c.args.keys.now (length c.loop-key.yielded) d)
+    × ((d : Bor (List ℕ)) → c.in-Some.text.now ≡ get_or c.args.texts.now (length c.loop-key.yielded) d)
+turn c =
+    zip_turn _ _ _ c.into_iter-key-iterator.result c.loop-key.key-iterator c.next.new.self _ (grind (arith, common_steps)) (grind (arith, common_steps))
+    c.loop-key.yielded_by (c.in-Some.field-0-0, c.in-Some.text) refl c.in-Some.ensures.steps
 
-pub returns-then-f-ne0 : goal.returns-then-f-ne0
-returns-then-f-ne0 c =
-    let handed = blocks_of c.args.keys.now (map (λ x. x.now) c.args.texts.now) in
-    let size = length (get_or c.args.texts.now c.loop-k.k (record { ref_ptr = (0, 0); now = [] })).now in
-    let sized : size ≡ length (handed.text c.loop-k.k) = sym (ap length (get_or-map (λ x. x.now) c.args.texts.now c.loop-k.k _)) in
-    let told : c.handed_fault-f.result ≡ handed_at (handed.key c.loop-k.k) size c.loop-k.seen = c.handed_fault-f.ensures ∙ ap (λ (x : ℕ). handed_at x size c.loop-k.seen) c.octet-key.ensures in
-    let l = c.loop-k in
-    passed_here handed _ l.seen l.k l.invariant.1 size c.handed_fault-f.result sized told c.loop-k-test.true c.if-f-ne0.true
+sized : (c : In-Some) → length c.in-Some.text.now.now ≡ length (get_or (map (λ x. x.now) c.args.texts.now) (length c.loop-key.yielded) [])
+sized c =
+    let d : Bor (List ℕ) = record { ref_ptr = (0, 0); now = [] } in
+    ap (λ x. length x.now) ((turn c).3 d) ∙ sym (ap length (get_or-map (λ x. x.now) c.args.texts.now (length c.loop-key.yielded) d))
+
+pub loop-key-init : goal.loop-key-init
+loop-key-init c = passed_none _ _
+
+pub returns-in_err-handed_fault : goal.returns-in_err-handed_fault
+returns-in_err-handed_fault c =
+    let t = (goal.at.returns-in_err-handed_fault c).In-Some in
+    rw (handed_on _ _ c.from_residual.ensures) (passed_here _ _ _ _ c.loop-key.invariant _ _ ((turn t).2 0) (sized t) (turn t).1 _ c.in_err-handed_fault.ensures)
 
 pub with-seen-requires : goal.with-seen-requires
 with-seen-requires c =
-    let handed = blocks_of c.args.keys.now (map (λ x. x.now) c.args.texts.now) in
-    let size = length (get_or c.args.texts.now c.loop-k.k (record { ref_ptr = (0, 0); now = [] })).now in
-    let sized : size ≡ length (handed.text c.loop-k.k) = sym (ap length (get_or-map (λ x. x.now) c.args.texts.now c.loop-k.k _)) in
-    let told : c.handed_fault-f.result ≡ handed_at (handed.key c.loop-k.k) size c.loop-k.seen = c.handed_fault-f.ensures ∙ ap (λ (x : ℕ). handed_at x size c.loop-k.seen) c.octet-key.ensures in
-    let l = c.loop-k in
-    rw c.octet-key.ensures (passed_key handed _ l.seen l.k l.invariant.1 size c.handed_fault-f.result sized told c.if-f-ne0.false)
+    let t = (goal.at.with-seen-requires c).In-Some in
+    passed_key _ _ _ _ c.loop-key.invariant _ _ ((turn t).2 0) (sized t) c.in_ok-handed_fault.ensures
 
-pub loop-k-preserved : goal.loop-k-preserved
-loop-k-preserved c =
-    let handed = blocks_of c.args.keys.now (map (λ x. x.now) c.args.texts.now) in
-    let size = length (get_or c.args.texts.now c.loop-k.k (record { ref_ptr = (0, 0); now = [] })).now in
-    let sized : size ≡ length (handed.text c.loop-k.k) = sym (ap length (get_or-map (λ x. x.now) c.args.texts.now c.loop-k.k _)) in
-    let told : c.handed_fault-f.result ≡ handed_at (handed.key c.loop-k.k) size c.loop-k.seen = c.handed_fault-f.ensures ∙ ap (λ (x : ℕ). handed_at x size c.loop-k.seen) c.octet-key.ensures in
-    let l = c.loop-k in (
-      search rules,
-      passed_more handed _ l.seen l.k l.invariant.1 size c.handed_fault-f.result sized told c.if-f-ne0.false c.loop-k-test.true
-          c.with-seen.result (c.with-seen.ensures ∙ ap (λ (x : ℕ). bit_or l.seen (2 ^ (x - 1))) c.octet-key.ensures),
-    )
+pub loop-key-preserved : goal.loop-key-preserved
+loop-key-preserved c =
+    let t = (goal.at.loop-key-preserved c).In-Some in
+    rw length-append (passed_more _ _ _ _ c.loop-key.invariant _ _ ((turn t).2 0) (sized t) c.in_ok-handed_fault.ensures (turn t).1 _ c.with-seen.ensures)
 
 pub returns : goal.returns
-returns c = let l = c.loop-k in passed_all _ _ l.seen l.k l.invariant.1 c.loop-k-test.false
+returns c =
+    let e = zip_end c.args.keys.now c.args.texts.now c.loop-key.yielded c.into_iter-key-iterator.result c.loop-key.key-iterator c.next.new.self None (grind (arith, common_steps)) (grind (arith, common_steps))
+    c.loop-key.yielded_by refl c.in-None.ensures.steps in
+    passed_all _ _ _ _ c.loop-key.invariant (omega (arith, e, c.requires))

@@ -1,86 +1,60 @@
--- `textwriting::write_area` meets its contract. Assumes nothing.
-use mathlib.Core.Path.{◌≡◌, sym, ap, ◌∙◌}
-use mathlib.Core.Bool.{true}
-use mathlib.Core.List.{List, [], ◌∷◌, map}
+use mathlib.Core.Path.{◌≡◌, refl, sym, ap, ap₂, ◌∙◌}
+use mathlib.Core.List.{List, [], map}
 use Prim.Native.Nat.{ℕ, ◌≤◌, ◌<◌}
+use native.Mathlib.Nat.{lt_irrefl}
 use native.Mathlib.Omega.{arith}
-use lib.Dec.{eqb}
-use lib.ListN.{length, get_or, take, drop, length-map, get_or-map}
+use lib.ListN.{length, get_or, take, drop, length-map, get_or-map, length-set}
 use lib.Seq.{get_or-take, length-take-le}
+use borrow.Author.Count.{below_more}
 use denote.Ref.{Bor}
+use Rattle.std.proofs.Common.{get_or-set_other, get_or-set_same}
 use Rattle.paper.specs.Remedies.{area_to}
-use Rattle.textwriting.proofs.Laws.{wrote_refused, not_added, not_as_many, too_many, too_long, as_texts, of_eight}
+use Rattle.textwriting.proofs.Laws.{wrote_refused, not_added, not_as_many, too_many, too_long, as_texts, area_none, area_more}
 use Rattle.textwriting.proofs.write_area.Goals as goal
+use Rattle.textwriting.proofs.write_area.Goals.{After-loop-k}
 
-pub returns-then-not-agree : goal.returns-then-not-agree
-returns-then-not-agree c =
-    let a = c.args in
-    wrote_refused _ _ _ (not_added a.head.now a.carried.now a.language a.ordered a.keys.now a.lengths.now a.area.now a.out.now
-    (sym c.adds_up-agree.ensures ∙ c.if-not-agree.true))
+pub returns-then-not-adds_up : goal.returns-then-not-adds_up
+returns-then-not-adds_up c = wrote_refused _ _ _ (not_added _ _ _ _ _ _ _ _ (sym c.adds_up.ensures ∙ c.if-not-adds_up.true))
 
 pub returns-then-keys-n : goal.returns-then-keys-n
-returns-then-keys-n c =
-    let a = c.args in
-    wrote_refused _ _ _ (not_as_many a.head.now a.carried.now a.language a.ordered a.keys.now a.lengths.now a.area.now a.out.now c.if-keys-n.true)
+returns-then-keys-n c = wrote_refused _ _ _ (not_as_many _ _ _ _ _ _ _ _ c.if-keys-n.true)
 
 pub returns-then-has_room : goal.returns-then-has_room
 returns-then-has_room c =
-    let added : eqb (area_to c.args.lengths.now (length c.args.lengths.now)) (length c.args.area.now) ≡ true = sym c.adds_up-agree.ensures ∙ c.if-not-agree.false in
-    let a = c.args in
-    wrote_refused _ _ _ (too_many a.head.now a.carried.now a.language a.ordered a.keys.now a.lengths.now a.area.now a.out.now
-    added c.if-keys-n.false c.if-n-gt8.true (sym c.has_room.ensures ∙ c.if-has_room.true))
+    wrote_refused _ _ _ (too_many _ _ _ _ _ _ _ _ (sym c.adds_up.ensures ∙ c.if-not-adds_up.false) c.if-keys-n.false c.if-n-gt8.true (sym c.has_room.ensures ∙ c.if-has_room.true))
 
-pub returns-then-n-gt8 : goal.returns-then-n-gt8
-returns-then-n-gt8 c =
-    let added : eqb (area_to c.args.lengths.now (length c.args.lengths.now)) (length c.args.area.now) ≡ true = sym c.adds_up-agree.ensures ∙ c.if-not-agree.false in
-    let a = c.args in
-    wrote_refused _ _ _ (too_long a.head.now a.carried.now a.language a.ordered a.keys.now a.lengths.now a.area.now a.out.now
-    added c.if-keys-n.false (sym c.has_room.ensures ∙ c.if-has_room.false))
+pub returns-else-has_room : goal.returns-else-has_room
+returns-else-has_room c =
+    wrote_refused _ _ _ (too_long _ _ _ _ _ _ _ _ (sym c.adds_up.ensures ∙ c.if-not-adds_up.false) c.if-keys-n.false (sym c.has_room.ensures ∙ c.if-has_room.false))
 
-pub slice_bounds-texts-end : goal.slice_bounds-texts-end
-slice_bounds-texts-end c =
-    c.if-n-gt8.false
+-- what is not handed on of the eight texts is past the last length
+lent : (c : After-loop-k) → length (take (length c.args.lengths.now) c.loop-k.texts) ≡ length c.args.lengths.now
+lent c = let few : length c.args.lengths.now ≤ length c.loop-k.texts = omega arith in length-take-le (length c.args.lengths.now) c.loop-k.texts few
 
-pub slice_bounds-write_remedies-end : goal.slice_bounds-write_remedies-end
-slice_bounds-write_remedies-end c =
-    let N = length c.args.lengths.now in
-    let eight = c.text_in.result
-    ∷ c.text_in-2.result
-    ∷ c.text_in-3.result
-    ∷ c.text_in-4.result
-    ∷ c.text_in-5.result
-    ∷ c.text_in-6.result
-    ∷ c.text_in-7.result
-    ∷ c.text_in-8.result
-    ∷ [] in
-    let few : N ≤ 8 = c.if-n-gt8.false in
-    let lent : length (take N eight) ≡ N = length-take-le N eight few in
-    sym lent
+pub loop-k-init : goal.loop-k-init
+loop-k-init c = (area_none c.args.lengths.now, omega arith, refl, λ j h. absurd (lt_irrefl 0 (omega arith)))
+
+pub loop-k-preserved : goal.loop-k-preserved
+loop-k-preserved c =
+    let l = c.loop-k in
+    let i = l.invariant in (
+      omega (arith, area_more c.args.lengths.now l.k, i.0, c.from-size.ensures),
+      omega (arith, i.1, c.from-size.ensures, c.type_inv.lengths l.k),
+      simp length-set i.2,
+      below_more _ _
+          (λ j h. let ne : j ≡ l.k → ⊥ = omega arith in rw get_or-set_other (i.3 j h))
+          (let lt : l.k < length l.texts = omega arith in rw get_or-set_same (c.part.ensures ∙ ap₂ (λ (n a : ℕ). take n (drop a c.args.area.now)) c.from-size.ensures i.0)),
+    )
 
 pub returns : goal.returns
 returns c =
-    let added : eqb (area_to c.args.lengths.now (length c.args.lengths.now)) (length c.args.area.now) ≡ true = sym c.adds_up-agree.ensures ∙ c.if-not-agree.false in
-    let N = length c.args.lengths.now in
-    let eight = c.text_in.result
-    ∷ c.text_in-2.result
-    ∷ c.text_in-3.result
-    ∷ c.text_in-4.result
-    ∷ c.text_in-5.result
-    ∷ c.text_in-6.result
-    ∷ c.text_in-7.result
-    ∷ c.text_in-8.result
-    ∷ [] in
-    let few : N ≤ 8 = c.if-n-gt8.false in
-    let lent : length (take N eight) ≡ N = length-take-le N eight few in
     let a = c.args in
+    let N = length a.lengths.now in
+    let t = (goal.at.returns c).After-loop-k in
     let d : Bor (List ℕ) = record { ref_ptr = (0, 0); now = [] } in
-    let each : (k : ℕ) → k < N → get_or (map (λ x. x.now) (take N eight)) k [] ≡ take (get_or a.lengths.now k 0) (drop (area_to a.lengths.now k) a.area.now) =
-    λ k h. get_or-map (λ x. x.now) (take N eight) k d
-    ∙ ap (λ x. x.now) (get_or-take N eight k d h)
-    ∙ sym (get_or-map (λ x. x.now) eight k d)
-    ∙ of_eight (λ i. take (get_or a.lengths.now i 0) (drop (area_to a.lengths.now i) a.area.now)) [] _ _ _ _ _ _ _ _
-    c.text_in.ensures c.text_in-2.ensures c.text_in-3.ensures c.text_in-4.ensures c.text_in-5.ensures c.text_in-6.ensures
-    c.text_in-7.ensures c.text_in-8.ensures k (omega (arith, few)) in
+    let each : (k : ℕ) → k < N → get_or (map (λ x. x.now) (take N c.loop-k.texts)) k [] ≡ take (get_or a.lengths.now k 0) (drop (area_to a.lengths.now k) a.area.now) =
+    λ k h. get_or-map (λ x. x.now) (take N c.loop-k.texts) k d ∙ ap (λ x. x.now) (get_or-take N c.loop-k.texts k d h) ∙ c.loop-k.invariant.3 k (omega arith) in
     rw (sym (as_texts a.head.now a.carried.now a.language a.ordered a.keys.now a.lengths.now a.area.now a.out.now
-    added c.if-keys-n.false (map (λ x. x.now) (take N eight)) (length-map (take N eight) (λ x. x.now) ∙ lent) each))
+    (sym c.adds_up.ensures ∙ c.if-not-adds_up.false) c.if-keys-n.false (map (λ x. x.now) (take N c.loop-k.texts))
+    (length-map (take N c.loop-k.texts) (λ x. x.now) ∙ lent t) each))
     c.write_remedies.ensures
