@@ -181,11 +181,6 @@ unfolding start
 judged_none t n h =
     record { within = omega arith; stands = refl; inside = h; held = holds_none (key_of t); each = λ j l. absurd (lt_irrefl j (omega arith)) }
 
--- by the numbers that the calls gave
-pub judged_by : (t : List ℕ) (n at seen k : ℕ) → Judged t n (at + length_at t at) (bit_or seen (2 ^ (key_at t at - 1))) (k + 1)
-    → (size set : ℕ) → size ≡ length_at t at → set ≡ bit_or seen (2 ^ (key_at t at - 1)) → Judged t n (at + size) set (k + 1)
-judged_by t n at seen k p size set e f = rw (e, f) p
-
 module _ (t : List ℕ) (n at seen k : ℕ) (p : Judged t n at seen k) where
   -- block k is at fault
   pub judged_here : k < n → (f : Refusal) → Fault (fault_at t at seen) (Err f) → Fault (faults_of t n) (Err f)
@@ -284,10 +279,6 @@ module _ (t : List ℕ) where
           (fault_then _ _ a f ∙ sym (in_one (first_fault (block_fault t) (block_count t)) (ltb (start t (block_count t)) (length t)) (gives (remedies_of t)))))
 
 -- ---- what is answered of a block
-
-pub block_placed : (t : List ℕ) (k at key size : ℕ) → at ≡ start t k → key ≡ key_at t at → size ≡ text_length_at t at
-    → record { key = key; at = at + 6; size = size } ≡ remedy_of t k
-block_placed t k at key size e f g = rw (f, g) (ap (λ (a : ℕ). record { key = key_at t a; at = a + 6; size = text_length_at t a }) e)
 
 module _ (t : List ℕ) (k : ℕ) where
   pub by_block : (m : Remedies) (b : Remedy) → gives m ≡ remedy_reading t → k < m.count → b ≡ remedy_of t k → gives (found b) ≡ remedy_block t k
