@@ -15,7 +15,7 @@ use Rattle.paper.specs.Answer.{Answer, gives, refused, refuse_if}
 use Rattle.paper.specs.Octets.{octet, number, octets_of, over}
 use Rattle.paper.specs.First.{all, some, first_bad, first_from}
 use Rattle.paper.specs.ETelegrams.{requests, report_to, is_request, is_report, e_code, e_limit, EReading, e_reading, answer_to, answering}
-use Rattle.paper.proofs.AnswerLaws.{not_refused, and_then_lem, gives_one, one_answer}
+use Rattle.paper.proofs.AnswerLaws.{not_refused, and_then_lem, gives_one}
 use Rattle.paper.proofs.NumberLaws.{number_two, number_back, number-octets_of_front, length-octets_of, part_over, length_over, over-over}
 use Rattle.paper.proofs.RemedyLaws.{limit_least}
 use Rattle.std.specs.Prelude.{Result}

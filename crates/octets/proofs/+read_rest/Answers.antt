@@ -2,7 +2,6 @@ use mathlib.Core.Path.{sym, ◌∙◌}
 use native.Mathlib.Omega.{arith}
 use Rattle.paper.proofs.FieldLaws.{field_octet}
 use Rattle.octets.proofs.Laws.{field_at, field_is, field_last, joins}
-use borrow.Author.Rules.{rules}
 use Rattle.octets.proofs.+read_rest.Goals as goal
 
 pub returns-then-b-width-gt64 : goal.returns-then-b-width-gt64

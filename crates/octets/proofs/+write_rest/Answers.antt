@@ -2,7 +2,6 @@ use mathlib.Core.Path.{sym}
 use native.Mathlib.Omega.{arith}
 use Rattle.paper.proofs.FieldLaws.{put_octet}
 use Rattle.octets.proofs.Laws.{put_at, put_last}
-use borrow.Author.Rules.{rules}
 use Rattle.octets.proofs.+write_rest.Goals as goal
 
 pub returns-then-b-width-gt64 : goal.returns-then-b-width-gt64

@@ -1,5 +1,4 @@
 use Rattle.paper.specs.Octets.{field_of}
-use borrow.Author.Rules.{rules}
 use Rattle.octets.proofs.field_of.Goals as goal
 
 pub returns : goal.returns

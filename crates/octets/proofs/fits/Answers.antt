@@ -1,11 +1,9 @@
 -- `octets::fits` meets its contract. Assumes nothing.
 use Prim.Native.Nat.{◌^◌, ◌≤◌}
-use mathlib.Core.Path.{sym, ap}
+use mathlib.Core.Path.{sym}
 use native.Mathlib.Nat.{one-mul, mod-eq_of_lt}
 use native.Mathlib.Omega.{arith}
-use lib.Dec.{ltb}
 use lib.Pow.{pow-lt, pow_mono}
-use borrow.Author.Rules.{rules}
 use borrow.Author.Tests.{lt-ltb}
 use Rattle.octets.proofs.fits.Goals as goal
 

@@ -2,7 +2,6 @@ use Prim.Native.Nat.{◌-◌, ◌*◌, ◌/◌, ◌%◌, ◌^◌}
 use native.Mathlib.Omega.{arith}
 use lib.Bits.{and_le_l}
 use Rattle.octets.proofs.Laws.{merged_by, merged_lt}
-use borrow.Author.Rules.{rules}
 use Rattle.octets.proofs.merge.Goals as goal
 
 pub overflow_sub-result : goal.overflow_sub-result

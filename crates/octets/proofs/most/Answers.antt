@@ -1,6 +1,5 @@
 -- `octets::most` meets its contract. Assumes nothing.
 use native.Mathlib.Omega.{arith}
-use borrow.Author.Rules.{rules}
 use Rattle.octets.proofs.Laws.{ones}
 use Rattle.octets.proofs.most.Goals as goal
 

@@ -1,6 +1,5 @@
 use native.Mathlib.Omega.{arith}
 use Rattle.paper.proofs.NumberLaws.{number_two}
-use borrow.Author.Rules.{rules}
 use Rattle.octets.proofs.read16.Goals as goal
 
 pub returns : goal.returns

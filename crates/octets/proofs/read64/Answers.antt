@@ -3,7 +3,6 @@ use Prim.Native.Nat.{ℕ, ◌+◌, ◌*◌, ◌^◌}
 use native.Mathlib.Omega.{arith}
 use lib.Bits.{bit_or, or_shifted}
 use Rattle.paper.proofs.NumberLaws.{number_split}
-use borrow.Author.Rules.{rules}
 use Rattle.octets.proofs.read64.Goals as goal
 
 pub returns : goal.returns

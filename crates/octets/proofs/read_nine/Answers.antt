@@ -4,7 +4,6 @@ use native.Mathlib.Omega.{arith}
 use lib.ListN.{get_or}
 use Rattle.paper.specs.Octets.{field_of}
 use Rattle.octets.proofs.Laws.{first_bits, field_last, joins}
-use borrow.Author.Rules.{rules}
 use Rattle.octets.proofs.read_nine.Goals as goal
 
 -- what the octet behind has of it

@@ -2,7 +2,6 @@ use mathlib.Core.Path.{sym, ◌∙◌}
 use native.Mathlib.Omega.{arith}
 use Rattle.paper.proofs.FieldLaws.{field_octet}
 use Rattle.octets.proofs.Laws.{field_at}
-use borrow.Author.Rules.{rules}
 use Rattle.octets.proofs.read_pair.Goals as goal
 
 pub returns : goal.returns

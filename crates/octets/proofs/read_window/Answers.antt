@@ -2,7 +2,6 @@ use mathlib.Core.Path.{◌≡◌, ap, ◌∙◌}
 use Prim.Native.Nat.{ℕ, ◌+◌, ◌-◌, ◌*◌, ◌/◌, ◌%◌, ◌^◌}
 use native.Mathlib.Omega.{arith}
 use Rattle.octets.proofs.Laws.{shifted, within}
-use borrow.Author.Rules.{rules}
 use Rattle.octets.proofs.read_window.Goals as goal
 
 pub returns : goal.returns

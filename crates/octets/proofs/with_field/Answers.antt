@@ -5,7 +5,6 @@ use native.Mathlib.Omega.{arith}
 use lib.Pow.{pow_mono, pow_pos}
 use Rattle.paper.specs.Octets.{with_field}
 use Rattle.paper.proofs.FieldLaws.{top_lt, with_field_lt}
-use borrow.Author.Rules.{rules}
 use Rattle.octets.proofs.with_field.Goals as goal
 
 pub join-requires : goal.join-requires

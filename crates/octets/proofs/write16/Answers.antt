@@ -2,7 +2,6 @@ use native.Mathlib.Omega.{arith}
 use lib.ListN.{length-set}
 use Rattle.paper.specs.Octets.{octets_of}
 use Rattle.paper.proofs.NumberLaws.{over_two}
-use borrow.Author.Rules.{rules}
 use Rattle.octets.proofs.write16.Goals as goal
 
 pub bounds-d-at-2 : goal.bounds-d-at-2

@@ -2,7 +2,6 @@ use mathlib.Core.Path.{◌∙◌}
 use native.Mathlib.Omega.{arith}
 use Rattle.paper.specs.Octets.{octets_of}
 use Rattle.paper.proofs.NumberLaws.{over-over, octets_of_split}
-use borrow.Author.Rules.{rules}
 use Rattle.octets.proofs.write32.Goals as goal
 
 pub returns : goal.returns

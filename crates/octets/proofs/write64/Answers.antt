@@ -3,7 +3,6 @@ use native.Mathlib.Omega.{arith}
 use Rattle.paper.specs.Octets.{octets_of}
 use Rattle.paper.proofs.NumberLaws.{over-over, octets_of_split}
 use Rattle.octets.proofs.Laws.{octets_of-mod}
-use borrow.Author.Rules.{rules}
 use Rattle.octets.proofs.write64.Goals as goal
 
 pub returns : goal.returns

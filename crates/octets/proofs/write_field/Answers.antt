@@ -2,9 +2,7 @@ use mathlib.Core.Path.{sym}
 use native.Mathlib.Omega.{arith}
 use Rattle.paper.proofs.FieldLaws.{put_octet}
 use Rattle.octets.proofs.Laws.{put_at}
-use borrow.Author.Rules.{rules}
 use Rattle.octets.proofs.write_field.Goals as goal
-use Rattle.octets.proofs.write_field.Lts as lts
 
 pub returns-then-within-width-le8 : goal.returns-then-within-width-le8
 returns-then-within-width-le8 c = rw c.with_field.ensures (put_at _ _ _ _ _ _ (omega arith) (sym (put_octet _ _ _ _ _ (omega arith) (omega arith))))

@@ -1,6 +1,5 @@
 use native.Mathlib.Omega.{arith}
 use Rattle.octets.proofs.Laws.{put_last}
-use borrow.Author.Rules.{rules}
 use Rattle.octets.proofs.write_nine.Goals as goal
 
 pub returns : goal.returns

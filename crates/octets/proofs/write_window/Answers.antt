@@ -1,7 +1,6 @@
 use mathlib.Core.Path.{◌∙◌}
 use native.Mathlib.Omega.{arith}
 use Rattle.octets.proofs.Laws.{put_window}
-use borrow.Author.Rules.{rules}
 use Rattle.octets.proofs.write_window.Goals as goal
 
 pub returns : goal.returns
