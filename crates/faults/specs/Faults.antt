@@ -1,12 +1,11 @@
 -- The paper's answer for each case of the code's, and the rules of an entry as the code asks them, of the entry before and this one.
-use Rattle.std.specs.Prelude.{ℕ, ◌+◌, Bool, not, ◌&&◌, ◌||◌, List, [], ◌∷◌, ltb, leb, eqb}
+use Rattle.std.specs.Prelude.{ℕ, ◌+◌, Bool, Option, not, ◌&&◌, ◌||◌, List, [], ◌∷◌, ltb, leb, eqb}
 use Rattle.paper.specs.Octets.{fits}
 use Rattle.paper.specs.SignalList.{Signal, Code, Route, field_end, longest_limit, width_rule, type_rule, place_rule, named_rule}
-use Rattle.paper.specs.Answer.{Sought, found, nothing}
+use Rattle.paper.specs.Answer.{Sought}
 use Rattle.paper.specs.Broken.{Fault as PaperFault}
+use Rattle.refusals.specs.Outcome.{sought_of}
 use Rattle.faults.specs.declared.Fault.{Fault}
-use Rattle.faults.specs.declared.FaultOutcome.{FaultOutcome}
-use Rattle.faults.specs.declared.FaultOutcome.TheVariants.{Entry, NoEntry}
 
 -- the paper's type is the code's kind
 abbrev pub fault_as : Fault → PaperFault
@@ -21,9 +20,8 @@ fault_as f = record {
   at = f.at;
 }
 
-abbrev pub fault_answer : FaultOutcome → Sought PaperFault
-fault_answer (Entry f) = found (fault_as f)
-fault_answer NoEntry = nothing
+abbrev pub fault_answer : Option Fault → Sought PaperFault
+fault_answer = sought_of fault_as
 
 -- width, type, place and check of s
 abbrev pub place_tests : ℕ → (ℕ → ℕ) → Signal → List Bool

@@ -10,11 +10,11 @@ ghost use Rattle.entries.specs.Entries.{signal_of, code_of, route_of, Placeable}
 ghost use Rattle.faults.specs.Faults.{fault_as, fault_answer, value_tests, order_tests, place_tests, code_tests_of, route_tests_of};
 
 use entries::{CHECK_SIZE, CODE_SIZE, Code, ROUTE_SIZE, Route, Signal, WIDEST};
-use lists::{MOST_CHECKS, MOST_CODES, MOST_ROUTES, MOST_SIGNALS, Section};
+use lists::{MOST_CHECKS, MOST_CODES, MOST_ROUTES, MOST_SIGNALS};
 
 // The entry at fault: its section, from 1, its number in it, from 0, and the first rule that it breaks, from 1; the number of the signal that it is or
 // names, with its type and field, all 0 where there is none (of a check: no signal, its own two bits); its offset in the list.
-#[derive(Clone, Copy)]
+#[derive(Clone, Copy, Debug, PartialEq, Eq)]
 pub struct Fault {
     pub section: usize,
     pub index: usize,
@@ -24,12 +24,6 @@ pub struct Fault {
     pub start: usize,
     pub width: usize,
     pub at: usize,
-}
-
-#[derive(Clone, Copy)]
-pub enum FaultOutcome {
-    Entry(Fault),
-    NoEntry,
 }
 
 // The rule's number where it is not kept, else what the later ones say.
@@ -118,6 +112,7 @@ fn signal_number(list: &[u8], checks: usize, s: Signal, later: usize) -> usize
 }
 
 // Of a section that starts `base` octets on.
+#[tactic(auto, using(crate::proofs::Laws::small_entry, crate::proofs::Laws::rule_is))]
 fn signal_fault(
     base: usize,
     list: &[u8],
@@ -218,79 +213,61 @@ fn route_fault(base: usize, sig: &[u8], size: usize, signals: usize, tail: &[u8]
 }
 
 // The list from its routes on, which start `base` octets on; sig starts at the signals' count.
-fn from_routes(base: usize, sig: &[u8], size: usize, signals: usize, tail: &[u8]) -> FaultOutcome
+fn from_routes(base: usize, sig: &[u8], size: usize, signals: usize, tail: &[u8]) -> Option<Fault>
     requires { (Sized size) × (base ≤ 65536) × (entry size signals ≤ length sig.now) }
     ensures { fault_answer result ≡ fault_from_routes base signals (signal_at size sig.now) tail.now }
 {
-    let opened = lists::open(tail, MOST_ROUTES, ROUTE_SIZE);
-    match opened {
-        Section::Refused(_) => FaultOutcome::NoEntry,
-        Section::Entries(n) => {
-            let k = lists::first_bad_route(sig, size, signals, tail, n);
-            if k < n {
-                return FaultOutcome::Entry(route_fault(base, sig, size, signals, tail, k));
-            }
-            FaultOutcome::NoEntry
-        }
+    let n = lists::open(tail, MOST_ROUTES, ROUTE_SIZE).ok()?;
+    let k = lists::first_bad_route(sig, size, signals, tail, n);
+    if k < n {
+        return Some(route_fault(base, sig, size, signals, tail, k));
     }
+    None
 }
 
 // From its codes on.
-fn from_codes(base: usize, sig: &[u8], size: usize, signals: usize, tail: &[u8]) -> FaultOutcome
+fn from_codes(base: usize, sig: &[u8], size: usize, signals: usize, tail: &[u8]) -> Option<Fault>
     requires { (Sized size) × (base ≤ 32768) × (entry size signals ≤ length sig.now) }
     ensures { fault_answer result ≡ fault_from_codes base signals (signal_at size sig.now) tail.now }
 {
-    let opened = lists::open(tail, MOST_CODES, CODE_SIZE);
-    match opened {
-        Section::Refused(_) => FaultOutcome::NoEntry,
-        Section::Entries(n) => {
-            let k = lists::first_bad_code(sig, size, signals, tail, n);
-            if k < n {
-                return FaultOutcome::Entry(code_fault(base, sig, size, signals, tail, k));
-            }
-            let past = base + (2 + CODE_SIZE * n);
-            from_routes(past, sig, size, signals, lists::rest(tail, CODE_SIZE, n))
-        }
+    let n = lists::open(tail, MOST_CODES, CODE_SIZE).ok()?;
+    let k = lists::first_bad_code(sig, size, signals, tail, n);
+    if k < n {
+        return Some(code_fault(base, sig, size, signals, tail, k));
     }
+    let past = base + (2 + CODE_SIZE * n);
+    from_routes(past, sig, size, signals, lists::rest(tail, CODE_SIZE, n))
 }
 
 // From its signals on; list starts at the checks' count.
-fn from_signals(base: usize, list: &[u8], checks: usize, tail: &[u8], size: usize) -> FaultOutcome
-    requires sized { (Sized size) × (base ≤ 16384) }
-    requires checks_in_bounds { (entry check_size checks ≤ length list.now) × (all (check_rule (check_at list.now)) checks ≡ true) }
+fn from_signals(base: usize, list: &[u8], checks: usize, tail: &[u8], size: usize) -> Option<Fault>
+    requires sized { Sized size }
+    requires base_small { base ≤ 16384 }
+    requires checks_in_bounds { entry check_size checks ≤ length list.now }
+    requires checks_kept { all (check_rule (check_at list.now)) checks ≡ true }
     ensures { fault_answer result ≡ fault_from_signals size base checks (check_at list.now) tail.now }
 {
-    let opened = lists::open(tail, MOST_SIGNALS, size);
-    match opened {
-        Section::Refused(_) => FaultOutcome::NoEntry,
-        Section::Entries(n) => {
-            let at = lists::first_bad_signal(list, checks, tail, size, n);
-            let end = 2 + size * n;
-            if at < end {
-                let k = (at - 2) / size;
-                return FaultOutcome::Entry(signal_fault(base, list, checks, tail, size, k));
-            }
-            from_codes(base + end, tail, size, n, lists::rest(tail, size, n))
-        }
+    let n = lists::open(tail, MOST_SIGNALS, size).ok()?;
+    let at = lists::first_bad_signal(list, checks, tail, size, n);
+    let end = 2 + size * n;
+    if at < end {
+        let k = (at - 2) / size;
+        return Some(signal_fault(base, list, checks, tail, size, k));
     }
+    from_codes(base + end, tail, size, n, lists::rest(tail, size, n))
 }
 
 // The entry that judging refuses with 3 in the form that the caller says, with the first rule that it breaks. None where the list is accepted, or
 // refused otherwise.
-pub fn find_fault(list: &[u8], form: u8) -> FaultOutcome
+pub fn find_fault(list: &[u8], form: u8) -> Option<Fault>
     ensures { fault_answer result ≡ fault_of form list.now }
 {
-    let opened = lists::open(list, MOST_CHECKS, CHECK_SIZE);
-    match opened {
-        Section::Refused(_) => FaultOutcome::NoEntry,
-        Section::Entries(n) => {
-            let k = lists::first_bad_check(list, n);
-            if k < n {
-                return FaultOutcome::Entry(check_fault(list, k));
-            }
-            let past = 2 + CHECK_SIZE * n;
-            let size = lists::entry_size(form);
-            from_signals(past, list, n, lists::rest(list, CHECK_SIZE, n), size)
-        }
+    let n = lists::open(list, MOST_CHECKS, CHECK_SIZE).ok()?;
+    let k = lists::first_bad_check(list, n);
+    if k < n {
+        return Some(check_fault(list, k));
     }
+    let past = 2 + CHECK_SIZE * n;
+    let size = lists::entry_size(form);
+    from_signals(past, list, n, lists::rest(list, CHECK_SIZE, n), size)
 }

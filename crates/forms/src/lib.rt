@@ -1,23 +1,18 @@
 // A list moved from one form to the other, and the serial number of a signal. Every test comes before the first write.
+// By a list's counts, not as an `AcceptedList`: one does not say which form it was accepted in.
 #![tactic(auto)]
 
 ghost use Rattle.std.specs.Prelude.{◌≡◌, ◌<◌, length};
-ghost use Rattle.paper.specs.Answer.{gives};
-ghost use Rattle.paper.specs.SignalList.{judge, signals_part};
-ghost use Rattle.paper.specs.Forms.{serial_at, serial_of, any_serial, widened, dropped, to_form2, to_form1};
+ghost use Rattle.paper.specs.SignalList.{signals_part};
+ghost use Rattle.paper.specs.Accepted.{Laid, Sized};
+ghost use Rattle.paper.specs.Forms.{serial_at, serial_of, any_serial, to_form2, to_form1};
 ghost use Rattle.refusals.specs.Outcome.{Written};
 ghost use Rattle.lists.specs.Judged.{counts_of};
-ghost use Rattle.forms.specs.Forms.{InSomeForm, serial_answer};
+ghost use Rattle.forms.specs.Forms.{InSomeForm, serial_answer, resizing};
 
 use entries::{CHECK_SIZE, SERIAL_SIZE, SIGNAL_SIZE};
-use lists::{Counts, FORM_1, FORM_2, Judged};
-use refusals::{Outcome, Refusal};
-
-#[derive(Clone, Copy)]
-pub enum SerialOutcome {
-    Serial(usize),
-    Refused(Refusal),
-}
+use lists::{Counts, FORM_1, FORM_2};
+use refusals::Refusal;
 
 // The serial number of signal k of an accepted list: 0 in form 1, which has none.
 fn serial_in(list: &[u8], n: Counts, k: usize) -> usize
@@ -27,7 +22,8 @@ fn serial_in(list: &[u8], n: Counts, k: usize) -> usize
     if n.size == SIGNAL_SIZE {
         return 0;
     }
-    octets::read16(lists::signals_part(list, n), 2 + n.size * k + SIGNAL_SIZE)
+    let signals = lists::rest(list, CHECK_SIZE, n.checks);
+    octets::read16(signals, 2 + n.size * k + SIGNAL_SIZE)
 }
 
 // Whether a signal has one that is not 0.
@@ -35,104 +31,61 @@ fn any_serial(list: &[u8], n: Counts) -> bool
     requires { InSomeForm list.now (counts_of n) }
     ensures { result ≡ any_serial list.now (counts_of n) }
 {
-    let mut k = 0;
-    while k < n.signals {
+    for k in 0..n.signals {
         if serial_in(list, n, k) != 0 {
             return true;
         }
-        k += 1;
     }
     false
 }
 
-// A list in form 1 into an output of the needed length: what stands before the first signal, each signal with a serial number of 0, and the rest.
-fn widen(list: &[u8], n: Counts, out: &mut [u8])
-    requires { (judge 1 list.now ≡ gives (counts_of n)) × (length out.old ≡ length (widened list.now)) }
-    ensures { out.new ≡ widened list.now }
+// The list with signal entries of `size` octets into `out`: what stands before the first, of each its first 16 and zeros, and the rest. Refused: 33.
+fn resize(list: &[u8], n: Counts, size: usize, out: &mut [u8]) -> Result<(), Refusal>
+    requires { (Laid list.now (counts_of n)) × (Sized size) }
+    ensures { Written (resizing size list.now (counts_of n) (length out.old)) out.old result out.new }
 {
-    let mut from = 2 + CHECK_SIZE * n.checks + 2;
-    let mut at = from;
-    octets::copy_over(out, 0, &list[..from]);
-    let mut k = 0;
-    while k < n.signals {
-        let end = from + SIGNAL_SIZE;
-        octets::copy_over(out, at, &list[from..end]);
-        octets::fill_zero(out, at + SIGNAL_SIZE, SERIAL_SIZE);
-        from = end;
-        at += SIGNAL_SIZE + SERIAL_SIZE;
-        k += 1;
+    if out.len() != list.len() - n.size * n.signals + size * n.signals {
+        return Err(Refusal::FormOutput);
     }
-    octets::copy_over(out, at, &list[from..]);
-}
-
-// The same of a list in form 2: each signal without its serial number.
-fn narrow(list: &[u8], n: Counts, out: &mut [u8])
-    requires { (judge 2 list.now ≡ gives (counts_of n)) × (length out.old ≡ length (dropped list.now)) }
-    ensures { out.new ≡ dropped list.now }
-{
-    let mut from = 2 + CHECK_SIZE * n.checks + 2;
-    let mut at = from;
-    octets::copy_over(out, 0, &list[..from]);
-    let mut k = 0;
-    while k < n.signals {
-        let end = from + SIGNAL_SIZE;
-        octets::copy_over(out, at, &list[from..end]);
-        from = end + SERIAL_SIZE;
-        at += SIGNAL_SIZE;
-        k += 1;
+    let start = 2 + CHECK_SIZE * n.checks + 2;
+    octets::copy_over(out, 0, &list[..start]);
+    for k in 0..n.signals {
+        let from = start + n.size * k;
+        let at = start + size * k;
+        octets::copy_over(out, at, &list[from..from + SIGNAL_SIZE]);
+        octets::fill_zero(out, at + SIGNAL_SIZE, size - SIGNAL_SIZE);
     }
-    octets::copy_over(out, at, &list[from..]);
+    let end = start + n.size * n.signals;
+    octets::copy_over(out, start + size * n.signals, &list[end..]);
+    Ok(())
 }
 
 // Moves a list in form 1 to form 2 into `out`, each serial number 0. Refused: 1 to 4, then 33, and `out` stays as it was.
-pub fn to_form_2(list: &[u8], out: &mut [u8]) -> Outcome
+pub fn to_form_2(list: &[u8], out: &mut [u8]) -> Result<(), Refusal>
     ensures { Written (to_form2 list.now (length out.old)) out.old result out.new }
 {
-    let judged = lists::judge(list, FORM_1);
-    match judged {
-        Judged::Refused(f) => Outcome::Refused(f),
-        Judged::Accepted(n) => {
-            if out.len() != list.len() + SERIAL_SIZE * n.signals {
-                return Outcome::Refused(Refusal::FORM_OUTPUT);
-            }
-            widen(list, n, out);
-            Outcome::Done
-        }
-    }
+    let n = lists::judge(list, FORM_1)?;
+    resize(list, n, SIGNAL_SIZE + SERIAL_SIZE, out)
 }
 
 // Moves a list in form 2 to form 1 into `out`. Refused: 1 to 4, then 32 where a serial number is not 0, and 33, and `out` stays as it was.
-pub fn to_form_1(list: &[u8], out: &mut [u8]) -> Outcome
+pub fn to_form_1(list: &[u8], out: &mut [u8]) -> Result<(), Refusal>
     ensures { Written (to_form1 list.now (length out.old)) out.old result out.new }
 {
-    let judged = lists::judge(list, FORM_2);
-    match judged {
-        Judged::Refused(f) => Outcome::Refused(f),
-        Judged::Accepted(n) => {
-            if any_serial(list, n) {
-                return Outcome::Refused(Refusal::SERIAL_SET);
-            }
-            if out.len() != list.len() - SERIAL_SIZE * n.signals {
-                return Outcome::Refused(Refusal::FORM_OUTPUT);
-            }
-            narrow(list, n, out);
-            Outcome::Done
-        }
+    let n = lists::judge(list, FORM_2)?;
+    if any_serial(list, n) {
+        return Err(Refusal::SerialSet);
     }
+    resize(list, n, SIGNAL_SIZE, out)
 }
 
 // The serial number of a signal; 0 in form 1. Refused: 1 to 4, 11.
-pub fn serial_of(list: &[u8], form: u8, signal: usize) -> SerialOutcome
+pub fn serial_of(list: &[u8], form: u8, signal: usize) -> Result<usize, Refusal>
     ensures { serial_answer result ≡ serial_of form list.now signal }
 {
-    let judged = lists::judge(list, form);
-    match judged {
-        Judged::Refused(f) => SerialOutcome::Refused(f),
-        Judged::Accepted(n) => {
-            if n.signals <= signal {
-                return SerialOutcome::Refused(Refusal::NO_SUCH_SIGNAL);
-            }
-            SerialOutcome::Serial(serial_in(list, n, signal))
-        }
+    let n = lists::judge(list, form)?;
+    if n.signals <= signal {
+        return Err(Refusal::NoSuchSignal);
     }
+    Ok(serial_in(list, n, signal))
 }

@@ -1,31 +1,31 @@
 -- The rules of a signal as the code asks them, one after the other, and how its answers are put together. Assumes nothing.
-use Prim.Native.Nat.{ℕ, ◌+◌, ◌*◌, ◌≤◌, ◌<◌}
+use Prim.Native.Nat.{ℕ, ◌+◌, ◌≤◌, ◌<◌}
 use mathlib.Core.Path.{◌≡◌, refl, sym, ap, ◌∙◌}
 use mathlib.Core.Logic.{◌↔◌}
 use mathlib.Core.Bool.{Bool, true, false, not, ◌&&◌, ◌||◌}
 use mathlib.Core.List.{List}
 use native.Mathlib.Omega.{arith}
-use native.Mathlib.Nat.{mul-le-mul}
 use native.Mathlib.Decide.{dec_lt, ℕ_discrete}
 use lib.Dec.{ltb, leb, eqb}
 use borrow.Author.Tests.{lt-ltb, le-ltb, le-leb, lt-leb, eq-eqb, ne_eqb, not-true, not-false}
-use Rattle.paper.specs.Answer.{Answer, gives, Sought, found, nothing}
+use Rattle.paper.specs.Answer.{Sought, found, nothing}
 use Rattle.paper.specs.First.{first_bad, all}
 use Rattle.paper.specs.Telegrams.{check_place}
-use Rattle.paper.specs.SignalList.{Signal, Route, SignalList, Counts, knows, place_of, route_end, most_signals, judge, list_of}
-use Rattle.paper.specs.Accepted.{Laid}
+use Rattle.paper.specs.SignalList.{Signal, Route, SignalList, knows, place_of, route_end, judge, list_of}
+use Rattle.paper.specs.Accepted.{Laid, Kept}
 use Rattle.paper.specs.Broken.{Fault as PaperFault}
-use Rattle.paper.specs.Profiles.{Profile as PaperProfile, gives_place, under_table, type_allowed, signal_broken, route_broken, first_breach, breach_in, breach_of, unless_breach, profiling, InProfile}
+use Rattle.paper.specs.Profiles.{Profile as PaperProfile, gives_place, under_table, type_allowed, signal_broken, route_broken, first_breach, where_accepted, breach_in, breach_of, profiling, InProfile}
+use Rattle.paper.proofs.ListLaws.{laid, kept_of}
 use Rattle.paper.proofs.ProfileLaws.{profile_exactly}
-use Rattle.paper.proofs.LoopLaws.{Passed, passed_more, fails_here}
+use Rattle.paper.proofs.LoopLaws.{Passed, fails_here}
 use Rattle.refusals.specs.declared.Refusal.{Refusal}
-use Rattle.refusals.specs.Refusal.{refusal_of}
-use Rattle.grouping.specs.declared.Place.{Place}
-use Rattle.grouping.specs.declared.Place.TheVariants.{At, Refused as Unplaced}
-use Rattle.grouping.specs.Place.{place_answer}
 use Rattle.lists.specs.declared.Counts.{Counts as CodeCounts}
-use Rattle.lists.specs.declared.Judged.{Judged}
-use Rattle.lists.specs.declared.Judged.TheVariants.{Accepted}
+use Rattle.faults.specs.declared.Fault.{Fault}
+use Rattle.faults.specs.Faults.{fault_answer}
+use Rattle.std.specs.Prelude.{Option, Some, None, Result, Ok, Err}
+use Rattle.std.specs.Result.{result_ok}
+use Rattle.lists.specs.declared.accepted.AcceptedList.{AcceptedList}
+use Rattle.lists.specs.Listed.{list_as}
 use Rattle.lists.specs.Judged.{counts_of, judged_answer}
 use Rattle.lists.proofs.Laws.{one_judged}
 use Rattle.profiles.specs.declared.Profile.{Profile}
@@ -45,10 +45,6 @@ longest_limit_lem DrivingTrailer = refl
 pub most_bits : (p : Profile) → (profile_of p).bits ≡ 128
 most_bits PlainCoach = refl
 most_bits DrivingTrailer = refl
-
-pub or_none : (b : Bool) → b ≡ (b || false)
-or_none true = refl
-or_none false = refl
 
 -- the limit is asked for what it must not be
 limit_asked : (t : ℕ) → (leb 1 t && leb t 5000) ≡ not (eqb t 0 || ltb 5000 t)
@@ -129,12 +125,23 @@ module _ (p : Profile) (l : SignalList) (r : ℕ) {t : Route} (is : t ≡ l.rout
   unfolding route_broken
   route_far h = rw (ends, most_bits p, lt-leb (t.start + w) 128 h)
 
+-- the signal of a route exists, and the check of a signal
+module _ (l : AcceptedList) where
+  kept : Kept (list_as l)
+  kept = kept_of l.octets.now (counts_of l.counts) l.laid
+
+  pub route_to : (r : ℕ) → r < l.counts.routes → (t : Route) → t ≡ (list_as l).route r → t.signal < l.counts.signals
+  route_to r h t e = rw e (kept.route r h).exists
+
+  pub check_of : (k : ℕ) → k < l.counts.signals → (s : Signal) → s ≡ (list_as l).signal k → s.check ≤ l.counts.checks
+  check_of k h s e = rw e (kept.signal k h).named.exists
+
+-- what `signal_broken` goes by
+pub ruleset signal_laws = (type_broken, number_broken, check_broken, limit_broken, replacement_broken, common_kept, place_kept, place_broken, check_of)
+
 -- ---- a loop over entries that stops where a rule is broken; a is the rule that the entry breaks
 
 module _ (breaks : ℕ → ℕ) {n k a : ℕ} (p : Passed (λ j. eqb (breaks j) 0) n k) (lt : k < n) (is : a ≡ breaks k) where
-  pub kept_on : a ≡ 0 → Passed (λ j. eqb (breaks j) 0) n (k + 1)
-  kept_on e = passed_more p lt {b = true} (sym (eq-eqb (breaks k) 0 (sym is ∙ e))) refl
-
   pub breaks_here : (a ≡ 0 → ⊥) → k ≡ first_bad (λ j. eqb (breaks j) 0) n
   breaks_here ne = fails_here p lt {b = false} (sym (ne_eqb (breaks k) 0 (λ e. ne (is ∙ e)))) refl
 
@@ -149,59 +156,47 @@ module _ (breaks : ℕ → ℕ) (fault : ℕ → PaperFault) (n : ℕ) (next : S
   unfolding first_breach
   breach_past h q = rw (← first, le-ltb k n h) q
 
--- ---- the offsets of a list's entries are small
+-- ---- behind the general judging: r is what it answered
 
-pub small_signals : (xs : List ℕ) (n : Counts) → Laid xs n → (k : ℕ) → k ≤ n.signals → n.size * k ≤ 18 * most_signals
-small_signals xs n h k le = mul-le-mul {n₂ = 18} {m₂ = most_signals} h.sized.most (omega (arith, h.signals.opens.within))
+pub ok_laid : (form : ℕ) (xs : List ℕ) (r : Result CodeCounts Refusal) → judged_answer r ≡ judge form xs → (n : CodeCounts) → Some n ≡ result_ok r → Laid xs (counts_of n)
+ok_laid form xs (Ok m) said n e = let z : n ≡ m = cc in rw z (laid form xs (counts_of m) (sym said))
+ok_laid form xs (Err f) said n e = cc
 
--- ---- what a lookup gave
+module _ (p : PaperProfile) (form : ℕ) (xs : List ℕ) (r : Result CodeCounts Refusal) (said : judged_answer r ≡ judge form xs) where
+  pub refused_none : None ≡ result_ok r → (o : Option Fault) → o ≡ None → fault_answer o ≡ breach_of p form xs
+  unfolding breach_of
+  refused_none e o none = rw (none, ← said) (by r e)
+    where
+      by : (s : Result CodeCounts Refusal) → None ≡ result_ok s → nothing ≡ where_accepted (judged_answer s) (breach_in p xs)
+      by (Ok m) e = cc
+      by (Err f) e = refl
 
-module _ (place : ℕ) {a : Answer ℕ} {r : Place} (is : place_answer r ≡ a) where
-  pub gave : (q : ℕ) → r ≡ At q → eqb q place ≡ gives_place a place
-  gave q e = rw (← is, e)
-
-  pub gave_none : (f : Refusal) → r ≡ Unplaced f → false ≡ gives_place a place
-  gave_none f e = rw (← is, e)
-
--- ---- behind the general judging
-
-module _ (p : PaperProfile) (form : ℕ) (xs : List ℕ) where
-  module _ (f : Refusal) (e : refusal_of f ≡ judge form xs) where
-    pub refused_too : refusal_of f ≡ profiling p form xs
-    unfolding profiling
-    refused_too = rw (← e)
-
-    pub refused_none : nothing ≡ breach_of p form xs
-    unfolding breach_of
-    refused_none = rw (← e)
-
-  module _ (n : Counts) (e : gives n ≡ judge form xs) where
-    pub judged_by : (y : Answer Counts) → y ≡ unless_breach n (breach_in p xs n) → y ≡ profiling p form xs
-    unfolding profiling
-    judged_by y q = rw (← e) q
-
-    pub found_by : (y : Sought PaperFault) → y ≡ breach_in p xs n → y ≡ breach_of p form xs
-    unfolding breach_of
-    found_by y q = rw (← e) q
+  pub found_by : (n : CodeCounts) → Some n ≡ result_ok r → (y : Sought PaperFault) → y ≡ breach_in p xs (counts_of n) → y ≡ breach_of p form xs
+  unfolding breach_of
+  found_by n e y q = rw (← said) (by r e)
+    where
+      by : (s : Result CodeCounts Refusal) → Some n ≡ result_ok s → y ≡ where_accepted (judged_answer s) (breach_in p xs)
+      by (Ok m) e = let z : n ≡ m = cc in q ∙ ap (λ (x : CodeCounts). breach_in p xs (counts_of x)) z
+      by (Err f) e = cc
 
 -- ---- what the calls tell, of any profile and form: r is what `judge_profile` answered, j what `judge` does
 
-module _ (p : Profile) (form : ℕ) (xs : List ℕ) (r j : Judged) (under : judged_answer r ≡ profiling (profile_of p) form xs) (general : judged_answer j ≡ judge form xs)
+module _ (p : Profile) (form : ℕ) (xs : List ℕ) (r j : Result CodeCounts Refusal) (under : judged_answer r ≡ profiling (profile_of p) form xs) (general : judged_answer j ≡ judge form xs)
     (n : CodeCounts) where
   -- accepted under the profile is exactly: accepted by the general judging, with the same counts and version, and every rule of the profile kept
-  pub accepted_exactly : (r ≡ Accepted n) ↔ ((j ≡ Accepted n) × InProfile (profile_of p) (list_of xs (counts_of n)))
+  pub accepted_exactly : (r ≡ Ok n) ↔ ((j ≡ Ok n) × InProfile (profile_of p) (list_of xs (counts_of n)))
   accepted_exactly = (told, back)
     where
-      told : r ≡ Accepted n → (j ≡ Accepted n) × InProfile (profile_of p) (list_of xs (counts_of n))
+      told : r ≡ Ok n → (j ≡ Ok n) × InProfile (profile_of p) (list_of xs (counts_of n))
       told e =
           let h = (profile_exactly (profile_of p) form xs (counts_of n)).0 (sym under ∙ ap judged_answer e) in
-          (one_judged (judge form xs) j (Accepted n) general (sym h.0), h.1)
+          (one_judged (judge form xs) j (Ok n) general (sym h.0), h.1)
 
-      back : (j ≡ Accepted n) × InProfile (profile_of p) (list_of xs (counts_of n)) → r ≡ Accepted n
+      back : (j ≡ Ok n) × InProfile (profile_of p) (list_of xs (counts_of n)) → r ≡ Ok n
       back h =
           let q = (profile_exactly (profile_of p) form xs (counts_of n)).1 (sym general ∙ ap judged_answer h.0, h.1) in
-          one_judged (profiling (profile_of p) form xs) r (Accepted n) under (sym q)
+          one_judged (profiling (profile_of p) form xs) r (Ok n) under (sym q)
 
   -- "an accepted list is accepted by the general judging too"
-  pub accepted_by_both : r ≡ Accepted n → j ≡ Accepted n
+  pub accepted_by_both : r ≡ Ok n → j ≡ Ok n
   accepted_by_both e = (accepted_exactly.0 e).0

@@ -1,5 +1,5 @@
 -- `forms::any_serial` meets its contract: every serial number passed is 0. Assumes nothing.
-use Prim.Native.Nat.{ℕ, ◌-◌, ◌≤◌, ◌<◌}
+use Prim.Native.Nat.{ℕ, ◌<◌}
 use mathlib.Core.Path.{◌≡◌}
 use Rattle.paper.specs.SignalList.{signals_part}
 use Rattle.paper.specs.Forms.{serial_at}
@@ -7,7 +7,4 @@ use Rattle.lists.specs.Judged.{counts_of}
 use Rattle.forms.proofs.any_serial.Given as goal
 
 abbrev pub invariant-loop-k : goal.invariant-loop-k
-invariant-loop-k l = (l.k ≤ l.n.signals) × ((j : ℕ) → j < l.k → serial_at l.n.size (signals_part l.list (counts_of l.n)) j ≡ 0)
-
-abbrev pub decreases-loop-k : goal.decreases-loop-k
-decreases-loop-k l = l.n.signals - l.k
+invariant-loop-k l = (j : ℕ) → j < l.k → serial_at l.n.size (signals_part l.list (counts_of l.n)) j ≡ 0

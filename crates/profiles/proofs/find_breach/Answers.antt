@@ -1,23 +1,13 @@
 -- `profiles::find_breach` meets its contract. Assumes nothing.
-use mathlib.Core.Path.{◌≡◌, sym, ap, ◌∙◌}
-use Rattle.paper.specs.Answer.{gives}
-use Rattle.paper.specs.SignalList.{judge}
-use Rattle.lists.specs.Judged.{counts_of, judged_answer}
-use Rattle.lists.proofs.Laws.{accepted_laid}
 use Rattle.profiles.specs.Profiles.{profile_of}
-use Rattle.profiles.proofs.Laws.{refused_none, found_by}
+use Rattle.profiles.proofs.Laws.{refused_none, found_by, ok_laid}
 use Rattle.profiles.proofs.find_breach.Goals as goal
-use Rattle.profiles.proofs.find_breach.Goals.{In-Accepted-2}
 
-pub breach_in-requires : goal.breach_in-requires
-breach_in-requires c = accepted_laid _ _ _ ((let the_accepted : let j = c in gives (counts_of c.in-Accepted.n) ≡ judge j.args.form j.args.list.now = sym (ap judged_answer c.in-Accepted.is) ∙ c.judge-judged.ensures in the_accepted))
+pub returns-in_err-counts : goal.returns-in_err-counts
+returns-in_err-counts c = refused_none (profile_of c.args.profile) _ _ _ c.judge.ensures c.in_err-counts.ensures.value _ c.from_residual.ensures
 
-pub returns-in-Refused : goal.returns-in-Refused
-returns-in-Refused c =
-    let j = c in
-    refused_none (profile_of j.args.profile) _ _ _ (sym (ap judged_answer c.in-Refused.is) ∙ j.judge-judged.ensures)
+pub invariant_of-accepted : goal.invariant_of-accepted
+invariant_of-accepted c = record { laid = ok_laid _ _ _ c.judge.ensures _ c.in_ok-counts.ensures.value }
 
-pub returns-in-Accepted : goal.returns-in-Accepted
-returns-in-Accepted c =
-    let j = c in
-    found_by (profile_of j.args.profile) _ _ _ ((let the_accepted : let j = c in gives (counts_of c.in-Accepted.n) ≡ judge j.args.form j.args.list.now = sym (ap judged_answer c.in-Accepted.is) ∙ c.judge-judged.ensures in the_accepted)) _ c.breach_in.ensures
+pub returns : goal.returns
+returns c = found_by (profile_of c.args.profile) _ _ _ c.judge.ensures _ c.in_ok-counts.ensures.value _ c.breach_in.ensures
