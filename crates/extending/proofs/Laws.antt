@@ -13,9 +13,9 @@ use borrow.Author.Count.{below_none, below_more}
 use borrow.Author.Tests.{ltb-false, leb-true, eqb-true, lt-ltb, le-ltb, le-leb, lt-leb, eq-eqb, ne_eqb, not-false}
 use Rattle.paper.specs.Answer.{gives}
 use Rattle.paper.specs.First.{first_bad, all, some}
-use Rattle.paper.specs.SignalList.{Signal, Code, SignalList, Counts, judge, list_of, OfTwo, of_both, first_refused, second_refused, version, has_codes, in_range, known_in, knows}
+use Rattle.paper.specs.SignalList.{Signal, Code, SignalList, Counts, judge, list_of, OfTwo, version, place_of, has_codes, in_range, known_in, knows}
 use Rattle.paper.specs.Extends.{same, codes_kept, keeps, stands, newer, extends, extends_lists, Related}
-use Rattle.paper.proofs.AnswerLaws.{one_answer}
+use Rattle.paper.proofs.ListLaws.{version_here}
 use Rattle.paper.proofs.FirstLaws.{first_fails, all_true, all_false, not_all, all_at, some_true, some_false, some_at}
 use Rattle.bools.proofs.Tests.{both, neither, other}
 use Rattle.paper.specs.Accepted.{Kept}
@@ -23,12 +23,15 @@ use Rattle.paper.specs.Pairs.{signal_key, signal_keys}
 use Rattle.paper.proofs.PairLaws.{signals_rise}
 use Rattle.paper.proofs.ExtendsLaws.{same_of, same_true, keeps_of, yes_related}
 use Rattle.paper.specs.Search.{Cut}
-use Rattle.refusals.proofs.Laws.{numbered, numbered_of}
+use Rattle.std.specs.Prelude.{Result, Ok}
+use Rattle.refusals.specs.declared.ListRefused.{ListRefused}
+use Rattle.refusals.proofs.WrittenLaws.{one_of_two}
 use Rattle.known.specs.Known.{Ordered, code_keys, Own}
 use Rattle.known.proofs.Laws.{ordered_of, in_range_lem, in_none, is_within, cut_signal, reaches, outside}
-use Rattle.extending.specs.declared.ExtendsOutcome.{ExtendsOutcome}
-use Rattle.extending.specs.declared.ExtendsOutcome.TheVariants.{Yes, No, FirstRefused, SecondRefused}
-use Rattle.extending.specs.Extending.{extends_answer, Newer, range_kept, entry_kept, ranges_kept}
+use Rattle.lists.specs.declared.accepted.AcceptedList.{AcceptedList}
+use Rattle.lists.specs.Listed.{list_as}
+use Rattle.finding.proofs.Laws.{kept_as}
+use Rattle.extending.specs.Extending.{extends_answer, Newer, range_kept, entry_kept, ranges_kept, agreed}
 
 -- ---- the ranges of a signal
 
@@ -232,6 +235,19 @@ module _ (a b : SignalList) (ha : Kept a) (hb : Kept b) (i j : ℕ) (at : Along 
                 ]
               ]
 
+-- past what was found newer, B stands at r
+pub record Ahead (a b : SignalList) (i j r : ℕ) : Type 0 where
+  pub along : Along a b i r
+  pub from : j ≤ r
+  pub stops : r < b.signals → (ltb (signal_key (b.signal r)) (signal_key (a.signal i)) && ltb (version a) (b.signal r).since) ≡ false
+
+module _ (a b : AcceptedList) (i j : ℕ) (at : Along (list_as a) (list_as b) i j) where
+  pub ahead : (s : Signal) → s ≡ (list_as a).signal i → (key : ℕ) → key ≡ signal_key s → (r : ℕ) → Newer (list_as b) j key a.counts.version r
+      → Ahead (list_as a) (list_as b) i j r
+  ahead s is key k r n =
+      let m = rw (version_here _ _ a.laid) at (rw (k ∙ ap signal_key is) at n) in
+      record { along = along_newer _ _ (kept_as a) (kept_as b) i j at _ r m (λ _. omega arith); from = m.from; stops = m.stops }
+
 -- past all of A: the rest of B has to be newer
 module _ (a b : SignalList) (ha : Kept a) (hb : Kept b) (i j r : ℕ) (at : Along a b i j) (le : a.signals ≤ i) (n : Newer b j signal_keys (version a) r) where
   end : Along a b i r
@@ -344,27 +360,19 @@ module _ (a b : SignalList) (i j from to : ℕ) (own : Own a.codes a.code i from
   pub entry_within : (g : ℕ) → from ≤ g → g < to → range_kept b j (a.code g).low (a.code g).high ≡ entry_kept a b i j g
   entry_within g le lt = simp (eq-eqb _ _ (own.within g le lt))
 
+-- signals of A and B, and the places of their checks, as they were read
+pub agrees_is : (a b : SignalList) (i j : ℕ) {s t : Signal} {p q : ℕ} {r : Bool} → r ≡ agreed s p t q → s ≡ a.signal i → t ≡ b.signal j
+    → p ≡ place_of a s → q ≡ place_of b t → r ≡ agreed (a.signal i) (place_of a (a.signal i)) (b.signal j) (place_of b (b.signal j))
+agrees_is a b i j e s-is t-is p-is q-is = rw (← s-is, ← t-is, ← p-is, ← q-is) e
+
 -- ---- a call that answers yes has the premise of demand 3, whichever of the two lists writes
 
-pub answered_yes : (form : ℕ) (xs : List ℕ) (form' : ℕ) (ys : List ℕ) → extends_answer Yes ≡ extends_lists form xs form' ys
+pub answered_yes : (form : ℕ) (xs : List ℕ) (form' : ℕ) (ys : List ℕ) → extends_answer (Ok true) ≡ extends_lists form xs form' ys
     → (m n : Counts) → judge form xs ≡ gives m → judge form' ys ≡ gives n
     → (Related (list_of xs m) (list_of ys n)) × (Related (list_of ys n) (list_of xs m))
 answered_yes form xs form' ys e = yes_related form xs form' ys (sym e)
 
 -- ---- the contract settles the answer
 
-told : OfTwo Bool → ExtendsOutcome
-told (of_both true) = Yes
-told (of_both false) = No
-told (first_refused n at) = FirstRefused (numbered n at)
-told (second_refused n at) = SecondRefused (numbered n at)
-
-told_of_lem : (r : ExtendsOutcome) → told (extends_answer r) ≡ r
-unfolding told
-told_of_lem Yes = refl
-told_of_lem No = refl
-told_of_lem (FirstRefused f) = ap FirstRefused (numbered_of f)
-told_of_lem (SecondRefused f) = ap SecondRefused (numbered_of f)
-
-pub one_extends : (a : OfTwo Bool) (v w : ExtendsOutcome) → extends_answer v ≡ a → extends_answer w ≡ a → v ≡ w
-one_extends = one_answer extends_answer told told_of_lem
+pub one_extends : (a : OfTwo Bool) (v w : Result Bool ListRefused) → extends_answer v ≡ a → extends_answer w ≡ a → v ≡ w
+one_extends = one_of_two (λ b. b) (λ b. b) (λ b. refl)

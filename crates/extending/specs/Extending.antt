@@ -1,28 +1,14 @@
 -- The paper's answer for each case of the code's, and what the parts of the comparison answer.
-use Rattle.std.specs.Prelude.{ℕ, ◌+◌, ◌≤◌, ◌<◌, ◌≡◌, Bool, true, false, not, ◌&&◌, ◌||◌, List, ltb, eqb}
+use Rattle.std.specs.Prelude.{ℕ, ◌+◌, ◌≤◌, ◌<◌, ◌≡◌, Bool, false, not, ◌&&◌, ◌||◌, Result, ltb, eqb}
 use Rattle.paper.specs.First.{all}
-use Rattle.paper.specs.SignalList.{Signal, SignalList, judge, list_of, OfTwo, of_both, first_refused, second_refused, of_two, in_range}
-use Rattle.paper.specs.Extends.{same, extends}
+use Rattle.paper.specs.SignalList.{Signal, SignalList, OfTwo, in_range}
+use Rattle.paper.specs.Extends.{same}
 use Rattle.paper.specs.Pairs.{signal_key}
-use Rattle.refusals.specs.Refusal.{number_of, carried_of}
-use Rattle.lists.specs.declared.Counts.{Counts}
-use Rattle.lists.specs.Judged.{counts_of}
-use Rattle.extending.specs.declared.ExtendsOutcome.{ExtendsOutcome}
-use Rattle.extending.specs.declared.ExtendsOutcome.TheVariants.{Yes, No, FirstRefused, SecondRefused}
+use Rattle.refusals.specs.declared.ListRefused.{ListRefused}
+use Rattle.refusals.specs.Outcome.{of_two_answer}
 
-abbrev pub extends_answer : ExtendsOutcome → OfTwo Bool
-extends_answer Yes = of_both true
-extends_answer No = of_both false
-extends_answer (FirstRefused f) = first_refused (number_of f) (carried_of f)
-extends_answer (SecondRefused f) = second_refused (number_of f) (carried_of f)
-
--- what is answered once the first list is accepted
-abbrev pub extends_under : SignalList → ℕ → List ℕ → OfTwo Bool
-extends_under a form ys = of_two (judge form ys) second_refused (λ n. of_both (extends a (list_of ys n)))
-
--- the list with the counts that it was accepted with
-abbrev pub listed : List ℕ → Counts → SignalList
-listed xs n = list_of xs (counts_of n)
+abbrev pub extends_answer : Result Bool ListRefused → OfTwo Bool
+extends_answer = of_two_answer (λ b. b)
 
 -- r is the first signal from j on that is not below the key, or not newer than the version
 pub record Newer (l : SignalList) (j key version r : ℕ) : Type 0 where

@@ -1,29 +1,110 @@
 -- What a search by key tells, and that the contracts settle the answers. Assumes nothing.
 use Prim.Native.Nat.{ℕ, ◌+◌, ◌*◌, ◌≤◌, ◌<◌, min}
-use mathlib.Core.Path.{◌≡◌, refl, sym, ap, ◌∙◌}
+use mathlib.Core.Path.{◌≡◌, refl, sym, ap, ap₂, ◌∙◌}
 use mathlib.Core.Bool.{cond}
+use mathlib.Core.List.{List}
 use native.Mathlib.Nat.{le_refl}
 use native.Mathlib.Decide.{dec_lt, ℕ_discrete}
 use native.Mathlib.Omega.{arith}
 use lib.Dec.{eqb}
 use borrow.Author.Tests.{eq-eqb, ne_eqb}
-use Rattle.paper.specs.Answer.{Answer, gives, refused, Sought, found, nothing}
-use Rattle.paper.specs.SignalList.{SignalList, Route as PaperRoute}
+use Rattle.paper.specs.Answer.{Answer, gives, refused, and_then, Sought}
+use Rattle.paper.specs.SignalList.{Counts, judge, list_of, under_list, OfTwo, of_both, first_refused, second_refused, of_two, under_lists, SignalList, Signal as PaperSignal, Route as PaperRoute}
 use Rattle.paper.specs.Accepted.{Kept}
-use Rattle.paper.specs.Pairs.{Entry as PaperEntry, signal_found, Keyed, index, signals_of, Rising}
-use Rattle.paper.proofs.AnswerLaws.{one_answer}
+use Rattle.paper.specs.Pairs.{Entry as PaperEntry, signal_found, Keyed, index, signal_keys, signals_of, Rising}
+use Rattle.paper.proofs.AnswerLaws.{never_both}
 use Rattle.paper.proofs.FirstLaws.{first_most}
 use Rattle.paper.proofs.SearchLaws.{falls_between}
+use Rattle.paper.proofs.ListLaws.{kept_of}
 use Rattle.paper.proofs.PairLaws.{signals_rise, start_small, found_exactly, index_exactly, index_none}
-use Rattle.refusals.proofs.Laws.{numbered, numbered_of}
+use Rattle.std.specs.Prelude.{Option, Result, Ok, Err, MatchResult}
+use Rattle.refusals.specs.declared.Refusal.{Refusal}
+use Rattle.refusals.specs.declared.ListRefused.{ListRefused}
+use Rattle.refusals.specs.declared.ListRefused.TheVariants.{First, Second}
+use Rattle.refusals.specs.Refusal.{refusal_of}
+use Rattle.refusals.specs.Outcome.{answer_of, sought_of, of_two_answer}
+use Rattle.refusals.proofs.WrittenLaws.{HandedOn, handed_on, one_result, sought_told, sought_told_of}
+use Rattle.entries.specs.declared.Signal.{Signal}
+use Rattle.entries.specs.declared.Route.{Route}
+use Rattle.entries.specs.Entries.{signal_of, route_of}
+use Rattle.lists.specs.declared.accepted.AcceptedList.{AcceptedList}
+use Rattle.lists.specs.Listed.{list_as, listed_answer}
+use Rattle.lists.proofs.Laws.{under_refused}
+use Rattle.finding.specs.declared.Entry.{Entry}
 use Rattle.finding.specs.declared.Reached.{Reached}
-use Rattle.finding.specs.declared.EntryOutcome.{EntryOutcome}
-use Rattle.finding.specs.declared.EntryOutcome.TheVariants.{Entry as AnEntry, Refused}
-use Rattle.finding.specs.declared.RouteOutcome.{RouteOutcome}
-use Rattle.finding.specs.declared.RouteOutcome.TheVariants as R
-use Rattle.finding.specs.declared.Found.{Found}
-use Rattle.finding.specs.declared.Found.TheVariants.{At, Refused as NotFound}
-use Rattle.finding.specs.Finding.{Reaches, entry_answer, route_answer, found_answer}
+use Rattle.finding.specs.Finding.{Reaches, entry_as, entry_answer, route_answer, found_answer}
+
+pub kept_as : (l : AcceptedList) → Kept (list_as l)
+kept_as l = kept_of _ _ l.laid
+
+-- the check that a signal names is there
+pub placed_as : (l : AcceptedList) (k : ℕ) → k < l.counts.signals → (s : Signal) → signal_of s ≡ (list_as l).signal k → s.check ≤ l.counts.checks
+placed_as l k lt s is = omega (arith, ap (λ (x : PaperSignal). x.check) is, ((kept_as l).signal k lt).named.exists)
+
+pub keys_rise : (l : AcceptedList) → Rising (signals_of (list_as l)) signal_keys
+keys_rise l = signals_rise _ (kept_as l)
+
+-- a call by a list that hands on the refusal of judging it
+pub under_err : {A B : Type 0} (g : A → B) (r : Result A Refusal) (f : Refusal) (form : ℕ) (xs : List ℕ) (call : SignalList → Answer B)
+    → HandedOn r f → refusal_of f ≡ under_list form xs gives → answer_of g r ≡ under_list form xs call
+under_err g r f form xs call h e = rw (handed_on r f h) (under_refused form xs call _ _ e)
+
+-- ---- a call by two lists: v and w are the judgings, of which `?` hands on the refusal of the first or of the second
+
+-- the judging v, with a refusal e as that of a list
+abbrev pub Refuses : (Refusal → ListRefused) → Result AcceptedList Refusal → ListRefused → Type 0
+Refuses which v e = MatchResult v (λ a. ◌≡◌ {A = Result AcceptedList ListRefused} (Err e) (Ok a)) (λ f. e ≡ which f)
+
+-- and with the list l
+abbrev pub Accepts : Result AcceptedList Refusal → AcceptedList → Type 0
+Accepts v l = MatchResult v (λ a. ◌≡◌ {A = Result AcceptedList ListRefused} (Ok l) (Ok a)) (λ f. ⊥)
+
+module _ {B : Type 0} (form : ℕ) (xs : List ℕ) (refusal : ℕ → ℕ → OfTwo B) (next : SignalList → OfTwo B) where
+  two_on : (l : SignalList) (y : OfTwo B) → gives l ≡ under_list form xs gives → y ≡ next l → y ≡ of_two (judge form xs) refusal (λ n. next (list_of xs n))
+  two_on l y e q = goes (judge form xs) e
+    where
+      goes : (j : Answer Counts) → gives l ≡ and_then j (λ n. gives (list_of xs n)) → y ≡ of_two j refusal (λ n. next (list_of xs n))
+      goes (gives n) e = let same : l ≡ list_of xs n = cc in q ∙ ap next same
+      goes (refused n at) e = absurd (never_both (refused n at) l n at (sym e) refl)
+
+  two_stays : (n at : ℕ) → refused n at ≡ under_list form xs gives → refusal n at ≡ of_two (judge form xs) refusal (λ n. next (list_of xs n))
+  two_stays n at e = goes (judge form xs) e
+    where
+      goes : (j : Answer Counts) → refused n at ≡ and_then j (λ m. gives (list_of xs m)) → refusal n at ≡ of_two j refusal (λ m. next (list_of xs m))
+      goes (gives m) e = absurd (never_both {A = SignalList} (refused n at) (list_of xs m) n at e refl)
+      goes (refused m b) e = ap₂ refusal (cc) (cc)
+
+accepted_as : (form : ℕ) (xs : List ℕ) (v : Result AcceptedList Refusal) (l : AcceptedList)
+    → listed_answer v ≡ under_list form xs gives → Accepts v l → gives (list_as l) ≡ under_list form xs gives
+accepted_as form xs (Ok a) l j m = let e : l ≡ a = cc in rw e j
+accepted_as form xs (Err f) l j m = absurd m
+
+module _ {B : Type 0} (form : ℕ) (xs : List ℕ) (other : ℕ) (ys : List ℕ) (call : SignalList → SignalList → B) where
+  behind : SignalList → OfTwo B
+  behind a = of_two (judge other ys) second_refused (λ n. of_both (call a (list_of ys n)))
+
+  pub first_err : {A : Type 0} (g : A → B) (v : Result AcceptedList Refusal) (e : ListRefused) (r : Result A ListRefused) → listed_answer v ≡ under_list form xs gives
+      → Refuses First v e → HandedOn r e → of_two_answer g r ≡ under_lists form xs other ys call
+  unfolding behind
+  first_err g (Ok a) e r j m h = absurd (cc)
+  first_err g (Err f) e r j m h = rw (handed_on r e h, m) (two_stays form xs first_refused behind _ _ j)
+
+  module _ (v : Result AcceptedList Refusal) (a : AcceptedList) (j : listed_answer v ≡ under_list form xs gives) (m : Accepts v a) where
+    behind_first : (y : OfTwo B) → y ≡ behind (list_as a) → y ≡ under_lists form xs other ys call
+    unfolding behind
+    behind_first y e = two_on form xs first_refused behind (list_as a) y (accepted_as form xs v a j m) e
+
+    pub second_err : {A : Type 0} (g : A → B) (u : Result AcceptedList Refusal) (e : ListRefused) (r : Result A ListRefused) → listed_answer u ≡ under_list other ys gives
+        → Refuses Second u e → HandedOn r e → of_two_answer g r ≡ under_lists form xs other ys call
+    unfolding behind
+    second_err g (Ok b) e r k n h = absurd (cc)
+    second_err g (Err f) e r k n h = behind_first _ (rw (handed_on r e h, n) (two_stays other ys second_refused (λ l. of_both (call (list_as a) l)) _ _ k))
+
+    pub both_accepted : (u : Result AcceptedList Refusal) (b : AcceptedList) (y : B) → listed_answer u ≡ under_list other ys gives → Accepts u b
+        → y ≡ call (list_as a) (list_as b) → of_both y ≡ under_lists form xs other ys call
+    unfolding behind
+    both_accepted u b y k n e =
+        behind_first _ (two_on other ys second_refused (λ l. of_both (call (list_as a) l)) (list_as b) _ (accepted_as other ys u b k n) (ap of_both e))
 
 -- ---- what was reached from a key on
 
@@ -95,53 +176,25 @@ module _ (l : SignalList) (h : Kept l) (type start : ℕ) where
 
 -- ---- the contracts settle the answers
 
-entry_told : Answer PaperEntry → EntryOutcome
-entry_told (gives e) =
-    let s = e.signal in
-    AnEntry (record {
-      signal = record {
-        start = s.start;
-        width = s.width;
-        kind = s.type;
-        check = s.check;
-        since = s.since;
-        limit = s.limit;
-        replacement = s.replacement;
-      };
-      place = e.place;
-    })
-entry_told (refused n at) = Refused (numbered n at)
+pub one_entry : (a : Answer PaperEntry) (v w : Result Entry Refusal) → entry_answer v ≡ a → entry_answer w ≡ a → v ≡ w
+one_entry = one_result entry_as (λ e. record { signal = signal_back e.signal; place = e.place }) (λ e. refl)
+  where
+    signal_back : PaperSignal → Signal
+    signal_back s = record {
+      start = s.start;
+      width = s.width;
+      kind = s.type;
+      check = s.check;
+      since = s.since;
+      limit = s.limit;
+      replacement = s.replacement;
+    }
 
-entry_told_of : (r : EntryOutcome) → entry_told (entry_answer r) ≡ r
-unfolding entry_told
-entry_told_of (AnEntry e) = refl
-entry_told_of (Refused f) = ap Refused (numbered_of f)
+pub one_route_lem : (a : Answer (Sought PaperRoute)) (v w : Result (Option Route) Refusal) → route_answer v ≡ a → route_answer w ≡ a → v ≡ w
+one_route_lem = one_result (sought_of route_of) (sought_told route_back) (sought_told_of route_of route_back (λ t. refl))
+  where
+    route_back : PaperRoute → Route
+    route_back t = record { signal = t.signal; vehicle = t.vehicle; null = t.null; start = t.start }
 
-pub one_entry : (a : Answer PaperEntry) (v w : EntryOutcome) → entry_answer v ≡ a → entry_answer w ≡ a → v ≡ w
-one_entry = one_answer entry_answer entry_told entry_told_of
-
-route_told : Answer (Sought PaperRoute) → RouteOutcome
-route_told (gives (found t)) = R.Route (record { signal = t.signal; vehicle = t.vehicle; null = t.null; start = t.start })
-route_told (gives nothing) = R.NoRoute
-route_told (refused n at) = R.Refused (numbered n at)
-
-route_told_of : (r : RouteOutcome) → route_told (route_answer r) ≡ r
-unfolding route_told
-route_told_of (R.Route t) = refl
-route_told_of R.NoRoute = refl
-route_told_of (R.Refused f) = ap R.Refused (numbered_of f)
-
-pub one_route_lem : (a : Answer (Sought PaperRoute)) (v w : RouteOutcome) → route_answer v ≡ a → route_answer w ≡ a → v ≡ w
-one_route_lem = one_answer route_answer route_told route_told_of
-
-found_told : Answer ℕ → Found
-found_told (gives k) = At k
-found_told (refused n at) = NotFound (numbered n at)
-
-found_told_of : (r : Found) → found_told (found_answer r) ≡ r
-unfolding found_told
-found_told_of (At k) = refl
-found_told_of (NotFound f) = ap NotFound (numbered_of f)
-
-pub one_found : (a : Answer ℕ) (v w : Found) → found_answer v ≡ a → found_answer w ≡ a → v ≡ w
-one_found = one_answer found_answer found_told found_told_of
+pub one_found : (a : Answer ℕ) (v w : Result ℕ Refusal) → found_answer v ≡ a → found_answer w ≡ a → v ≡ w
+one_found = one_result (λ k. k) (λ k. k) (λ k. refl)

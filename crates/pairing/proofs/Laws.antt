@@ -1,26 +1,26 @@
 -- What is reached in both lists tells the next pair, and the contract settles the answer. Assumes nothing.
 use Prim.Native.Nat.{ℕ, ◌≤◌, ◌<◌, min}
-use mathlib.Core.Path.{◌≡◌, refl, ap, ap₂, ◌∙◌}
+use mathlib.Core.Path.{◌≡◌, refl, ap₂, ◌∙◌}
 use mathlib.Core.Bool.{Bool, true, false, cond, ◌||◌, or-true}
 use native.Mathlib.Decide.{ℕ_discrete}
 use native.Mathlib.Omega.{arith}
 use lib.Dec.{eqb}
 use borrow.Author.Tests.{lt-ltb, le-ltb}
 use Rattle.paper.specs.First.{next}
-use Rattle.paper.specs.SignalList.{OfTwo, of_both, first_refused, second_refused}
+use Rattle.paper.specs.SignalList.{OfTwo}
 use Rattle.paper.specs.Answer.{Sought, found, nothing}
 use Rattle.paper.specs.Pairs.{Pair as PaperPair, Keyed, has, index, Rising}
 use Rattle.paper.specs.Comparing.{next_in}
-use Rattle.paper.proofs.AnswerLaws.{one_answer}
 use Rattle.paper.proofs.PassingLaws.{next_here, next_past}
 use Rattle.paper.proofs.PairLaws.{has_index}
-use Rattle.refusals.proofs.Laws.{numbered, numbered_of}
+use Rattle.std.specs.Prelude.{Option, Result}
+use Rattle.refusals.specs.declared.ListRefused.{ListRefused}
+use Rattle.refusals.proofs.WrittenLaws.{one_of_two, sought_told, sought_told_of}
 use Rattle.finding.specs.declared.Reached.{Reached}
 use Rattle.finding.specs.Finding.{Reaches}
 use Rattle.finding.proofs.Laws.{reached_there, reached_from, reached_here, reached_none, reached_index}
-use Rattle.pairing.specs.declared.Pairing.{Pairing}
-use Rattle.pairing.specs.declared.Pairing.TheVariants.{Pair as APair, NoMore as NoPair, FirstRefused, SecondRefused}
-use Rattle.pairing.specs.Pairing.{pairing_answer}
+use Rattle.pairing.specs.declared.Pair.{Pair}
+use Rattle.pairing.specs.Pairing.{pair_of, next_of, pairing_answer}
 
 -- ---- one list
 
@@ -70,18 +70,8 @@ module _ (t u : Keyed) (top : ℕ) (ht : Rising t top) (hu : Rising u top) (from
 
 -- ---- the contract settles the answer
 
-told : OfTwo (Sought PaperPair) → Pairing
-told (of_both (found p)) = APair (record { key = p.key; first = p.first; second = p.second })
-told (of_both nothing) = NoPair
-told (first_refused n at) = FirstRefused (numbered n at)
-told (second_refused n at) = SecondRefused (numbered n at)
-
-told_of_lem : (r : Pairing) → told (pairing_answer r) ≡ r
-unfolding told
-told_of_lem (APair p) = refl
-told_of_lem NoPair = refl
-told_of_lem (FirstRefused f) = ap FirstRefused (numbered_of f)
-told_of_lem (SecondRefused f) = ap SecondRefused (numbered_of f)
-
-pub one_pairing : (a : OfTwo (Sought PaperPair)) (v w : Pairing) → pairing_answer v ≡ a → pairing_answer w ≡ a → v ≡ w
-one_pairing = one_answer pairing_answer told told_of_lem
+pub one_pairing : (a : OfTwo (Sought PaperPair)) (v w : Result (Option Pair) ListRefused) → pairing_answer v ≡ a → pairing_answer w ≡ a → v ≡ w
+one_pairing = one_of_two next_of (sought_told back) (sought_told_of pair_of back (λ p. refl))
+  where
+    back : PaperPair → Pair
+    back p = record { key = p.key; first = p.first; second = p.second }

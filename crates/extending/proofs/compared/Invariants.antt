@@ -1,12 +1,8 @@
 -- `extending::compared` meets its contract. Assumes nothing.
-use Prim.Native.Nat.{◌-◌}
+use Rattle.lists.specs.Listed.{list_as}
 use Rattle.known.specs.Known.{From}
-use Rattle.extending.specs.Extending.{listed}
 use Rattle.extending.proofs.Laws.{Along}
 use Rattle.extending.proofs.compared.Given as goal
 
 abbrev pub invariant-loop-i : goal.invariant-loop-i
-invariant-loop-i l = (Along (listed l.a l.m) (listed l.b l.n) l.i l.j) × (From (listed l.a l.m) l.i l.e) × (From (listed l.b l.n) l.j l.g)
-
-abbrev pub decreases-loop-i : goal.decreases-loop-i
-decreases-loop-i l = l.m.signals - l.i
+invariant-loop-i l = (Along (list_as l.a) (list_as l.b) l.i l.j) × (From (list_as l.a) l.i l.e) × (From (list_as l.b) l.j l.g)

@@ -1,25 +1,19 @@
 -- `extending::extends` meets its contract. Assumes nothing.
-use mathlib.Core.Path.{◌≡◌, sym, ap, ◌∙◌}
-use Rattle.paper.specs.Answer.{gives}
-use Rattle.paper.specs.SignalList.{judge}
-use Rattle.paper.specs.Extends.{extends_lists}
-use Rattle.lists.specs.Judged.{counts_of, judged_answer}
-use Rattle.lists.proofs.Laws.{accepted_laid}
-use Rattle.paper.proofs.AnswerLaws.{by_refusal, by_given}
+use Rattle.paper.specs.Extends.{extends, extends_lists}
+use Rattle.finding.proofs.Laws.{first_err, second_err, both_accepted}
 use Rattle.extending.proofs.extends.Goals as goal
-use Rattle.extending.proofs.extends.Goals.{In-Accepted}
 
-told : (c : In-Accepted)
-    → gives (counts_of c.in-Accepted.m) ≡ judge c.args.form c.args.a.now
-told c = sym (ap judged_answer c.in-Accepted.is) ∙ c.judge-judged.ensures
-
-pub extends_accepted-requires : goal.extends_accepted-requires
-extends_accepted-requires c = accepted_laid _ _ _ (told c)
-
-pub returns-in-Refused : goal.returns-in-Refused
+pub returns-in_err-a : goal.returns-in_err-a
 unfolding extends_lists
-returns-in-Refused c = by_refusal _ _ _ _ _ (sym (ap judged_answer c.in-Refused.is) ∙ c.judge-judged.ensures)
+returns-in_err-a c = first_err _ _ _ _ extends _ _ _ _ c.judged.ensures c.in_err-a.ensures.cases c.from_residual.ensures
 
-pub returns-in-Accepted : goal.returns-in-Accepted
+pub returns-in_err-b : goal.returns-in_err-b
 unfolding extends_lists
-returns-in-Accepted c = by_given _ _ _ _ _ ((let the_told : gives (counts_of c.in-Accepted.m) ≡ judge c.args.form c.args.a.now = sym (ap judged_answer c.in-Accepted.is) ∙ c.judge-judged.ensures in the_told)) c.extends_accepted.ensures
+returns-in_err-b c =
+    second_err _ _ _ _ extends _ _ c.judged.ensures c.in_ok-a.ensures.cases _ _ _ _ c.judged-2.ensures c.in_err-b.ensures.cases
+    c.from_residual-in_err-b.ensures
+
+pub returns : goal.returns
+unfolding extends_lists
+returns c =
+    both_accepted _ _ _ _ extends _ _ c.judged.ensures c.in_ok-a.ensures.cases _ _ _ c.judged-2.ensures c.in_ok-b.ensures.cases c.compared.ensures

@@ -1,32 +1,24 @@
 -- `finding::find_signal` meets its contract. Assumes nothing.
-use mathlib.Core.Path.{◌≡◌, sym, ap, ◌∙◌}
+use mathlib.Core.Path.{ap}
 use mathlib.Core.Bool.{not}
 use borrow.Author.Tests.{lt-ltb, le-ltb}
 use Rattle.paper.specs.Answer.{gives}
-use Rattle.paper.specs.SignalList.{judge}
-use Rattle.paper.specs.Pairs.{finding}
-use Rattle.paper.proofs.AnswerLaws.{stays, goes_on_lem, refuses, goes_past}
-use Rattle.lists.specs.Judged.{counts_of, judged_answer}
-use Rattle.lists.proofs.Laws.{accepted_laid}
+use Rattle.paper.specs.Pairs.{finding_by, finding}
+use Rattle.paper.proofs.AnswerLaws.{refuses, goes_past}
+use Rattle.lists.proofs.Laws.{under_accepted}
+use Rattle.finding.proofs.Laws.{under_err}
 use Rattle.finding.proofs.find_signal.Goals as goal
-use Rattle.finding.proofs.find_signal.Goals.{In-Accepted-2}
 
-pub find_in-k-requires : goal.find_in-k-requires
-find_in-k-requires c = accepted_laid _ _ c.in-Accepted.n ((let the_accepted : gives (counts_of c.in-Accepted.n) ≡ judge c.args.form c.args.list.now = sym (ap judged_answer c.in-Accepted.is) ∙ c.judge-judged.ensures in the_accepted))
-
-pub returns-then-n-k : goal.returns-then-n-k
+pub returns-in_err-list : goal.returns-in_err-list
 unfolding finding
-returns-then-n-k c =
-    let f = c in
-    goes_on_lem _ _ _ _ ((let the_accepted : gives (counts_of c.in-Accepted.n) ≡ judge c.args.form c.args.list.now = sym (ap judged_answer c.in-Accepted.is) ∙ c.judge-judged.ensures in the_accepted)) (refuses _ 11 0 _ (ap not (le-ltb _ _ (rw f.find_in-k.ensures at c.if-n-k.true))))
+returns-in_err-list c = under_err _ _ _ _ _ (finding_by _ _) c.from_residual.ensures c.in_err-list.ensures
 
-pub returns-in-Refused : goal.returns-in-Refused
+pub returns-then-list-k : goal.returns-then-list-k
 unfolding finding
-returns-in-Refused c = stays _ _ _ _ (sym (ap judged_answer c.in-Refused.is) ∙ c.judge-judged.ensures)
+returns-then-list-k c = under_accepted _ _ (finding_by _ _) _ _ c.in_ok-list.ensures (refuses _ 11 0 _ (ap not (le-ltb _ _ (rw c.find_in-k.ensures at c.if-list-k.true))))
 
-pub returns-else-n-k : goal.returns-else-n-k
+pub returns : goal.returns
 unfolding finding
-returns-else-n-k c =
-    let f = c in
-    goes_on_lem _ _ _ _ ((let the_accepted : gives (counts_of c.in-Accepted.n) ≡ judge c.args.form c.args.list.now = sym (ap judged_answer c.in-Accepted.is) ∙ c.judge-judged.ensures in the_accepted))
-    (goes_past _ 11 0 _ _ (ap not (lt-ltb _ _ (rw f.find_in-k.ensures at c.if-n-k.false))) (ap gives f.find_in-k.ensures))
+returns c =
+    under_accepted _ _ (finding_by _ _) _ _ c.in_ok-list.ensures
+    (goes_past _ 11 0 _ _ (ap not (lt-ltb _ _ (rw c.find_in-k.ensures at c.if-list-k.false))) (ap gives c.find_in-k.ensures))

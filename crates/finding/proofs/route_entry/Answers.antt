@@ -1,29 +1,18 @@
 -- `finding::route_entry` meets its contract. Assumes nothing.
-use mathlib.Core.Path.{◌≡◌, sym, ap, ◌∙◌}
-use borrow.Author.Rules.{rules}
 use borrow.Author.Tests.{lt-ltb, le-ltb}
-use Rattle.paper.specs.Answer.{gives}
-use Rattle.paper.specs.SignalList.{judge}
-use Rattle.paper.specs.Pairs.{route_entry}
-use Rattle.paper.proofs.AnswerLaws.{stays, goes_on_lem}
-use Rattle.lists.specs.Judged.{counts_of, judged_answer}
-use Rattle.lists.proofs.Laws.{accepted_laid}
+use Rattle.paper.specs.Pairs.{route_entry_by, route_entry}
+use Rattle.lists.proofs.Laws.{under_accepted}
+use Rattle.finding.proofs.Laws.{under_err}
 use Rattle.finding.proofs.route_entry.Goals as goal
-use Rattle.finding.proofs.route_entry.Goals.{In-Accepted-2}
 
-pub returns-then-n-route : goal.returns-then-n-route
+pub returns-in_err-list : goal.returns-in_err-list
 unfolding route_entry
-returns-then-n-route c = goes_on_lem _ _ _ _ ((let the_accepted : gives (counts_of c.in-Accepted.n) ≡ judge c.args.form c.args.list.now = sym (ap judged_answer c.in-Accepted.is) ∙ c.judge-judged.ensures in the_accepted)) (simp (le-ltb _ _ c.if-n-route.true))
+returns-in_err-list c = under_err _ _ _ _ _ (route_entry_by _) c.from_residual.ensures c.in_err-list.ensures
 
-pub route_in-requires : goal.route_in-requires
-route_in-requires c = (accepted_laid _ _ _ ((let the_accepted : gives (counts_of c.in-Accepted.n) ≡ judge c.args.form c.args.list.now = sym (ap judged_answer c.in-Accepted.is) ∙ c.judge-judged.ensures in the_accepted)), search rules)
-
-pub returns-in-Refused : goal.returns-in-Refused
+pub returns-then-list-route : goal.returns-then-list-route
 unfolding route_entry
-returns-in-Refused c = stays _ _ _ _ (sym (ap judged_answer c.in-Refused.is) ∙ c.judge-judged.ensures)
+returns-then-list-route c = under_accepted _ _ (route_entry_by _) _ _ c.in_ok-list.ensures (simp (le-ltb _ _ c.if-list-route.true))
 
-pub returns-else-n-route : goal.returns-else-n-route
+pub returns : goal.returns
 unfolding route_entry
-returns-else-n-route c =
-    let e = c in
-    goes_on_lem _ _ _ _ ((let the_accepted : gives (counts_of c.in-Accepted.n) ≡ judge c.args.form c.args.list.now = sym (ap judged_answer c.in-Accepted.is) ∙ c.judge-judged.ensures in the_accepted)) (simp (lt-ltb _ _ e.if-n-route.false) (cc c.route_in.ensures.is))
+returns c = under_accepted _ _ (route_entry_by _) _ _ c.in_ok-list.ensures (simp (lt-ltb _ _ c.if-list-route.false) (cc c.route.ensures.is))

@@ -7,6 +7,6 @@ use Rattle.finding.proofs.signal_from.Goals as goal
 pub returns : goal.returns
 returns c = record {
   cut = c.first_signal-at.ensures;
-  here = λ _. c.signal_key.ensures ∙ ap signal_key c.signal_in.ensures.is;
+  here = λ _. c.signal_key.ensures ∙ ap signal_key c.signal.ensures.is;
   past = λ ge. absurd (omega arith);
 }
