@@ -1,6 +1,6 @@
 -- The parts of composing are the paper's, and what is written lies within the telegram. Assumes nothing.
 use Prim.Native.Nat.{ℕ, ◌+◌, ◌-◌, ◌*◌, ◌≤◌, ◌<◌}
-use mathlib.Core.Path.{◌≡◌, refl, sym, ap, ◌∙◌}
+use mathlib.Core.Path.{◌≡◌, refl, sym, ap, subst, ◌∙◌}
 use mathlib.Core.Bool.{true}
 use mathlib.Core.List.{List, [], ◌∷◌, ◌++◌, append-nil}
 use native.Mathlib.Omega.{arith}
@@ -8,17 +8,30 @@ use lib.ListN.{length, drop, set, replicate, length-replicate}
 use lib.Seq.{drop-length}
 use borrow.Author.Tests.{leb-true, eqb-true, not-false}
 use Rattle.paper.specs.Octets.{over}
-use Rattle.paper.specs.Answer.{gives, and_then}
+use Rattle.std.specs.Prelude.{Result}
+use Rattle.paper.specs.Answer.{Answer, gives}
 use Rattle.paper.specs.Telegrams.{type_length, mark_width}
-use Rattle.paper.specs.SignalList.{SignalList, Counts, judge, list_of}
-use Rattle.paper.specs.Composing.{writes_signal, writes_check, headed, composing_by, composing}
-use Rattle.paper.proofs.ListLaws.{version_here}
-use Rattle.paper.proofs.AnswerLaws.{not_refused, past, same_then}
+use Rattle.paper.specs.SignalList.{SignalList, under_list}
+use Rattle.paper.specs.Composing.{writes_signal, writes_check, headed, composing_by}
+use Rattle.paper.proofs.ListLaws.{kept_of, version_here}
+use Rattle.paper.proofs.AnswerLaws.{not_refused, past}
 use Rattle.bools.proofs.Tests.{both}
-use Rattle.paper.specs.Accepted.{Laid, Kept}
-use Rattle.paper.proofs.ComposingLaws.{carried_within}
+use Rattle.paper.specs.Accepted.{Kept}
+use Rattle.paper.proofs.ComposingLaws.{carried_within, version_octet}
+use Rattle.refusals.specs.declared.Refusal.{Refusal}
+use Rattle.refusals.specs.Refusal.{number_of, carried_of, refusal_of}
+use Rattle.refusals.specs.Outcome.{Written}
+use Rattle.refusals.proofs.WrittenLaws.{HandedOn, handed_on, written_refused}
+use Rattle.lists.specs.declared.accepted.AcceptedList.{AcceptedList}
+use Rattle.lists.specs.Judged.{counts_of}
+use Rattle.lists.specs.Listed.{list_as}
+use Rattle.lists.proofs.Laws.{under_accepted, under_refused}
 use Rattle.octets.specs.Fields.{Within}
-use Rattle.composing.specs.Composing.{head_of, Values, Marks, Room, composing_tests, composing_under}
+use Rattle.composing.specs.Composing.{head_of, Room, composing_tests, composing_under}
+
+-- what an accepted list keeps
+pub listed_kept : (l : AcceptedList) → Kept (list_as l)
+listed_kept l = kept_of l.octets.now (counts_of l.counts) l.laid
 
 -- ---- what is written lies within the telegram
 
@@ -40,9 +53,14 @@ written_head (x ∷ y ∷ l) a b n e h =
     let z : 2 + length zeros ≡ length (a ∷ b ∷ l) = omega (arith, length-replicate {A = ℕ} (n - 2) 0) in
     ap (λ (m : List ℕ). a ∷ b ∷ zeros ++ m) (ap (λ (i : ℕ). drop i (a ∷ b ∷ l)) z ∙ drop-length (a ∷ b ∷ l)) ∙ ap (λ (m : List ℕ). a ∷ b ∷ m) (append-nil zeros)
 
-pub head_is : (xs : List ℕ) (n : Counts) (type : ℕ) → Laid xs n → head_of type n.version ≡ headed (list_of xs n) type
+pub head_is : (l : AcceptedList) (type : ℕ) → head_of type l.counts.version ≡ headed (list_as l) type
 unfolding headed
-head_is xs n type h = rw (version_here xs n h)
+head_is l type = rw (version_here l.octets.now (counts_of l.counts) l.laid)
+
+pub version_small : (l : AcceptedList) → l.counts.version < 256
+version_small l =
+    let n = counts_of l.counts in
+    omega (arith, version_here l.octets.now n l.laid, version_octet (list_as l) (listed_kept l))
 
 -- ---- the tests
 
@@ -50,24 +68,27 @@ pub tested_by : (l : SignalList) (type : ℕ) (values marks : List ℕ) (room : 
 unfolding composing_tests
 tested_by l type values marks room = past _ 9 0 _ _ _ (past _ 13 0 _ _ _ (past _ 14 0 _ _ _ (past _ 15 _ _ _ _ (past _ 16 0 _ _ _ refl))))
 
-pub tested : (form : ℕ) (xs : List ℕ) (type : ℕ) (values marks : List ℕ) (room : ℕ)
-    → composing form xs type values marks room ≡ and_then (judge form xs) (λ n. composing_under (list_of xs n) type values marks room)
-unfolding composing
-tested form xs type values marks room = same_then (judge form xs) _ _ (λ n. tested_by (list_of xs n) type values marks room)
-
 -- what the tests ask of the sizes
-pub sized : (xs : List ℕ) (n : Counts) (type : ℕ) (values marks : List ℕ) (room : ℕ)
-    → Laid xs n → gives tt ≡ composing_tests (list_of xs n) type values marks room
-    → (Values xs n values) × (Marks xs n marks) × (Room type room)
+pub sized : (l : SignalList) (type : ℕ) (values marks : List ℕ) (room : ℕ) → gives tt ≡ composing_tests l type values marks room
+    → (length values ≡ l.signals) × (length marks ≡ l.checks) × (Room type room)
 unfolding composing_tests
-sized xs n type values marks room h e =
+sized l type values marks room e =
     let a = not_refused _ _ _ _ _ (sym e) in
     let b = not_refused _ _ _ _ _ a.1 in
     let c = not_refused _ _ _ _ _ b.1 in
     let d = not_refused _ _ _ _ _ c.1 in
     let f = not_refused _ _ _ _ _ d.1 in
-    let p = both _ _ (not-false _ b.0) in (
-      record { laid = h; each = eqb-true _ _ p.0 },
-      record { laid = h; each = eqb-true _ _ p.1 },
-      record { typed = not-false _ a.0; long = eqb-true _ _ (not-false _ f.0) },
-    )
+    let p = both _ _ (not-false _ b.0) in
+    (eqb-true _ _ p.0, eqb-true _ _ p.1, record { typed = not-false _ a.0; long = eqb-true _ _ (not-false _ f.0) })
+
+-- ---- a call by a list that writes: it is refused as judging is, or goes on with what is accepted
+
+module _ (form : ℕ) (xs : List ℕ) (call : SignalList → Answer (List ℕ)) where
+  pub written_list : {r : Result (Unit {0}) Refusal} (f : Refusal) (old : List ℕ) → HandedOn r f → refusal_of f ≡ under_list form xs gives
+      → Written (under_list form xs call) old r old
+  written_list {r} f old h e = rw (handed_on r f h) (written_refused f _ old (under_refused form xs call (number_of f) (carried_of f) e))
+
+  pub written_listed : (l : SignalList) {old : List ℕ} {r : Result (Unit {0}) Refusal} {new : List ℕ} → gives l ≡ under_list form xs gives
+      → Written (call l) old r new → Written (under_list form xs call) old r new
+  written_listed l {old} {r} {new} e w =
+      subst (λ (a : Answer (List ℕ)). Written a old r new) (under_accepted form xs call l (call l) e refl) w

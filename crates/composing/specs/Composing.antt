@@ -3,22 +3,12 @@ use Rattle.std.specs.Prelude.{ℕ, ◌+◌, ◌-◌, ◌≡◌, true, not, ◌&&
 use Rattle.paper.specs.Answer.{Answer, gives, refuse_if, and_then}
 use Rattle.paper.specs.First.{first_bad}
 use Rattle.paper.specs.Telegrams.{is_type, type_length}
-use Rattle.paper.specs.SignalList.{SignalList, Counts}
+use Rattle.paper.specs.SignalList.{SignalList}
 use Rattle.paper.specs.Composing.{mark_fits, value_fits, composed}
-use Rattle.paper.specs.Accepted.{Laid}
 
 -- the head of a type and a version, before anything else is written: the paper's `headed`
 abbrev pub head_of : ℕ → ℕ → List ℕ
 head_of type version = (16 + type) ∷ version ∷ replicate (type_length type - 2) 0
-
--- an accepted list with one value per signal, and with one mark per check
-pub record Values (xs : List ℕ) (n : Counts) (values : List ℕ) : Type 0 where
-  pub laid : Laid xs n
-  pub each : length values ≡ n.signals
-
-pub record Marks (xs : List ℕ) (n : Counts) (marks : List ℕ) : Type 0 where
-  pub laid : Laid xs n
-  pub each : length marks ≡ n.checks
 
 -- an output of a telegram's length
 pub record Room (type room : ℕ) : Type 0 where

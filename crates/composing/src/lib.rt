@@ -5,18 +5,16 @@ ghost use Rattle.std.specs.Prelude.{◌≡◌, true, cond, ◌+◌, ◌*◌, ◌
 ghost use Rattle.paper.specs.Octets.{put, puts};
 ghost use Rattle.paper.specs.First.{first_bad};
 ghost use Rattle.paper.specs.Telegrams.{type_length, mark_width};
-ghost use Rattle.paper.specs.SignalList.{list_of};
 ghost use Rattle.paper.specs.Composing.{signal_put, check_put, mark_fits, value_fits, composed, composing};
-ghost use Rattle.paper.specs.Accepted.{Laid};
 ghost use Rattle.octets.specs.Fields.{Within};
 ghost use Rattle.refusals.specs.Outcome.{outcome_of, Written};
-ghost use Rattle.lists.specs.Judged.{counts_of};
+ghost use Rattle.lists.specs.Listed.{list_as};
 ghost use Rattle.known.specs.Known.{Entries};
-ghost use Rattle.composing.specs.Composing.{head_of, Values, Marks, Room, composing_tests, composing_under};
+ghost use Rattle.composing.specs.Composing.{head_of, Room, composing_tests, composing_under};
 
 use known::Span;
-use lists::{Counts, Judged};
-use refusals::{Outcome, Refusal};
+use lists::AcceptedList;
+use refusals::Refusal;
 
 // A check is written where both its bits lie within the telegram's length.
 fn is_within(place: usize, kind: usize) -> bool
@@ -27,86 +25,84 @@ fn is_within(place: usize, kind: usize) -> bool
 }
 
 // A mark that is not written is not tested.
-fn mark_fits(list: &[u8], n: Counts, kind: usize, marks: &[u8], j: usize) -> bool
-    requires { (Marks list.now (counts_of n) marks.now) × (j < n.checks) }
-    ensures { result ≡ mark_fits (list_of list.now (counts_of n)) kind marks.now j }
+#[tactic(auto, unfolding(paper::specs::Composing::mark_fits))]
+fn mark_fits(list: &AcceptedList, kind: usize, marks: &[u8], j: usize) -> bool
+    requires { (length marks.now ≡ list.now.counts.checks) × (j < list.now.counts.checks) }
+    ensures { result ≡ mark_fits (list_as list.now) kind marks.now j }
 {
-    !is_within(lists::check_in(list, n, j), kind) | (marks[j] <= 3)
+    !is_within(list.check(j), kind) | (marks[j] <= 3)
 }
 
 // Nor is a value.
-fn value_fits(list: &[u8], n: Counts, kind: usize, values: &[u64], k: usize, own: Span) -> bool
-    requires { (Values list.now (counts_of n) values.now) × (k < n.signals) × (Entries (list_of list.now (counts_of n)) k own) }
-    ensures { result ≡ value_fits (list_of list.now (counts_of n)) kind values.now k }
+#[tactic(auto, unfolding(paper::specs::Composing::value_fits))]
+fn value_fits(list: &AcceptedList, kind: usize, values: &[u64], k: usize, own: Span) -> bool
+    requires { (length values.now ≡ list.now.counts.signals) × (k < list.now.counts.signals) × (Entries (list_as list.now) k own) }
+    ensures { result ≡ value_fits (list_as list.now) kind values.now k }
 {
-    let s = lists::signal_in(list, n, k);
+    let s = list.signal(k);
     let v = values[k];
-    !telegrams::is_carried(kind, s.kind)
-        | octets::fits(v, s.width) & known::knows(list, n, k, own, v)
+    !telegrams::is_carried(kind, s.kind) | octets::fits(v, s.width) & known::knows(list, k, own, v)
 }
 
 // The first check with a written mark above 3, or the number of checks.
-fn first_bad_mark(list: &[u8], n: Counts, kind: usize, marks: &[u8]) -> usize
-    requires { Marks list.now (counts_of n) marks.now }
-    ensures { result ≡ first_bad (mark_fits (list_of list.now (counts_of n)) kind marks.now) n.checks }
+#[tactic(auto, using(paper::proofs::LoopLaws::fails_nowhere))]
+fn first_bad_mark(list: &AcceptedList, kind: usize, marks: &[u8]) -> usize
+    requires { length marks.now ≡ list.now.counts.checks }
+    ensures { result ≡ first_bad (mark_fits (list_as list.now) kind marks.now) list.now.counts.checks }
 {
-    let mut i = 0;
-    while i < n.checks {
-        if !mark_fits(list, n, kind, marks, i) {
-            return i;
+    for j in 0..list.counts.checks {
+        if !mark_fits(list, kind, marks, j) {
+            return j;
         }
-        i += 1;
     }
-    i
+    list.counts.checks
 }
 
 // The first signal with a written value that is too wide or not known, or the number of signals; e is where its code entries are looked for.
-fn first_bad_value(list: &[u8], n: Counts, kind: usize, values: &[u64]) -> usize
-    requires { Values list.now (counts_of n) values.now }
-    ensures { result ≡ first_bad (value_fits (list_of list.now (counts_of n)) kind values.now) n.signals }
+#[tactic(auto, using(paper::proofs::LoopLaws::fails_nowhere))]
+fn first_bad_value(list: &AcceptedList, kind: usize, values: &[u64]) -> usize
+    requires { length values.now ≡ list.now.counts.signals }
+    ensures { result ≡ first_bad (value_fits (list_as list.now) kind values.now) list.now.counts.signals }
 {
-    let mut k = 0;
     let mut e = 0;
-    while k < n.signals {
-        let own = known::entries_from(list, n, e, k);
-        if !value_fits(list, n, kind, values, k, own) {
+    for k in 0..list.counts.signals {
+        let own = known::entries_from(list, e, k);
+        if !value_fits(list, kind, values, k, own) {
             return k;
         }
         e = own.to;
-        k += 1;
     }
-    k
+    list.counts.signals
 }
 
 // The first of the refusals 9 and 13 to 16 that applies, for an output of `room` octets.
+#[tactic(auto, unfolding(crate::specs::Composing::composing_tests, paper::specs::Answer::refuse_if))]
 fn composing_tests(
-    list: &[u8],
-    n: Counts,
+    list: &AcceptedList,
     kind: usize,
     values: &[u64],
     marks: &[u8],
     room: usize,
-) -> Outcome
-    requires { Laid list.now (counts_of n) }
-    ensures { outcome_of result ≡ composing_tests (list_of list.now (counts_of n)) kind values.now marks.now room }
+) -> Result<(), Refusal>
+    ensures { outcome_of result ≡ composing_tests (list_as list.now) kind values.now marks.now room }
 {
     if !telegrams::is_type(kind) {
-        return Outcome::Refused(Refusal::TELEGRAM_TYPE);
+        return Err(Refusal::TelegramType);
     }
-    if !((values.len() == n.signals) & (marks.len() == n.checks)) {
-        return Outcome::Refused(Refusal::VALUES_OR_MARKS);
+    if !((values.len() == list.counts.signals) & (marks.len() == list.counts.checks)) {
+        return Err(Refusal::ValuesOrMarks);
     }
-    if first_bad_mark(list, n, kind, marks) < n.checks {
-        return Outcome::Refused(Refusal::MARK_ABOVE);
+    if first_bad_mark(list, kind, marks) < list.counts.checks {
+        return Err(Refusal::MarkAbove);
     }
-    let k = first_bad_value(list, n, kind, values);
-    if k < n.signals {
-        return Outcome::Refused(Refusal(Refusal::VALUE_UNFIT, k));
+    let k = first_bad_value(list, kind, values);
+    if k < list.counts.signals {
+        return Err(Refusal::ValueUnfit(k));
     }
     if room != telegrams::type_length(kind) {
-        return Outcome::Refused(Refusal::OUTPUT_LENGTH);
+        return Err(Refusal::OutputLength);
     }
-    Outcome::Done
+    Ok(())
 }
 
 // The head and the version, then zeros.
@@ -130,13 +126,13 @@ fn write_where(out: &mut [u8], written: bool, start: usize, width: usize, v: u64
 }
 
 // Every signal that the type carries.
-fn write_signals(list: &[u8], n: Counts, kind: usize, values: &[u64], out: &mut [u8])
-    requires { (Values list.now (counts_of n) values.now) × (Room kind (length out.old)) }
-    ensures { out.new ≡ puts (signal_put (list_of list.now (counts_of n)) kind values.now) out.old n.signals }
+#[tactic(auto, using(paper::proofs::PutsLaws::none_put, paper::proofs::PutsLaws::one_put))]
+fn write_signals(list: &AcceptedList, kind: usize, values: &[u64], out: &mut [u8])
+    requires { (length values.now ≡ list.now.counts.signals) × (Room kind (length out.old)) }
+    ensures { out.new ≡ puts (signal_put (list_as list.now) kind values.now) out.old list.now.counts.signals }
 {
-    let mut k = 0;
-    while k < n.signals {
-        let s = lists::signal_in(list, n, k);
+    for k in 0..list.counts.signals {
+        let s = list.signal(k);
         write_where(
             out,
             telegrams::is_carried(kind, s.kind),
@@ -144,56 +140,50 @@ fn write_signals(list: &[u8], n: Counts, kind: usize, values: &[u64], out: &mut 
             s.width,
             values[k],
         );
-        k += 1;
     }
 }
 
 // Every check within the telegram's length, one that no signal names too.
-fn write_checks(list: &[u8], n: Counts, kind: usize, marks: &[u8], out: &mut [u8])
-    requires { (Marks list.now (counts_of n) marks.now) × (Room kind (length out.old)) }
-    ensures { out.new ≡ puts (check_put (list_of list.now (counts_of n)) kind marks.now) out.old n.checks }
+#[tactic(auto, using(paper::proofs::PutsLaws::none_put, paper::proofs::PutsLaws::one_put))]
+fn write_checks(list: &AcceptedList, kind: usize, marks: &[u8], out: &mut [u8])
+    requires { (length marks.now ≡ list.now.counts.checks) × (Room kind (length out.old)) }
+    ensures { out.new ≡ puts (check_put (list_as list.now) kind marks.now) out.old list.now.counts.checks }
 {
-    let mut j = 0;
-    while j < n.checks {
-        let place = lists::check_in(list, n, j);
+    for j in 0..list.counts.checks {
+        let place = list.check(j);
         write_where(out, is_within(place, kind), place, 2, marks[j] as u64);
-        j += 1;
     }
 }
 
 // The whole telegram, after every test.
-fn write_telegram(list: &[u8], n: Counts, kind: usize, values: &[u64], marks: &[u8], out: &mut [u8])
-    requires { (Values list.now (counts_of n) values.now) × (Marks list.now (counts_of n) marks.now) × (Room kind (length out.old)) }
-    ensures { out.new ≡ composed (list_of list.now (counts_of n)) kind values.now marks.now }
+#[tactic(auto, using(crate::proofs::Laws::head_is), unfolding(paper::specs::Composing::composed))]
+fn write_telegram(list: &AcceptedList, kind: usize, values: &[u64], marks: &[u8], out: &mut [u8])
+    requires { (length values.now ≡ list.now.counts.signals) × (length marks.now ≡ list.now.counts.checks) × (Room kind (length out.old)) }
+    ensures { out.new ≡ composed (list_as list.now) kind values.now marks.now }
 {
-    write_head(out, kind, n.version);
-    write_signals(list, n, kind, values, out);
-    write_checks(list, n, kind, marks, out);
+    write_head(out, kind, list.counts.version);
+    write_signals(list, kind, values, out);
+    write_checks(list, kind, marks, out);
 }
 
-// Inner: composing under a list that was accepted with these counts.
+// Inner: composing under an accepted list.
+#[tactic(auto, using(crate::proofs::Laws::sized))]
 pub fn compose_under(
-    list: &[u8],
-    n: Counts,
+    list: &AcceptedList,
     kind: usize,
     values: &[u64],
     marks: &[u8],
     out: &mut [u8],
-) -> Outcome
-    requires { Laid list.now (counts_of n) }
-    ensures { Written (composing_under (list_of list.now (counts_of n)) kind values.now marks.now (length out.old)) out.old result out.new }
+) -> Result<(), Refusal>
+    ensures { Written (composing_under (list_as list.now) kind values.now marks.now (length out.old)) out.old result out.new }
 {
-    let tested = composing_tests(list, n, kind, values, marks, out.len());
-    match tested {
-        Outcome::Refused(f) => Outcome::Refused(f),
-        Outcome::Done => {
-            write_telegram(list, n, kind, values, marks, out);
-            Outcome::Done
-        }
-    }
+    composing_tests(list, kind, values, marks, out.len())?;
+    write_telegram(list, kind, values, marks, out);
+    Ok(())
 }
 
 // Composes a telegram of type `kind` into `out`. Refused: 1 to 4, then 9 and 13 to 16, and `out` stays as it was.
+#[tactic(auto, using(crate::proofs::Laws::written_list, crate::proofs::Laws::written_listed, crate::proofs::Laws::tested_by), unfolding(paper::specs::Composing::composing))]
 pub fn compose(
     list: &[u8],
     form: u8,
@@ -201,12 +191,9 @@ pub fn compose(
     values: &[u64],
     marks: &[u8],
     out: &mut [u8],
-) -> Outcome
+) -> Result<(), Refusal>
     ensures { Written (composing form list.now kind values.now marks.now (length out.old)) out.old result out.new }
 {
-    let judged = lists::judge(list, form);
-    match judged {
-        Judged::Refused(f) => Outcome::Refused(f),
-        Judged::Accepted(n) => compose_under(list, n, kind, values, marks, out),
-    }
+    let list = AcceptedList::judged(list, form)?;
+    compose_under(&list, kind, values, marks, out)
 }

@@ -10,6 +10,7 @@ use lib.Ieee.{binary32, to_bits}
 use lib.Ieee.Bits.{to_bits-lt}
 use lib.Ieee.Fits.{round-fits}
 use borrow.Author.Tests.{ltb-false}
+use Rattle.std.specs.Prelude.{Ok}
 use Rattle.paper.specs.Answer.{gives}
 use Rattle.paper.specs.Reading.{Reading, reading}
 use Rattle.paper.specs.Shown.{Kind, code, speed, percentage, signed_percentage, current, Shown, as_code, as_speed, as_percentage, as_current}
@@ -17,8 +18,7 @@ use Rattle.paper.specs.Shown.{nearest, signed_percent, shown_as, scaled, ShownRe
 use Rattle.paper.proofs.ShownLaws.{shows, shown_fits}
 use Rattle.shown.specs.declared.Kind.{Kind as KindOf}
 use Rattle.shown.specs.declared.ShownReading.{ShownReading as Answered}
-use Rattle.shown.specs.declared.Showing.TheVariants as Of
-use Rattle.shown.specs.Show.{kind_of, shown_of, showing_answer}
+use Rattle.shown.specs.Show.{kind_of, reading_of, showing_answer}
 use Rattle.shown.proofs.Scales.{exact, zero_bits}
 
 -- each value on its scale is exact: one law, at each scale
@@ -75,6 +75,6 @@ exact_shown form xs store now v k kind s e =
 
 -- of the call: whatever it shows, by its contract
 pub call_exact : (form : ℕ) (xs store : List ℕ) (now v k : ℕ) (kind : KindOf) (s : Answered)
-    → showing_answer (Of.Shown s) ≡ showing form xs store now v k (kind_of kind)
-    → ShownExactly form xs store now v k (kind_of kind) (record { shown = shown_of s.shown; reason = s.reason })
+    → showing_answer (Ok s) ≡ showing form xs store now v k (kind_of kind)
+    → ShownExactly form xs store now v k (kind_of kind) (reading_of s)
 call_exact form xs store now v k kind s meets = exact_shown form xs store now v k (kind_of kind) _ (sym meets)

@@ -1,14 +1,15 @@
 -- Which case of the code's enums stands for which of the paper's kinds, shown readings and answers.
-use Rattle.paper.specs.Answer.{Answer, gives}
+use Rattle.std.specs.Prelude.{Result}
+use Rattle.paper.specs.Answer.{Answer}
 use Rattle.paper.specs.Shown as paper
-use Rattle.refusals.specs.Refusal.{refusal_of}
+use Rattle.refusals.specs.declared.Refusal.{Refusal}
+use Rattle.refusals.specs.Outcome.{answer_of}
+use Rattle.reading.specs.Reason.{reason_number}
 use Rattle.shown.specs.declared.Kind.{Kind}
 use Rattle.shown.specs.declared.Kind.TheVariants as K
 use Rattle.shown.specs.declared.Shown.{Shown}
 use Rattle.shown.specs.declared.Shown.TheVariants as S
 use Rattle.shown.specs.declared.ShownReading.{ShownReading}
-use Rattle.shown.specs.declared.Showing.{Showing}
-use Rattle.shown.specs.declared.Showing.TheVariants as Of
 
 abbrev pub kind_of : Kind → paper.Kind
 kind_of K.Code = paper.code
@@ -24,8 +25,7 @@ shown_of (S.Percentage x) = paper.as_percentage x
 shown_of (S.Current x) = paper.as_current x
 
 abbrev pub reading_of : ShownReading → paper.ShownReading
-reading_of s = record { shown = shown_of s.shown; reason = s.reason }
+reading_of s = record { shown = shown_of s.shown; reason = reason_number s.reason }
 
-abbrev pub showing_answer : Showing → Answer paper.ShownReading
-showing_answer (Of.Shown s) = gives (reading_of s)
-showing_answer (Of.Refused f) = refusal_of f
+abbrev pub showing_answer : Result ShownReading Refusal → Answer paper.ShownReading
+showing_answer = answer_of reading_of

@@ -2,19 +2,17 @@
 #![tactic(auto)]
 
 ghost use Rattle.std.specs.Prelude.{◌≡◌, false, true, ◌<◌, ◌^◌};
-ghost use Rattle.paper.specs.SignalList.{list_of};
-ghost use Rattle.paper.specs.Accepted.{Laid};
 ghost use Rattle.paper.specs.Shown.{nearest, signed_percent, shown_as, shown_width, showing_by, showing};
-ghost use Rattle.lists.specs.Judged.{counts_of};
+ghost use Rattle.lists.specs.Listed.{list_as};
 ghost use Rattle.reading.specs.Reading.{as_reading};
 ghost use Rattle.shown.specs.Show.{kind_of, shown_of, showing_answer};
 
-use lists::{Counts, Judged};
-use reading::{ReadOutcome, Reading};
+use lists::AcceptedList;
+use reading::{Reading, Reason};
 use refusals::Refusal;
 
 // What a raw value is shown as; a percentage is unsigned or two's complement.
-#[derive(Clone, Copy)]
+#[derive(Clone, Copy, Debug, PartialEq, Eq)]
 pub enum Kind {
     Code,
     Speed,
@@ -24,7 +22,7 @@ pub enum Kind {
 }
 
 // A reading as shown: a code is a whole number, a scaled one an exact f32.
-#[derive(Clone, Copy)]
+#[derive(Clone, Copy, Debug, PartialEq)]
 pub enum Shown {
     Code(u64),
     Speed(f32),
@@ -33,16 +31,10 @@ pub enum Shown {
 }
 
 // With the reason that it was read with.
-#[derive(Clone, Copy)]
+#[derive(Clone, Copy, Debug, PartialEq)]
 pub struct ShownReading {
     pub shown: Shown,
-    pub reason: u8,
-}
-
-#[derive(Clone, Copy)]
-pub enum Showing {
-    Shown(ShownReading),
-    Refused(Refusal),
+    pub reason: Reason,
 }
 
 // n / 4096: every scale here is a whole number of 4096ths to a step, and an f32 holds each whole number below 2^24.
@@ -88,47 +80,45 @@ fn value(kind: Kind, raw: u64) -> Shown
 }
 
 // A reading of a signal of this width: a scaled kind needs 16 bits, which its value then fits.
-fn shown_as(kind: Kind, width: usize, r: Reading) -> Showing
+#[tactic(auto, unfolding(paper::specs::Answer::refuse_if))]
+fn shown_as(kind: Kind, width: usize, r: Reading) -> Result<ShownReading, Refusal>
     requires { width ≡ 16 → r.value < 65536 }
     ensures { showing_answer result ≡ shown_width (kind_of kind) width (as_reading r) }
 {
-    if let Kind::Code = kind {
-        return Showing::Shown(ShownReading {
+    if kind == Kind::Code {
+        return Ok(ShownReading {
             shown: Shown::Code(r.value),
             reason: r.reason,
         });
     }
     if width != 16 {
-        return Showing::Refused(Refusal::SCALED_KIND);
+        return Err(Refusal::ScaledKind);
     }
-    Showing::Shown(ShownReading {
+    Ok(ShownReading {
         shown: value(kind, r.value),
         reason: r.reason,
     })
 }
 
-// Under a list that was accepted with these counts.
+// Under an accepted list.
+#[tactic(auto, using(refusals::proofs::WrittenLaws::stays_err, paper::proofs::AnswerLaws::goes_on_lem), unfolding(reading::specs::Reading::reading_under))]
 fn show_under(
-    list: &[u8],
-    n: Counts,
+    list: &AcceptedList,
     store: &[u8],
     clock: u32,
     vehicle: usize,
     signal: usize,
     kind: Kind,
-) -> Showing
-    requires { Laid list.now (counts_of n) }
-    ensures { showing_answer result ≡ showing_by store.now clock vehicle signal (kind_of kind) (list_of list.now (counts_of n)) }
+) -> Result<ShownReading, Refusal>
+    ensures { showing_answer result ≡ showing_by store.now clock vehicle signal (kind_of kind) (list_as list.now) }
 {
-    let read = reading::read_under(list, n, store, clock, vehicle, signal);
-    match read {
-        ReadOutcome::Refused(f) => Showing::Refused(f),
-        ReadOutcome::Read(r) => shown_as(kind, lists::width_in(list, n, signal), r),
-    }
+    let r = reading::read_under(list, store, clock, vehicle, signal)?;
+    shown_as(kind, list.width(signal), r)
 }
 
 // Reads a signal of a vehicle at `clock` and shows it as the kind asks. Refused: 1 to 4, then 5, 6 and 11, then 26 for a scaled kind of a signal whose
 // width is not 16.
+#[tactic(auto, using(refusals::proofs::WrittenLaws::handed_on, lists::proofs::Laws::under_accepted, lists::proofs::Laws::under_refused), unfolding(paper::specs::Shown::showing))]
 pub fn show(
     list: &[u8],
     form: u8,
@@ -137,12 +127,9 @@ pub fn show(
     vehicle: usize,
     signal: usize,
     kind: Kind,
-) -> Showing
+) -> Result<ShownReading, Refusal>
     ensures { showing_answer result ≡ showing form list.now store.now clock vehicle signal (kind_of kind) }
 {
-    let judged = lists::judge(list, form);
-    match judged {
-        Judged::Refused(f) => Showing::Refused(f),
-        Judged::Accepted(n) => show_under(list, n, store, clock, vehicle, signal, kind),
-    }
+    let list = AcceptedList::judged(list, form)?;
+    show_under(&list, store, clock, vehicle, signal, kind)
 }

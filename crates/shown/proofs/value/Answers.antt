@@ -6,27 +6,17 @@ use native.Mathlib.Omega.{arith}
 use lib.Dec.{lit<}
 use lib.Ieee.{binary32}
 use lib.Ieee.Scale.{round_same}
-use Rattle.paper.specs.Shown.{nearest, as_speed, as_percentage, as_current}
-use borrow.Author.Rules.{rules}
+use Rattle.paper.specs.Shown.{nearest, as_speed, as_current}
 use Rattle.shown.proofs.value.Goals as goal
 
 -- a scale of m / d in 4096ths
 in_parts : (n m d : ℕ) → 0 < d → n * d ≡ m * 4096 → nearest false n 4096 ≡ nearest false m d
 in_parts n m d h e = round_same binary32 false n 4096 m d (lit< tt) h e
 
-pub returns-in-Code : goal.returns-in-Code
-returns-in-Code c = rw c.in-Code.is
-
 pub returns-in-Speed : goal.returns-in-Speed
 returns-in-Speed c =
     let raw = c.args.raw in
     rw c.in-Speed.is (ap as_speed (c.parts.ensures ∙ in_parts _ raw 64 (lit< tt) (omega arith)))
-
-pub returns-in-Percentage : goal.returns-in-Percentage
-returns-in-Percentage c = rw c.in-Percentage.is (ap as_percentage c.parts-in-Percentage.ensures)
-
-pub returns-in-SignedPercentage : goal.returns-in-SignedPercentage
-returns-in-SignedPercentage c = rw c.in-SignedPercentage.is (ap as_percentage c.signed_percent.ensures)
 
 pub returns-in-Current : goal.returns-in-Current
 returns-in-Current c =
