@@ -1,23 +1,22 @@
 -- The paper's answer for each case of marshalling, what it leaves in the data, and what its parts ask and answer.
-use Rattle.std.specs.Prelude.{ℕ, ◌*◌, ◌≤◌, ◌<◌, ◌≡◌, Bool, not, cond, List, length, get_or, ltb}
+use Rattle.std.specs.Prelude.{ℕ, ◌*◌, ◌≤◌, ◌<◌, ◌≡◌, Bool, not, cond, List, length, get_or, ltb, Result}
 use Rattle.paper.specs.Octets.{put}
 use Rattle.paper.specs.Answer.{Answer, gives, refuse_if, after, map_answer}
 use Rattle.paper.specs.First.{some, count}
-use Rattle.paper.specs.SignalList.{SignalList, Counts, route_end, list_of}
+use Rattle.paper.specs.SignalList.{SignalList, route_end}
 use Rattle.paper.specs.Store.{store_octets, is_store}
 use Rattle.paper.specs.Marshalling as paper
-use Rattle.paper.specs.Accepted.{Laid}
-use Rattle.refusals.specs.Refusal.{refusal_of}
+use Rattle.refusals.specs.declared.Refusal.{Refusal}
+use Rattle.refusals.specs.Outcome.{answer_of}
 use Rattle.known.specs.Known.{Starts}
-use Rattle.marshalling.specs.declared.Marshalled.{Marshalled}
-use Rattle.marshalling.specs.declared.Marshalled.TheVariants.{Live, Refused}
+use Rattle.reading.specs.Reading.{as_reading}
+use Rattle.marshalling.specs.declared.RouteReading.{RouteReading}
 
-abbrev pub live_answer : Marshalled → Answer ℕ
-live_answer (Live m) = gives m
-live_answer (Refused f) = refusal_of f
+abbrev pub live_answer : Result ℕ Refusal → Answer ℕ
+live_answer = answer_of (λ m. m)
 
 -- the live count that was reported, and the lent data afterwards, which are as they were where the call is refused
-pub record Delivered (answer : Answer paper.Marshalled) (old : List ℕ) (r : Marshalled) (new : List ℕ) : Type 0 where
+pub record Delivered (answer : Answer paper.Marshalled) (old : List ℕ) (r : Result ℕ Refusal) (new : List ℕ) : Type 0 where
   pub lives : live_answer r ≡ map_answer (λ m. m.lives) answer
   pub octets : new ≡ after old (map_answer (λ m. m.octets) answer)
 
@@ -37,11 +36,16 @@ pub record Indexed (l : SignalList) (first : List ℕ) : Type 0 where
   pub long : length first ≡ 257
   pub each : (k : ℕ) → k ≤ l.signals → Starts l k (get_or first k 0)
 
--- an accepted list, a whole store, and data of so many octets, in which every route ends
-pub record Served (xs : List ℕ) (n : Counts) (store : List ℕ) (octets : ℕ) : Type 0 where
-  pub laid : Laid xs n
+-- a whole store, and data of so many octets, in which every route of the list ends
+pub record Served (l : SignalList) (store : List ℕ) (octets : ℕ) : Type 0 where
   pub whole : length store ≡ store_octets
-  pub room : (r : ℕ) → r < n.routes → route_end (list_of xs n).signal ((list_of xs n).route r) ≤ 8 * octets
+  pub room : (r : ℕ) → r < l.routes → route_end l.signal (l.route r) ≤ 8 * octets
+
+-- a route's field, and what the route reads
+pub record RouteRead (l : SignalList) (store : List ℕ) (now r : ℕ) (x : RouteReading) : Type 0 where
+  pub start : x.start ≡ (l.route r).start
+  pub width : x.width ≡ (l.signal (l.route r).signal).width
+  pub reading : as_reading x.reading ≡ paper.routed l store now r
 
 -- one route's value in its field, and what it adds to the live count; and the same of the first n routes
 pub record RouteWritten (l : SignalList) (store : List ℕ) (now : ℕ) (old : List ℕ) (r m : ℕ) (new : List ℕ) : Type 0 where

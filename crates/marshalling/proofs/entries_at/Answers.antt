@@ -1,22 +1,12 @@
 -- `marshalling::entries_at` meets its contract. Assumes nothing.
 use Prim.Native.Nat.{◌+◌}
 use native.Mathlib.Omega.{arith}
-use borrow.Author.Rules.{rules}
-use Rattle.known.proofs.Laws.{laid_ordered, own_from}
+use Rattle.known.proofs.Laws.{listed_ordered, own_from}
 use Rattle.marshalling.proofs.entries_at.Goals as goal
-
-pub overflow_cast-from : goal.overflow_cast-from
-overflow_cast-from c =
-    let s = c in
-    omega (arith, (s.requires.1.each s.args.k (omega (arith, s.requires.2))).most, s.requires.0.codes.opens.within)
-
-pub overflow_cast-to : goal.overflow_cast-to
-overflow_cast-to c =
-    let s = c in
-    omega (arith, (s.requires.1.each (s.args.k + 1) (omega (arith, s.requires.2))).most, s.requires.0.codes.opens.within)
 
 pub returns : goal.returns
 returns c =
-    let s = c in
-    let k = s.args.k in
-    own_from _ _ (laid_ordered _ _ s.requires.0) _ _ _ (s.requires.1.each k (omega (arith, s.requires.2))) (s.requires.1.each (k + 1) (omega (arith, s.requires.2)))
+    let k = c.args.k in
+    let each = c.requires.0.each in
+    rw (c.from-from.ensures, c.from-to.ensures)
+    (own_from _ _ (listed_ordered c.args.list.now) k _ _ (each k (omega (arith, c.requires.1))) (each (k + 1) (omega (arith, c.requires.1))))
