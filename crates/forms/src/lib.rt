@@ -41,7 +41,8 @@ fn any_serial(list: &[u8], n: Counts) -> bool
 
 // The list with signal entries of `size` octets into `out`: what stands before the first, of each its first 16 and zeros, and the rest. Refused: 33.
 fn resize(list: &[u8], n: Counts, size: usize, out: &mut [u8]) -> Result<(), Refusal>
-    requires { (Laid list.now (counts_of n)) × (Sized size) }
+    requires laid { Laid list.now (counts_of n) }
+    requires sized { Sized size }
     ensures { Written (resizing size list.now (counts_of n) (length out.old)) out.old result out.new }
 {
     if out.len() != list.len() - n.size * n.signals + size * n.signals {
@@ -61,6 +62,7 @@ fn resize(list: &[u8], n: Counts, size: usize, out: &mut [u8]) -> Result<(), Ref
 }
 
 // Moves a list in form 1 to form 2 into `out`, each serial number 0. Refused: 1 to 4, then 33, and `out` stays as it was.
+#[tactic(auto, using(crate::proofs::Laws::widened_as), unfolding(paper::specs::Forms::to_form2, paper::specs::Answer::refuse_if))]
 pub fn to_form_2(list: &[u8], out: &mut [u8]) -> Result<(), Refusal>
     ensures { Written (to_form2 list.now (length out.old)) out.old result out.new }
 {
@@ -69,6 +71,7 @@ pub fn to_form_2(list: &[u8], out: &mut [u8]) -> Result<(), Refusal>
 }
 
 // Moves a list in form 2 to form 1 into `out`. Refused: 1 to 4, then 32 where a serial number is not 0, and 33, and `out` stays as it was.
+#[tactic(auto, using(crate::proofs::Laws::dropped_as), unfolding(paper::specs::Forms::to_form1, paper::specs::Answer::refuse_if))]
 pub fn to_form_1(list: &[u8], out: &mut [u8]) -> Result<(), Refusal>
     ensures { Written (to_form1 list.now (length out.old)) out.old result out.new }
 {
@@ -80,6 +83,7 @@ pub fn to_form_1(list: &[u8], out: &mut [u8]) -> Result<(), Refusal>
 }
 
 // The serial number of a signal; 0 in form 1. Refused: 1 to 4, 11.
+#[tactic(auto, unfolding(paper::specs::Forms::serial_of, paper::specs::Answer::refuse_if))]
 pub fn serial_of(list: &[u8], form: u8, signal: usize) -> Result<usize, Refusal>
     ensures { serial_answer result ≡ serial_of form list.now signal }
 {
