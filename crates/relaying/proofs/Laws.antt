@@ -1,73 +1,82 @@
 -- The states of checks, and the marks that come of them. Assumes nothing.
-use Prim.Native.Nat.{ℕ, zero, suc, ◌+◌, ◌<◌}
+use Prim.Native.Nat.{ℕ, zero, suc, ◌+◌, ◌<◌, ◌≤◌}
 use mathlib.Core.Path.{◌≡◌, refl, sym, ap, ◌∙◌}
 use mathlib.Core.Bool.{Bool, true, false, not, cond, ◌&&◌, ◌||◌}
 use mathlib.Core.List.{List}
 use native.Mathlib.Omega.{arith}
-use native.Mathlib.Decide.{dec_lt, ℕ_discrete}
+use native.Mathlib.Decide.{ℕ_discrete}
 use lib.ListN.{length, get_or, set, take, replicate, length-set}
 use lib.Seq.{get_or-set_same, get_or-set_other}
-use lib.Dec.{ltb, leb, eqb}
-use borrow.Author.Tests.{lt-ltb, le-ltb, le-leb, lt-leb, eq-eqb, ne_eqb}
+use lib.Dec.{leb}
+use borrow.Author.Tests.{eq-eqb, ne_eqb}
+use Rattle.std.specs.Prelude.{Result}
 use Rattle.paper.specs.Octets.{field}
 use Rattle.paper.specs.First.{all, some, listed}
 use Rattle.paper.specs.Telegrams.{carries, error, mark_width}
-use Rattle.paper.specs.SignalList.{SignalList}
+use Rattle.paper.specs.SignalList.{Signal, SignalList}
 use Rattle.paper.specs.Store.{Slot, slot_of}
 use Rattle.paper.specs.Reading.{reading_of, reading_at}
 use Rattle.paper.specs.Readings.{values_at, reasons_at}
 use Rattle.paper.specs.Relaying.{relay_type, read_live, under, all_live, vouched, relay_value, relay_mark, relay_marks}
 use Rattle.paper.proofs.FirstLaws.{listed_at, listed_same, all_true, some_false, all_same, all_more, some_more}
-use Rattle.refusals.specs.declared.Outcome.{Outcome}
+use Rattle.refusals.specs.declared.Refusal.{Refusal}
 use Rattle.refusals.specs.Outcome.{Written}
+use Rattle.lists.specs.declared.accepted.AcceptedList.{AcceptedList}
+use Rattle.lists.specs.Listed.{list_as}
 use Rattle.reading.specs.Reading.{EachRead}
 use Rattle.composing.specs.Composing.{composing_under}
-use Rattle.composing.proofs.Laws.{tested_by}
-use Rattle.relaying.specs.Relaying.{state_with, Zeros, Noted, state_of, Stated, mark_by, MarkedBy, marks_from, relaying_slot}
+use Rattle.composing.proofs.Laws.{listed_kept, tested_by}
+use Rattle.relaying.specs.declared.State.{State}
+use Rattle.relaying.specs.declared.State.TheVariants.{Nothing, Live, NotLive}
+use Rattle.relaying.specs.Relaying.{state_with, Fresh, Noted, state_of, Stated, mark_by, MarkedBy, marks_from, relaying_slot}
 
--- room for states is handed over as zeros
-pub zeros_part : (n m : ℕ) → Zeros (take n (replicate m 0))
-zeros_part zero m j = refl
-zeros_part (suc n) zero j = refl
-zeros_part (suc n) (suc m) zero = refl
-zeros_part (suc n) (suc m) (suc j) = zeros_part n m j
+-- a part of the room for states begins with nothing under any check
+pub fresh_part : (n m : ℕ) → Fresh (take n (replicate m Nothing))
+fresh_part zero m j = refl
+fresh_part (suc n) zero j = refl
+fresh_part (suc n) (suc m) zero = refl
+fresh_part (suc n) (suc m) (suc j) = fresh_part n m j
 
 -- ---- one signal
 
-module _ (l : SignalList) (type reason k : ℕ) (old : List ℕ) where
+-- the check that it names exists
+pub has_check : (l : AcceptedList) (k : ℕ) {s : Signal} → s ≡ (list_as l).signal k → k < l.counts.signals → s.check ≤ l.counts.checks
+has_check l k is lt = rw is ((listed_kept l).signal k lt).named.exists
+
+module _ (l : SignalList) (type : ℕ) (live : Bool) (k : ℕ) (old : List State) {s : Signal} (is : s ≡ l.signal k) where
   -- it is under no check
-  noted_none : ((j : ℕ) → under l type j k ≡ false) → Noted l type reason k old old
+  noted_none : ((j : ℕ) → under l type j k ≡ false) → Noted l type live k old old
   noted_none h = record { long = refl; each = λ j lt. rw (h j) }
 
-  pub noted_free : (l.signal k).check ≡ 0 → Noted l type reason k old old
+  pub noted_free : s.check ≡ 0 → Noted l type live k old old
   unfolding under
-  noted_free e = noted_none (λ j. rw (ne_eqb (l.signal k).check (suc j) (λ q. absurd (omega arith))) (none (carries type (l.signal k).type)))
+  noted_free e = noted_none (λ j. rw (← is, ne_eqb s.check (suc j) (λ q. absurd (omega arith))) (none (carries type s.type)))
     where
       none : (b : Bool) → (b && false) ≡ false
       none true = refl
       none false = refl
 
-  pub noted_not : carries type (l.signal k).type ≡ false → Noted l type reason k old old
+  pub noted_not : carries type s.type ≡ false → Noted l type live k old old
   unfolding under
-  noted_not e = noted_none (λ j. rw e)
+  noted_not e = noted_none (λ j. rw (← is, e))
 
   -- it is under this one
-  pub noted_under : (j x : ℕ) → carries type (l.signal k).type ≡ true → (l.signal k).check ≡ suc j → j < length old → x ≡ state_with (get_or old j 0) reason
-      → Noted l type reason k old (set old j x)
+  pub noted_under : (j : ℕ) (x : State) → carries type s.type ≡ true → s.check ≡ suc j → j < length old → x ≡ state_with (get_or old j Nothing) live
+      → Noted l type live k old (set old j x)
   unfolding under
-  noted_under j x carried named lt is = record {
+  noted_under j x carried named lt e = record {
     long = length-set old j x;
     each = λ i _. elim (ℕ_discrete j i) [
-      | yes e ↦ rw (← e, carried, eq-eqb _ _ named) (get_or-set_same old j x 0 lt ∙ is)
-      | no ne ↦ rw (carried, ne_eqb (l.signal k).check (suc i) (λ e. ne (omega arith))) (get_or-set_other old j i x 0 (λ e. ne (sym e)))
+      | yes q ↦ rw (← q, ← is, carried, eq-eqb _ _ named) (get_or-set_same old j x Nothing lt ∙ e)
+      | no ne ↦ rw (← is, carried, ne_eqb s.check (suc i) (λ q. ne (omega arith))) (get_or-set_other old j i x Nothing (λ q. ne (sym q)))
     ];
   }
 
 -- ---- every signal
 
 -- what one signal more makes of the state of a check: b is whether it is under it, and live whether it was read live
-one_more : (a s b live : Bool) → ◌≡◌ {A = ℕ} (cond b (cond (not live) 2 (cond (eqb (cond a (cond s 1 0) 2) 2) 2 1)) (cond a (cond s 1 0) 2))
-    (cond (a && (not b || live)) (cond (s || b) 1 0) 2)
+one_more : (a s b live : Bool) → cond b (state_with (cond a (cond s Live Nothing) NotLive) live) (cond a (cond s Live Nothing) NotLive)
+    ≡ cond (a && (not b || live)) (cond (s || b) Live Nothing) NotLive
 one_more true true true true = refl
 one_more true true true false = refl
 one_more true true false live = refl
@@ -86,34 +95,30 @@ module _ (l : SignalList) (type : ℕ) (reasons : List ℕ) where
   abbrev test : ℕ → ℕ → Bool
   test = passes l type (λ i. get_or reasons i 0)
 
-  pub state_none : (states : List ℕ) → length states ≡ l.checks → Zeros states → Stated l type reasons 0 states
+  pub state_none : (states : List State) → length states ≡ l.checks → Fresh states → Stated l type reasons 0 states
   state_none states h z = record { long = h; each = λ j lt. z j ∙ sym (none j) }
     where
-      none : (j : ℕ) → state_of l type reasons 0 j ≡ 0
+      none : (j : ℕ) → state_of l type reasons 0 j ≡ Nothing
       none j = rw (all_true (test j) 0 (λ k h. absurd (omega arith)), some_false (under l type j) 0 (λ k h. absurd (omega arith)))
 
-  pub state_more : (k : ℕ) (old new : List ℕ) → Stated l type reasons k old → Noted l type (get_or reasons k 0) k old new → Stated l type reasons (k + 1) new
+  pub state_more : (k : ℕ) (old new : List State) → Stated l type reasons k old → Noted l type (leb (get_or reasons k 0) 1) k old new
+      → Stated l type reasons (k + 1) new
   state_more k old new s n = record { long = n.long ∙ s.long; each = λ j lt. n.each j lt ∙ rw (s.each j lt) (more j) }
     where
-      live_not : (r : ℕ) → ltb 1 r ≡ not (leb r 1)
-      live_not r = elim (dec_lt 1 r) [
-        | yes h ↦ rw (lt-ltb 1 r h, lt-leb r 1 h)
-        | no h ↦ rw (le-ltb 1 r (omega arith), le-leb r 1 (omega arith))
-      ]
-
-      more : (j : ℕ) → cond (under l type j k) (state_with (state_of l type reasons k j) (get_or reasons k 0)) (state_of l type reasons k j) ≡ state_of l type reasons (k + 1) j
+      more : (j : ℕ) → cond (under l type j k) (state_with (state_of l type reasons k j) (leb (get_or reasons k 0) 1)) (state_of l type reasons k j)
+          ≡ state_of l type reasons (k + 1) j
       more j =
-          rw (live_not (get_or reasons k 0), all_more (test j) k, some_more (under l type j) k)
+          rw (all_more (test j) k, some_more (under l type j) k)
           (one_more (all (test j) k) (some (under l type j) k) (under l type j k) (leb (get_or reasons k 0) 1))
 
 -- ---- the marks that come of the states are the paper's
 
 module _ (l : SignalList) (slot : Slot) (now : ℕ) (reasons : List ℕ) (is : reasons ≡ listed (λ k. (reading_of l slot now k).reason) l.signals) where
-  vouches : (a s : Bool) → eqb (cond a (cond s 1 0) 2) 1 ≡ (s && a)
-  vouches true true = refl
-  vouches true false = refl
-  vouches false true = refl
-  vouches false false = refl
+  vouches : (j : ℕ) (a s : Bool) → mark_by l slot.telegram (cond a (cond s Live Nothing) NotLive) j ≡ cond (s && a) (field slot.telegram (l.check j) mark_width) error
+  vouches j true true = refl
+  vouches j true false = refl
+  vouches j false true = refl
+  vouches j false false = refl
 
   read : (i : ℕ) → i < l.signals → get_or reasons i 0 ≡ (reading_of l slot now i).reason
   read i lt = rw is (listed_at (λ k. (reading_of l slot now k).reason) l.signals i lt)
@@ -127,9 +132,8 @@ module _ (l : SignalList) (slot : Slot) (now : ℕ) (reasons : List ℕ) (is : r
   each : (j : ℕ) → mark_by l slot.telegram (state_of l (relay_type slot) reasons l.signals j) j ≡ relay_mark l slot now j
   unfolding relay_mark vouched
   each j =
-      ap (λ (b : Bool). cond b (field slot.telegram (l.check j) mark_width) error)
-      (vouches (all (test l (relay_type slot) reasons j) l.signals) (some (under l (relay_type slot) j) l.signals)
-      ∙ ap (λ (b : Bool). some (under l (relay_type slot) j) l.signals && b) (live j))
+      vouches j (all (test l (relay_type slot) reasons j) l.signals) (some (under l (relay_type slot) j) l.signals)
+      ∙ ap (λ (b : Bool). cond (some (under l (relay_type slot) j) l.signals && b) (field slot.telegram (l.check j) mark_width) error) (live j)
 
   pub marks_relayed : marks_from l slot reasons ≡ relay_marks l slot now
   marks_relayed =
@@ -138,14 +142,14 @@ module _ (l : SignalList) (slot : Slot) (now : ℕ) (reasons : List ℕ) (is : r
 -- ---- the parts together
 
 -- the marks that are written by those states are the marks of the slot
-pub marked_from : (l : SignalList) (slot : Slot) (type : ℕ) (reasons telegram states marks : List ℕ) → type ≡ relay_type slot → telegram ≡ slot.telegram
+pub marked_from : (l : SignalList) (slot : Slot) (type : ℕ) (reasons telegram : List ℕ) (states : List State) (marks : List ℕ) → type ≡ relay_type slot → telegram ≡ slot.telegram
     → Stated l type reasons l.signals states → MarkedBy l telegram states marks → marks ≡ marks_from l slot reasons
 marked_from l slot type reasons telegram states marks typed held s m = m ∙ rw (held, ← typed)
-    (listed_same (λ j. mark_by l slot.telegram (get_or states j 0) j) (λ j. mark_by l slot.telegram (state_of l type reasons l.signals j) j) l.checks
-    (λ j lt. ap (λ (state : ℕ). mark_by l slot.telegram state j) (s.each j lt)))
+    (listed_same (λ j. mark_by l slot.telegram (get_or states j Nothing) j) (λ j. mark_by l slot.telegram (state_of l type reasons l.signals j) j) l.checks
+    (λ j lt. ap (λ (state : State). mark_by l slot.telegram state j) (s.each j lt)))
 
 -- and composing them with the values that were read is the paper's relaying
-pub relayed_by : (l : SignalList) (store : List ℕ) (now v : ℕ) (slot : Slot) (type : ℕ) (values reasons marks : List ℕ) (room : ℕ) (old : List ℕ) (r : Outcome) (new : List ℕ)
+pub relayed_by : (l : SignalList) (store : List ℕ) (now v : ℕ) (slot : Slot) (type : ℕ) (values reasons marks : List ℕ) (room : ℕ) (old : List ℕ) (r : Result (Unit {0}) Refusal) (new : List ℕ)
     → EachRead l store now v values reasons → slot ≡ slot_of store v → type ≡ relay_type slot → marks ≡ marks_from l slot reasons
     → Written (composing_under l type values marks room) old r new → Written (relaying_slot l (slot_of store v) now room) old r new
 unfolding reading_at relay_value values_at reasons_at

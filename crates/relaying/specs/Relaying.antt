@@ -1,5 +1,5 @@
 -- What the parts of relaying ask and answer.
-use Rattle.std.specs.Prelude.{ℕ, ◌<◌, ◌≡◌, not, cond, ◌||◌, List, length, get_or, ltb, leb, eqb}
+use Rattle.std.specs.Prelude.{ℕ, ◌<◌, ◌≡◌, Bool, not, cond, ◌||◌, List, length, get_or, leb}
 use Rattle.paper.specs.Octets.{field}
 use Rattle.paper.specs.Answer.{Answer}
 use Rattle.paper.specs.First.{all, some, listed}
@@ -8,34 +8,40 @@ use Rattle.paper.specs.SignalList.{SignalList}
 use Rattle.paper.specs.Store.{Slot}
 use Rattle.paper.specs.Composing.{composing_by}
 use Rattle.paper.specs.Relaying.{relay_type, under, relay_values, relay_marks}
+use Rattle.relaying.specs.declared.State.{State}
+use Rattle.relaying.specs.declared.State.TheVariants.{Nothing, Live, NotLive}
 
--- the state of a check with one signal more under it, read for this reason
-abbrev pub state_with : ℕ → ℕ → ℕ
-state_with state reason = cond (ltb 1 reason) 2 (cond (eqb state 2) 2 1)
+-- the state of a check with one signal more under it, read live or not
+abbrev pub state_with : State → Bool → State
+state_with Nothing live = cond live Live NotLive
+state_with Live live = cond live Live NotLive
+state_with NotLive live = NotLive
 
--- nothing but zeros
-abbrev pub Zeros : List ℕ → Type 0
-Zeros xs = (j : ℕ) → get_or xs j 0 ≡ 0
+-- nothing is under any check
+abbrev pub Fresh : List State → Type 0
+Fresh xs = (j : ℕ) → get_or xs j Nothing ≡ Nothing
 
--- the states before and after signal k, which was read for this reason
-pub record Noted (l : SignalList) (type reason k : ℕ) (old new : List ℕ) : Type 0 where
+-- the states before and after signal k, which was read live or not
+pub record Noted (l : SignalList) (type : ℕ) (live : Bool) (k : ℕ) (old new : List State) : Type 0 where
   pub long : length new ≡ length old
-  pub each : (j : ℕ) → j < l.checks → get_or new j 0 ≡ cond (under l type j k) (state_with (get_or old j 0) reason) (get_or old j 0)
+  pub each : (j : ℕ) → j < l.checks → get_or new j Nothing ≡ cond (under l type j k) (state_with (get_or old j Nothing) live) (get_or old j Nothing)
 
--- of the first k signals: 0 none is under check j, 1 all that are were read live, 2 one was not
-abbrev pub state_of : SignalList → ℕ → List ℕ → ℕ → ℕ → ℕ
-state_of l type reasons k j = cond (all (λ i. not (under l type j i) || leb (get_or reasons i 0) 1) k) (cond (some (under l type j) k) 1 0) 2
+-- of the first k signals: whether any is under check j, and whether all that are were read live
+abbrev pub state_of : SignalList → ℕ → List ℕ → ℕ → ℕ → State
+state_of l type reasons k j = cond (all (λ i. not (under l type j i) || leb (get_or reasons i 0) 1) k) (cond (some (under l type j) k) Live Nothing) NotLive
 
-pub record Stated (l : SignalList) (type : ℕ) (reasons : List ℕ) (k : ℕ) (states : List ℕ) : Type 0 where
+pub record Stated (l : SignalList) (type : ℕ) (reasons : List ℕ) (k : ℕ) (states : List State) : Type 0 where
   pub long : length states ≡ l.checks
-  pub each : (j : ℕ) → j < l.checks → get_or states j 0 ≡ state_of l type reasons k j
+  pub each : (j : ℕ) → j < l.checks → get_or states j Nothing ≡ state_of l type reasons k j
 
 -- the mark of a check in this state
-abbrev pub mark_by : SignalList → List ℕ → ℕ → ℕ → ℕ
-mark_by l telegram state j = cond (eqb state 1) (field telegram (l.check j) mark_width) error
+abbrev pub mark_by : SignalList → List ℕ → State → ℕ → ℕ
+mark_by l telegram Nothing j = error
+mark_by l telegram Live j = field telegram (l.check j) mark_width
+mark_by l telegram NotLive j = error
 
-abbrev pub MarkedBy : SignalList → List ℕ → List ℕ → List ℕ → Type 0
-MarkedBy l telegram states marks = marks ≡ listed (λ j. mark_by l telegram (get_or states j 0) j) l.checks
+abbrev pub MarkedBy : SignalList → List ℕ → List State → List ℕ → Type 0
+MarkedBy l telegram states marks = marks ≡ listed (λ j. mark_by l telegram (get_or states j Nothing) j) l.checks
 
 -- the marks that are composed for a slot whose signals were read for these reasons
 abbrev pub marks_from : SignalList → Slot → List ℕ → List ℕ
