@@ -13,27 +13,27 @@ use Rattle.paper.specs.Answer.{Sought, found, nothing}
 use Rattle.paper.specs.First.{some, next}
 use Rattle.paper.specs.Search.{Cut}
 use Rattle.paper.specs.Accepted.{Kept}
-use Rattle.paper.specs.SignalList.{Signal as PaperSignal, Route, SignalList, has_codes, known_in, knows, place_of, version, OfTwo, of_both, first_refused, second_refused}
+use Rattle.paper.specs.SignalList.{Signal as PaperSignal, Route, SignalList, has_codes, known_in, knows, place_of, version, OfTwo}
 use Rattle.paper.specs.Broken.{broken}
-use Rattle.paper.specs.Pairs.{Keyed, Pair, has, index, signal_key, signals_of, Rising}
-use Rattle.paper.specs.Comparing.{Range as PaperRange, Changed as PaperChanged, starts, past, tells, change_at, differs_in, signal_fields, gained, codes_compared, signal_differs, signal_change, keep_tests, breaks, routes_of, route_keys, route_fields, route_differs, route_change, next_in, next_gained}
+use Rattle.paper.specs.Pairs.{Keyed, Pair, has, index, signal_key, signal_keys, signals_of, Rising, next_pair}
+use Rattle.paper.specs.Comparing.{Range as PaperRange, Changed as PaperChanged, starts, past, tells, change_at, differs_in, signal_fields, gained, codes_compared, signal_differs, signal_change, keep_tests, breaks, routes_of, route_keys, route_fields, route_differs, route_change, signal_changed, route_changed, next_in, next_signal, next_route, next_gained}
 use Rattle.bools.proofs.Tests.{neither, other}
-use Rattle.paper.proofs.AnswerLaws.{one_answer}
 use Rattle.paper.proofs.FirstLaws.{is_from, some_true, some_false, some_more}
 use Rattle.paper.proofs.PassingLaws.{next_here, next_past, next_least, next_before, next_passes}
 use Rattle.paper.proofs.PairLaws.{has_index, index_none}
 use Rattle.paper.proofs.ListLaws.{routes_apart}
-use Rattle.refusals.proofs.Laws.{numbered, numbered_of}
+use Rattle.std.specs.Prelude.{Option, Result}
+use Rattle.refusals.specs.declared.ListRefused.{ListRefused}
+use Rattle.refusals.proofs.WrittenLaws.{one_of_two, sought_told, sought_told_of}
 use Rattle.finding.specs.declared.Reached.{Reached}
 use Rattle.finding.specs.Finding.{Reaches}
 use Rattle.finding.proofs.Laws.{reached_from, reached_index}
 use Rattle.known.specs.Known.{code_keys, Own}
 use Rattle.known.proofs.Laws.{ordered_of, is_within, has_some, in_range_lem, cut_signal, outside, knows_all, knows_below}
-use Rattle.comparing.specs.declared.Changes.{Changes}
-use Rattle.comparing.specs.declared.Changes.TheVariants as C
-use Rattle.comparing.specs.declared.Gained.{Gained}
-use Rattle.comparing.specs.declared.Gained.TheVariants as G
-use Rattle.comparing.specs.Comparing.{Next, Fresh, wanted, range_from, numbers_differ, kept_as, added_as, told_of, is_found, PairThere, pair_in, paired_in, changes_answer, gained_answer}
+use Rattle.comparing.specs.declared.Changed.{Changed}
+use Rattle.comparing.specs.declared.Range.{Range}
+use Rattle.comparing.specs.Comparing.{Next, Fresh, wanted, range_from, numbers_differ, kept_as, added_as, told_of, PairThere, pair_in, paired_in, paired_routes}
+use Rattle.comparing.specs.Comparing.{changed_of, range_of, next_changed_of, next_range_of, changes_answer, gained_answer}
 
 -- ---- the codes of a signal, from one on
 
@@ -139,9 +139,6 @@ module _ (test : ℕ → Bool) (n : ℕ) where
   starts_here c e (inl z) = rw (e, eq-eqb c 0 z)
   starts_here c e (inr f) = rw (e, f) (or-true (eqb c 0))
 
-  pub fresh_first : Fresh test n 0 0
-  fresh_first = record { near = omega arith; most = zero-le; before = λ c lo hi. absurd (omega arith); ended = λ _. inl (refl, refl) }
-
   -- from the code before on, the first that doesn't pass
   pub fresh_past : (from r : ℕ) → 0 < from → Next (λ c. not (test c)) n (from - 1) r → Fresh test n from r
   fresh_past from r pos h = record {
@@ -178,16 +175,6 @@ module _ (test : ℕ → Bool) (n : ℕ) where
               let less : at < low = omega (arith, h.least) in
               (omega (arith, f.near), inr (h.before (low - 1) (omega arith) (omega arith)))
 
-      -- it has a code
-      pub range_some : (end : ℕ) → Next (λ c. not (test c)) n low end → low < end
-      range_some end g =
-          elim (ℕ_discrete low end) [
-            | yes e ↦
-                let passes : not (test low) ≡ true = ap (λ (x : ℕ). not (test x)) e ∙ g.here (omega arith) in
-                absurd (false≢true (sym (not-true (test low) passes) ∙ h.here lt))
-            | no ne ↦ omega (arith, g.least)
-          ]
-
       pub range_is : (end : ℕ) → Next (λ c. not (test c)) n low end → found (record { low = low; high = end - 1 }) ≡ range_from test n from
       unfolding past
       range_is end g =
@@ -199,9 +186,6 @@ module _ (test : ℕ → Bool) (n : ℕ) where
   range_past from ge = rw (le-ltb (next (starts test) n from) n (omega (arith, next_least (starts test) n from)))
 
 -- ---- the same of the signals at a key, i and j
-
-pub both_there : {m i n j : ℕ} → (leb m i || leb n j) ≡ false → (i < m) × (j < n)
-both_there {m} {i} {n} {j} e = let w = neither (leb m i) (leb n j) e in (leb-false m i w.0, leb-false n j w.1)
 
 module _ (a b : SignalList) (q from : ℕ) {i j : ℕ} (at_a : i ≡ index (signals_of a) q) (at_b : j ≡ index (signals_of b) q) where
   there : (t : Keyed) (k : ℕ) → k ≡ index t q → has t q ≡ not (leb t.count k)
@@ -275,9 +259,6 @@ pub record Clear (test : ℕ → Bool) (from key : ℕ) : Type 0 where
   pub least : from ≤ key
   pub each : (q : ℕ) → from ≤ q → q < key → test q ≡ false
 
-pub clear_none : (test : ℕ → Bool) (from : ℕ) → Clear test from from
-clear_none test from = record { least = le_refl from; each = λ q lo hi. absurd (omega arith) }
-
 -- it goes by the keys of two, past which the test fails
 module _ {A : Type 0} (t u : Keyed) (top : ℕ) (test : ℕ → Bool) (none : (q : ℕ) → in_one t u q ≡ false → test q ≡ false)
     (at : ℕ → A) (from key : ℕ) (c : Clear test from key) where
@@ -288,7 +269,7 @@ module _ {A : Type 0} (t u : Keyed) (top : ℕ) (test : ℕ → Bool) (none : (q
         | no ge ↦ none q (met_none t u top key e q (omega arith) hi)
       ])))
 
-  module _ (p : Pair) (m : Met t u top key p) {x : Sought A} (is : x ≡ cond (test p.key) (found (at p.key)) nothing) where
+  module _ (p : Pair) (m : Met t u top key p) where
     before_it : (q : ℕ) → from ≤ q → q < p.key → test q ≡ false
     before_it q lo hi =
         elim (dec_lt q key) [
@@ -296,27 +277,36 @@ module _ {A : Type 0} (t u : Keyed) (top : ℕ) (test : ℕ → Bool) (none : (q
           | no ge ↦ none q (m.before q (omega arith) hi)
         ]
 
-    is_told : is_found x ≡ test p.key
-    is_told = ap is_found is ∙ by (test p.key)
+    pub told_next : (x : A) → found x ≡ cond (test p.key) (found (at p.key)) nothing → found x ≡ next_in test top at from
+    told_next x = by (test p.key) refl
       where
-        by : (b : Bool) → is_found (cond b (found (at p.key)) nothing) ≡ b
-        by true = refl
-        by false = refl
+        by : (b : Bool) → test p.key ≡ b → found x ≡ cond b (found (at p.key)) nothing → found x ≡ next_in test top at from
+        by true passes is =
+            let n : next test top from ≡ p.key = next_here test top from p.key (omega (arith, c.least, m.least)) m.small before_it passes in
+            rw (n, lt-ltb p.key top m.small) is
+        by false fails is = absurd (cc)
 
-    pub told_next : is_found x ≡ true → x ≡ next_in test top at from
-    told_next e =
-        let passes : test p.key ≡ true = sym is_told ∙ e in
-        let n : next test top from ≡ p.key = next_here test top from p.key (omega (arith, c.least, m.least)) m.small before_it passes in
-        rw (n, lt-ltb p.key top m.small) (rw passes at is)
+    pub clear_more : nothing ≡ cond (test p.key) (found (at p.key)) nothing → Clear test from (p.key + 1)
+    clear_more = by (test p.key) refl
+      where
+        by : (b : Bool) → test p.key ≡ b → nothing ≡ cond b (found (at p.key)) nothing → Clear test from (p.key + 1)
+        by true passes is = absurd (cc)
+        by false fails is = record {
+          least = omega (arith, c.least, m.least);
+          each = λ q lo hi. elim (ℕ_discrete q p.key) [
+            | yes z ↦ ap test z ∙ fails
+            | no ne ↦ before_it q lo (omega arith)
+          ];
+        }
 
-    pub clear_more : is_found x ≡ false → Clear test from (p.key + 1)
-    clear_more e = record {
-      least = omega (arith, c.least, m.least);
-      each = λ q lo hi. elim (ℕ_discrete q p.key) [
-        | yes z ↦ ap test z ∙ sym is_told ∙ e
-        | no ne ↦ before_it q lo (omega arith)
-      ];
-    }
+module _ (a b : SignalList) (from : ℕ) (p : Pair) where
+  pub signal_met : found p ≡ next_pair a b from → Met (signals_of a) (signals_of b) signal_keys from p
+  unfolding next_pair
+  signal_met = met (signals_of a) (signals_of b) signal_keys from p
+
+  pub route_met : found p ≡ paired_routes a b from → Met (routes_of a) (routes_of b) route_keys from p
+  unfolding paired_routes
+  route_met = met (routes_of a) (routes_of b) route_keys from p
 
 -- ---- what is told at a key
 
@@ -379,6 +369,15 @@ module _ (a b : SignalList) (q : ℕ) where
   unfolding route_change
   route_untold e = neither_tells (routes_of a) (routes_of b) (route_differs a b) q e
 
+module _ (a b : SignalList) (from key : ℕ) where
+  pub signal_none : Clear (λ q. tells (signal_change a b q)) from key → nothing ≡ next_pair a b key → nothing ≡ next_signal a b from
+  unfolding next_pair next_signal
+  signal_none c e = none_told (signals_of a) (signals_of b) signal_keys _ (signal_untold a b) (signal_changed a b) from key c e
+
+  pub route_none : Clear (λ q. tells (route_change a b q)) from key → nothing ≡ paired_routes a b key → nothing ≡ next_route a b from
+  unfolding paired_routes next_route
+  route_none c e = none_told (routes_of a) (routes_of b) route_keys _ (route_untold a b) (route_changed a b) from key c e
+
 -- ---- the rule of extending that a signal breaks
 
 module _ (a b : SignalList) (p : Pair) (h : PairThere (signals_of a) (signals_of b) p) where
@@ -393,13 +392,6 @@ module _ (a b : SignalList) (p : Pair) (h : PairThere (signals_of a) (signals_of
   pub breaks_both : p.first < a.signals → p.second < b.signals → broken (keep_tests a b p.first p.second) ≡ breaks a b p.key
   unfolding breaks
   breaks_both lt lt' = rw (has_first _ _ p h lt, has_second _ _ p h lt', ← h.first, ← h.second)
-
-module _ {v since r : ℕ} (is : r ≡ since) where
-  pub added_newer : v < r → 0 ≡ added_as v since
-  added_newer lt = rw (← is, lt-ltb v r lt)
-
-  pub added_older : r ≤ v → 6 ≡ added_as v since
-  added_older ge = rw (← is, le-ltb v r ge)
 
 -- ---- the numbers of a signal
 
@@ -490,14 +482,6 @@ module _ (t : Keyed) (top : ℕ) (h : Rising t top) (from r : ℕ) (below : (k :
         past = λ ge. absurd (omega arith);
       }
 
-  pub reaches_none : r ≡ t.count → Reaches t top from (record { at = r; key = top })
-  reaches_none e =
-      record {
-        cut = record { ordered = le_refl r; most = omega arith; below = below; above = λ k ge hk. absurd (omega arith) };
-        here = λ lt. absurd (omega arith);
-        past = λ _. refl;
-      }
-
 -- what was reached from a key on is the entry that has it, if there is one, whatever the key
 pub reached_any : (t : Keyed) (top : ℕ) → Rising t top → (q : ℕ) (r : Reached) → Reaches t top q r → cond (eqb r.key q) r.at t.count ≡ index t q
 reached_any t top h q r m =
@@ -519,34 +503,14 @@ reached_any t top h q r m =
 
 -- ---- the contracts settle the answers
 
-told : OfTwo (Sought PaperChanged) → Changes
-told (of_both (found c)) = C.Changed (record { key = c.key; first = c.first; second = c.second; breaks = c.breaks })
-told (of_both nothing) = C.NoMore
-told (first_refused n at) = C.FirstRefused (numbered n at)
-told (second_refused n at) = C.SecondRefused (numbered n at)
+pub one_changes : (a : OfTwo (Sought PaperChanged)) (v w : Result (Option Changed) ListRefused) → changes_answer v ≡ a → changes_answer w ≡ a → v ≡ w
+one_changes = one_of_two next_changed_of (sought_told back) (sought_told_of changed_of back (λ c. refl))
+  where
+    back : PaperChanged → Changed
+    back c = record { key = c.key; first = c.first; second = c.second; breaks = c.breaks }
 
-told_of_lem : (r : Changes) → told (changes_answer r) ≡ r
-unfolding told
-told_of_lem (C.Changed c) = refl
-told_of_lem C.NoMore = refl
-told_of_lem (C.FirstRefused f) = ap C.FirstRefused (numbered_of f)
-told_of_lem (C.SecondRefused f) = ap C.SecondRefused (numbered_of f)
-
-pub one_changes : (a : OfTwo (Sought PaperChanged)) (v w : Changes) → changes_answer v ≡ a → changes_answer w ≡ a → v ≡ w
-one_changes = one_answer changes_answer told told_of_lem
-
-gained_told : OfTwo (Sought PaperRange) → Gained
-gained_told (of_both (found r)) = G.Codes (record { low = r.low; high = r.high })
-gained_told (of_both nothing) = G.NoMore
-gained_told (first_refused n at) = G.FirstRefused (numbered n at)
-gained_told (second_refused n at) = G.SecondRefused (numbered n at)
-
-gained_told_of : (r : Gained) → gained_told (gained_answer r) ≡ r
-unfolding gained_told
-gained_told_of (G.Codes r) = refl
-gained_told_of G.NoMore = refl
-gained_told_of (G.FirstRefused f) = ap G.FirstRefused (numbered_of f)
-gained_told_of (G.SecondRefused f) = ap G.SecondRefused (numbered_of f)
-
-pub one_gained : (a : OfTwo (Sought PaperRange)) (v w : Gained) → gained_answer v ≡ a → gained_answer w ≡ a → v ≡ w
-one_gained = one_answer gained_answer gained_told gained_told_of
+pub one_gained : (a : OfTwo (Sought PaperRange)) (v w : Result (Option Range) ListRefused) → gained_answer v ≡ a → gained_answer w ≡ a → v ≡ w
+one_gained = one_of_two next_range_of (sought_told back) (sought_told_of range_of back (λ r. refl))
+  where
+    back : PaperRange → Range
+    back r = record { low = r.low; high = r.high }

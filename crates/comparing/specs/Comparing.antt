@@ -1,23 +1,16 @@
 -- What the parts of a comparison answer, and the paper's answer for each case of the code's.
-use Rattle.std.specs.Prelude.{ℕ, ◌+◌, ◌≤◌, ◌<◌, ◌≡◌, ◌⊎◌, Bool, true, false, not, cond, ◌||◌, List, [], ◌∷◌, ltb, eqb}
+use Rattle.std.specs.Prelude.{ℕ, ◌+◌, ◌≤◌, ◌<◌, ◌≡◌, ◌⊎◌, Bool, true, false, not, cond, ◌||◌, [], ◌∷◌, Option, Result, ltb, eqb}
 use Rattle.paper.specs.Answer.{Sought, found, nothing}
-use Rattle.paper.specs.SignalList.{Signal, SignalList, knows, judge, list_of, OfTwo, of_both, first_refused, second_refused, of_two}
+use Rattle.paper.specs.SignalList.{Signal, SignalList, knows, OfTwo}
 use Rattle.paper.specs.Broken.{broken}
 use Rattle.paper.specs.Pairs.{Keyed, Pair, has, index}
 use Rattle.paper.specs.Comparing.{Range as PaperRange, Changed as PaperChanged, starts, range_at, tells, gained, signal_differs, signal_change, keep_tests, signal_changed, routes_of, route_keys, route_change, route_changed, next_in}
-use Rattle.refusals.specs.Refusal.{number_of, carried_of}
+use Rattle.refusals.specs.declared.ListRefused.{ListRefused}
+use Rattle.refusals.specs.Outcome.{sought_of, of_two_answer}
 use Rattle.comparing.specs.declared.Stretch.{Stretch}
 use Rattle.comparing.specs.declared.Compared.{Compared}
 use Rattle.comparing.specs.declared.Changed.{Changed}
 use Rattle.comparing.specs.declared.Range.{Range}
-use Rattle.comparing.specs.declared.NextChanged.{NextChanged}
-use Rattle.comparing.specs.declared.NextChanged.TheVariants.{There, Nowhere}
-use Rattle.comparing.specs.declared.NextRange.{NextRange}
-use Rattle.comparing.specs.declared.NextRange.TheVariants as R
-use Rattle.comparing.specs.declared.Changes.{Changes}
-use Rattle.comparing.specs.declared.Changes.TheVariants as C
-use Rattle.comparing.specs.declared.Gained.{Gained}
-use Rattle.comparing.specs.declared.Gained.TheVariants as G
 
 -- ---- codes
 
@@ -71,10 +64,6 @@ added_as version since = cond (ltb version since) 0 6
 abbrev pub told_of : Pair → ℕ → PaperChanged
 told_of p breaks = record { key = p.key; first = p.first; second = p.second; breaks = breaks }
 
-abbrev pub is_found : {A : Type 0} → Sought A → Bool
-is_found (found x) = true
-is_found nothing = false
-
 -- one of two has an entry with the key, and these are the entries
 pub record PairThere (t u : Keyed) (p : Pair) : Type 0 where
   pub first : p.first ≡ index t p.key
@@ -105,26 +94,14 @@ changed_of c = record { key = c.key; first = c.first; second = c.second; breaks 
 abbrev pub range_of : Range → PaperRange
 range_of r = record { low = r.low; high = r.high }
 
-abbrev pub next_changed_of : NextChanged → Sought PaperChanged
-next_changed_of (There c) = found (changed_of c)
-next_changed_of Nowhere = nothing
+abbrev pub next_changed_of : Option Changed → Sought PaperChanged
+next_changed_of = sought_of changed_of
 
-abbrev pub next_range_of : NextRange → Sought PaperRange
-next_range_of (R.From r) = found (range_of r)
-next_range_of R.Nowhere = nothing
+abbrev pub next_range_of : Option Range → Sought PaperRange
+next_range_of = sought_of range_of
 
-abbrev pub changes_answer : Changes → OfTwo (Sought PaperChanged)
-changes_answer (C.Changed c) = of_both (found (changed_of c))
-changes_answer C.NoMore = of_both nothing
-changes_answer (C.FirstRefused f) = first_refused (number_of f) (carried_of f)
-changes_answer (C.SecondRefused f) = second_refused (number_of f) (carried_of f)
+abbrev pub changes_answer : Result (Option Changed) ListRefused → OfTwo (Sought PaperChanged)
+changes_answer = of_two_answer next_changed_of
 
-abbrev pub gained_answer : Gained → OfTwo (Sought PaperRange)
-gained_answer (G.Codes r) = of_both (found (range_of r))
-gained_answer G.NoMore = of_both nothing
-gained_answer (G.FirstRefused f) = first_refused (number_of f) (carried_of f)
-gained_answer (G.SecondRefused f) = second_refused (number_of f) (carried_of f)
-
--- what is answered once the first list is accepted
-abbrev pub behind : {A : Type 0} → ℕ → List ℕ → (SignalList → A) → OfTwo A
-behind form ys call = of_two (judge form ys) second_refused (λ n. of_both (call (list_of ys n)))
+abbrev pub gained_answer : Result (Option Range) ListRefused → OfTwo (Sought PaperRange)
+gained_answer = of_two_answer next_range_of

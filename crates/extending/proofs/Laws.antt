@@ -122,16 +122,6 @@ pub record Along (a b : SignalList) (i j : ℕ) : Type 0 where
   pub behind : i < a.signals → (k : ℕ) → k < j → signal_key (b.signal k) < signal_key (a.signal i)
   pub ahead : j < b.signals → (k : ℕ) → k < i → signal_key (a.signal k) < signal_key (b.signal j)
 
-pub along_none : (a b : SignalList) → Along a b 0 0
-along_none a b = record {
-  first = zero-le;
-  second = zero-le;
-  stood = below_none _;
-  passed = below_none _;
-  behind = λ _. below_none _;
-  ahead = λ _. below_none _;
-}
-
 module _ (a b : SignalList) (ha : Kept a) (hb : Kept b) (i j : ℕ) (at : Along a b i j) where
   -- past signals that are only in B
   module _ (key r : ℕ) (n : Newer b j key (version a) r) (next : i < a.signals → key ≤ signal_key (a.signal i)) where

@@ -1,18 +1,14 @@
 -- `comparing::codes_compared` meets its contract. Assumes nothing.
+use mathlib.Core.Logic.{inl, inr}
 use Rattle.comparing.proofs.Laws.{compared_unlike, compared_wide, compared_all}
 use Rattle.comparing.proofs.codes_compared.Goals as goal
 
-pub returns-then-v-w : goal.returns-then-v-w
-returns-then-v-w c =
-    let w = c in
-    compared_unlike _ _ _ _ w.width_in-v.ensures.is w.width_in-w.ensures.is c.if-v-w.true
-
-pub returns-then-v-gt16 : goal.returns-then-v-gt16
-returns-then-v-gt16 c =
-    let w = c in
-    compared_wide _ _ _ _ w.width_in-v.ensures.is w.width_in-w.ensures.is c.if-v-gt16.true
+pub returns-then-v-width : goal.returns-then-v-width
+returns-then-v-width c =
+    elim c.then-v-width.either [
+      | inl ne ↦ compared_unlike _ _ _ _ c.width-v.ensures.is c.width.ensures.is ne
+      | inr w ↦ compared_wide _ _ _ _ c.width-v.ensures.is c.width.ensures.is w.1
+    ]
 
 pub returns : goal.returns
-returns c =
-    let w = c in
-    compared_all _ _ _ _ w.width_in-v.ensures.is w.width_in-w.ensures.is c.if-v-w.false c.if-v-gt16.false
+returns c = compared_all _ _ _ _ c.width-v.ensures.is c.width.ensures.is c.if-v-width.false c.if-v-gt16.false

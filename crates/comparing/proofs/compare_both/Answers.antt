@@ -1,40 +1,24 @@
 -- `comparing::compare_both` meets its contract: a check that a signal names exists. Assumes nothing.
 use mathlib.Core.Path.{ap, ◌∙◌}
 use mathlib.Core.Bool.{Bool, ◌||◌}
-use Rattle.paper.specs.SignalList.{Signal}
-use Rattle.paper.proofs.ListLaws.{kept_of}
+use Rattle.finding.proofs.Laws.{placed_as}
 use Rattle.comparing.proofs.Laws.{differs_is, kept_is}
 use Rattle.comparing.proofs.compare_both.Goals as goal
 
-pub place_in-p-requires : goal.place_in-p-requires
-place_in-p-requires c =
-    let i = c in
-    let p = i.requires.laid in
-    (p.0, rw (ap (λ (x : Signal). x.check) i.signal_in-s.ensures.is) ((kept_of _ _ p.0).signal _ p.1).named.exists)
+pub place-p-requires : goal.place-p-requires
+place-p-requires c = placed_as c.args.a.now _ c.requires.0 _ c.signal-s.ensures.is
 
-pub place_in-q-requires : goal.place_in-q-requires
-place_in-q-requires c =
-    let j = c in
-    let p = j.requires.laid_2 in
-    (p.0, rw (ap (λ (x : Signal). x.check) j.signal_in-t.ensures.is) ((kept_of _ _ p.0).signal _ p.1).named.exists)
+pub place-q-requires : goal.place-q-requires
+place-q-requires c = placed_as c.args.b.now _ c.requires.1 _ c.signal-t.ensures.is
 
 pub returns : goal.returns
-returns c =
-    let d = c in
-    let l = d in
-    let g = l in
-    let t = g in
-    let q = t in
-    let p = q in
-    let j = p in
-    let i = j in
-    record {
-      differs =
-          ap (λ (x : Bool). x || g.gains-gain.result || l.gains-loss.result) d.fields_differ.ensures
-          ∙ differs_is _ _ _ _ i.signal_in-s.ensures.is j.signal_in-t.ensures.is p.place_in-p.ensures q.place_in-q.ensures
-          t.codes_compared-top.ensures.0 g.gains-gain.ensures l.gains-loss.ensures;
-      breaks =
-          c.keep_number.ensures
-          ∙ kept_is _ _ _ _ i.signal_in-s.ensures.is j.signal_in-t.ensures.is p.place_in-p.ensures q.place_in-q.ensures
-          t.codes_compared-top.ensures.0 g.gains-gain.ensures l.gains-loss.ensures;
-    }
+returns c = record {
+  differs =
+      ap (λ (x : Bool). x || c.gains-gain.result || c.gains-loss.result) c.fields_differ.ensures
+      ∙ differs_is _ _ _ _ c.signal-s.ensures.is c.signal-t.ensures.is c.place-p.ensures c.place-q.ensures c.codes_compared-top.ensures.0
+      c.gains-gain.ensures c.gains-loss.ensures;
+  breaks =
+      c.keep_number.ensures
+      ∙ kept_is _ _ _ _ c.signal-s.ensures.is c.signal-t.ensures.is c.place-p.ensures c.place-q.ensures c.codes_compared-top.ensures.0 c.gains-gain.ensures
+      c.gains-loss.ensures;
+}

@@ -9,18 +9,10 @@ pub returns-then-p-q : goal.returns-then-p-q
 returns-then-p-q c = place_broken _ _ _ _ _ c.if-s-t.false c.if-p-q.true
 
 pub returns-then-s-t-2 : goal.returns-then-s-t-2
-returns-then-s-t-2 c =
-    let e = c in
-    since_broken _ _ _ _ _ e.if-s-t.false e.if-p-q.false c.if-s-t-2.true
+returns-then-s-t-2 c = since_broken _ _ _ _ _ c.if-s-t.false c.if-p-q.false c.if-s-t-2.true
 
 pub returns-then-lost : goal.returns-then-lost
-returns-then-lost c =
-    let f = c in
-    let e = f in
-    code_lost _ _ _ _ _ e.if-s-t.false e.if-p-q.false f.if-s-t-2.false c.if-lost.true
+returns-then-lost c = code_lost _ _ _ _ _ c.if-s-t.false c.if-p-q.false c.if-s-t-2.false c.if-lost.true
 
 pub returns-else-lost : goal.returns-else-lost
-returns-else-lost c =
-    let f = c in
-    let e = f in
-    none_lost _ _ _ _ _ e.if-s-t.false e.if-p-q.false f.if-s-t-2.false c.if-lost.false
+returns-else-lost c = none_lost _ _ _ _ _ c.if-s-t.false c.if-p-q.false c.if-s-t-2.false c.if-lost.false

@@ -1,21 +1,21 @@
 -- `comparing::route_change` meets its contract. Assumes nothing.
-use mathlib.Core.Path.{◌≡◌, sym, ap, ◌∙◌}
-use Rattle.paper.specs.Answer.{gives}
-use Rattle.paper.specs.SignalList.{judge}
-use Rattle.paper.specs.Comparing.{route_changes}
-use Rattle.paper.proofs.AnswerLaws.{by_refusal, by_given}
-use Rattle.lists.specs.Judged.{counts_of, judged_answer}
-use Rattle.lists.proofs.Laws.{accepted_laid}
+use Rattle.paper.specs.Comparing.{next_route, route_changes}
+use Rattle.finding.proofs.Laws.{first_err, second_err, both_accepted}
 use Rattle.comparing.proofs.route_change.Goals as goal
-use Rattle.comparing.proofs.route_change.Goals.{In-Accepted-2}
 
-pub routes_under-requires : goal.routes_under-requires
-routes_under-requires c = accepted_laid _ _ _ ((let the_accepted : let j = c in gives (counts_of c.in-Accepted.m) ≡ judge j.args.form j.args.a.now = sym (ap judged_answer c.in-Accepted.is) ∙ c.judge-judged.ensures in the_accepted))
-
-pub returns-in-Refused : goal.returns-in-Refused
+pub returns-in_err-a : goal.returns-in_err-a
 unfolding route_changes
-returns-in-Refused c = by_refusal _ _ _ _ _ (sym (ap judged_answer c.in-Refused.is) ∙ c.judge-judged.ensures)
+returns-in_err-a c =
+    first_err _ _ _ _ (λ a b. next_route a b c.args.from) _ _ _ _ c.judged.ensures c.in_err-a.ensures.cases c.from_residual.ensures
 
-pub returns-in-Accepted : goal.returns-in-Accepted
+pub returns-in_err-b : goal.returns-in_err-b
 unfolding route_changes
-returns-in-Accepted c = by_given _ _ _ _ _ ((let the_accepted : let j = c in gives (counts_of c.in-Accepted.m) ≡ judge j.args.form j.args.a.now = sym (ap judged_answer c.in-Accepted.is) ∙ c.judge-judged.ensures in the_accepted)) c.routes_under.ensures
+returns-in_err-b c =
+    second_err _ _ _ _ (λ a b. next_route a b c.args.from) _ _ c.judged.ensures c.in_ok-a.ensures.cases _ _ _ _ c.judged-2.ensures
+    c.in_err-b.ensures.cases c.from_residual-in_err-b.ensures
+
+pub returns : goal.returns
+unfolding route_changes
+returns c =
+    both_accepted _ _ _ _ (λ a b. next_route a b c.args.from) _ _ c.judged.ensures c.in_ok-a.ensures.cases _ _ _ c.judged-2.ensures
+    c.in_ok-b.ensures.cases c.next_route.ensures

@@ -1,39 +1,22 @@
 -- `comparing::route_told` meets its contract. Assumes nothing.
-use mathlib.Core.Path.{refl, sym, ◌∙◌}
+use mathlib.Core.Path.{refl, sym, ap, ◌∙◌}
+use Rattle.paper.specs.Answer.{found}
 use Rattle.paper.specs.Comparing.{route_change}
 use Rattle.comparing.proofs.Laws.{told_second, told_first, told_both, told_nowhere}
 use Rattle.comparing.proofs.route_told.Goals as goal
+use Rattle.comparing.proofs.route_told.Goals.{then-a-p-via-then-a-p, then-a-p-via-else-a-p+then-b-p, then-a-p-via-else-a-p+else-b-p+then-routes_differ}
 
-pub returns-then-m-p : goal.returns-then-m-p
+pub returns-then-a-p : goal.returns-then-a-p
 unfolding route_change
-returns-then-m-p c =
-    let t = c in
-    let s = t in
-    c.told.ensures ∙ told_second _ _ _ s.requires.pair_there _ (λ _. 0) _ refl t.if-m-p.true
-
-pub returns-then-n-p : goal.returns-then-n-p
-unfolding route_change
-returns-then-n-p c =
-    let t = c in
-    let e = t in
-    let s = e in
-    c.told-then-n-p.ensures ∙ told_first _ _ _ s.requires.pair_there _ (λ _. 0) _ refl e.if-m-p.false t.if-n-p.true
-
-pub returns-then-routes_differ : goal.returns-then-routes_differ
-unfolding route_change
-returns-then-routes_differ c =
-    let d = c in
-    let t = d in
-    let e = t in
-    let s = e in
-    c.told-then-routes_differ.ensures
-    ∙ told_both _ _ _ s.requires.pair_there _ (λ _. 0) _ refl e.if-m-p.false t.if-n-p.false (sym d.routes_differ.ensures ∙ c.if-routes_differ.true)
+returns-then-a-p c =
+    ap found c.told.ensures
+    ∙ elim c.then-a-p.branch [
+      | then-a-p-via-then-a-p w ↦ told_second _ _ _ c.requires _ (λ _. 0) _ refl w.if-a-p.true
+      | then-a-p-via-else-a-p+then-b-p w ↦ told_first _ _ _ c.requires _ (λ _. 0) _ refl w.if-a-p.false w.if-b-p.true
+      | then-a-p-via-else-a-p+else-b-p+then-routes_differ w ↦
+          told_both _ _ _ c.requires _ (λ _. 0) _ refl w.if-a-p.false w.if-b-p.false (sym w.routes_differ.ensures ∙ w.if-routes_differ.true)
+    ]
 
 pub returns : goal.returns
 unfolding route_change
-returns c =
-    let d = c in
-    let t = d in
-    let e = t in
-    let s = e in
-    told_nowhere _ _ _ s.requires.pair_there _ (λ _. 0) e.if-m-p.false t.if-n-p.false (sym d.routes_differ.ensures ∙ c.if-routes_differ.false)
+returns c = told_nowhere _ _ _ c.requires _ (λ _. 0) c.if-a-p.false c.if-b-p.false (sym c.routes_differ.ensures ∙ c.if-routes_differ.false)
