@@ -2,10 +2,15 @@
 #![tactic(auto)]
 
 ghost use Rattle.std.specs.Prelude.{◌≡◌, ◌+◌, ◌-◌, ◌^◌, ◌<◌, ◌≤◌, ◌&&◌, length, get_or, ltb};
-ghost use Rattle.paper.specs.SignalList.{entry, check_size, code_size, route_size, check_at, signal_at};
+ghost use Rattle.paper.specs.SignalList.{entry, check_size, code_size, route_size, check_at};
 ghost use Rattle.paper.specs.SignalList.{check_rule, place_rule, named_rule, width_rule, value_rule, route_end};
-ghost use Rattle.entries.specs.Entries.{signal_of, code_of, route_of, CheckRead, SignalRead, CodeRead, RouteRead, OctetRead};
+ghost use Rattle.entries.specs.Entries.{signal_of, code_of, route_of, CheckRead, CodeRead, RouteRead, OctetRead};
+ghost use Rattle.entries.specs.Signals.{signals_as};
 ghost use Rattle.entries.specs.Entries.{Placeable, in_order, part_keeps, own_keeps, code_keeps, route_keeps};
+
+pub use signals::Signals;
+
+mod signals;
 
 // The octets of an entry of each section; a signal's has so many in form 1, and in form 2 a serial number behind them.
 pub const CHECK_SIZE: usize = 2;
@@ -21,7 +26,7 @@ pub const ROUTE_SIZE: usize = 6;
 // The greatest width of a field.
 pub const WIDEST: usize = 64;
 
-#[derive(Clone, Copy)]
+#[derive(Clone, Copy, Debug, PartialEq, Eq)]
 pub struct Signal {
     pub start: usize,
     pub width: usize,
@@ -33,14 +38,14 @@ pub struct Signal {
     pub replacement: u64,
 }
 
-#[derive(Clone, Copy)]
+#[derive(Clone, Copy, Debug, PartialEq, Eq)]
 pub struct Code {
     pub signal: usize,
     pub low: usize,
     pub high: usize,
 }
 
-#[derive(Clone, Copy)]
+#[derive(Clone, Copy, Debug, PartialEq, Eq)]
 pub struct Route {
     pub signal: usize,
     pub vehicle: usize,
@@ -52,40 +57,23 @@ pub struct Route {
 pub fn before(k: usize) -> usize
     ensures { result ≡ k - 1 }
 {
-    if 0 < k { k - 1 } else { 0 }
+    k.saturating_sub(1)
 }
 
 // The octet at `at`, 0 past the end: a number that an entry names is not known to exist until its rule was tested.
 fn octet_at(s: &[u8], at: usize) -> usize
     ensures { OctetRead (get_or s.now at 0) result }
 {
-    if at < s.len() { octets::wide(s[at]) } else { 0 }
+    s.get(at).map_or(0, |x| octets::wide(*x))
 }
 
 // Inner: check k of the list.
+#[tactic(auto, unfolding(paper::specs::SignalList::check_at))]
 pub fn check_at(list: &[u8], k: usize) -> usize
     requires { entry check_size (k + 1) ≤ length list.now }
     ensures { CheckRead (check_at list.now k) result }
 {
     octets::read16(list, 2 + CHECK_SIZE * k)
-}
-
-// Inner: signal k of entries of `size` octets, from the signals' count on.
-pub fn signal_at(tail: &[u8], size: usize, k: usize) -> Signal
-    requires { (16 ≤ size) × (entry size (k + 1) ≤ length tail.now) }
-    ensures { SignalRead (signal_at size tail.now k) result }
-{
-    let at = 2 + size * k;
-    Signal {
-        start: octets::read16(tail, at),
-        width: octets::wide(tail[at + 2]),
-        kind: octets::wide(tail[at + 3]),
-        check: octets::wide(tail[at + 4]),
-        since: octets::wide(tail[at + 5]),
-        limit: octets::read32(tail, at + 6),
-        // The last six of the eight octets, which are one load.
-        replacement: octets::read64(tail, at + 8) % 281474976710656,
-    }
 }
 
 // Inner: code entry k, from the codes' count on. One load of eight octets ends with it: even the first has the count before it.
@@ -102,6 +90,7 @@ pub fn code_at(tail: &[u8], k: usize) -> Code
 }
 
 // Inner: route k, from the routes' count on.
+#[tactic(auto, unfolding(paper::specs::SignalList::route_at))]
 pub fn route_at(tail: &[u8], k: usize) -> Route
     requires { entry route_size (k + 1) ≤ length tail.now }
     ensures { RouteRead tail.now k result }
@@ -115,23 +104,8 @@ pub fn route_at(tail: &[u8], k: usize) -> Route
     }
 }
 
-// Inner: the width of signal k, which need not exist.
-pub fn width_at(tail: &[u8], size: usize, k: usize) -> usize
-    requires { (size ≤ 18) × (k < 65536) }
-    ensures { OctetRead (signal_at size tail.now k).width result }
-{
-    octet_at(tail, 2 + size * k + 2)
-}
-
-// Inner: the since-version of signal k.
-pub fn since_at(tail: &[u8], size: usize, k: usize) -> usize
-    requires { (16 ≤ size) × (entry size (k + 1) ≤ length tail.now) }
-    ensures { OctetRead (signal_at size tail.now k).since result }
-{
-    octets::wide(tail[2 + size * k + 5])
-}
-
 // Inner: check k keeps its rule.
+#[tactic(auto, unfolding(paper::specs::SignalList::check_rule))]
 pub fn check_rule(list: &[u8], k: usize) -> bool
     requires { entry check_size (k + 1) ≤ length list.now }
     ensures { result ≡ check_rule (check_at list.now) k }
@@ -209,6 +183,7 @@ fn in_turn(kind: usize, past: usize, s: Signal) -> bool
 }
 
 // The type, the place and the check named, by the number of common checks: those are the first, so that none is looked up.
+#[tactic(auto, unfolding(crate::specs::Entries::part_keeps))]
 fn part_rule(checks: usize, common: usize, s: Signal) -> bool
     requires { Placeable s }
     ensures { result ≡ part_keeps checks common (signal_of s) }
@@ -226,6 +201,7 @@ fn part_rule(checks: usize, common: usize, s: Signal) -> bool
 
 // Inner: s, behind a field of type `kind` that ends at `past`, keeps its rule but for the checks that it may share a bit with. Each test is a branch, which is
 // nearly always foreseen.
+#[tactic(auto, unfolding(crate::specs::Entries::own_keeps))]
 pub fn signal_own(checks: usize, common: usize, kind: usize, past: usize, s: Signal) -> bool
     requires { Placeable s }
     ensures { result ≡ own_keeps checks common kind past (signal_of s) }
@@ -254,53 +230,38 @@ pub fn check_before(list: &[u8], checks: usize, j: usize, end: usize) -> bool
     }
 }
 
-// The width of signal k, which exists.
-fn width_of(tail: &[u8], size: usize, k: usize) -> usize
-    requires { (16 ≤ size) × (entry size (k + 1) ≤ length tail.now) }
-    ensures { OctetRead (signal_at size tail.now k).width result }
+// Inner: c, whose least key is `least`, keeps its rule.
+#[tactic(auto, unfolding(crate::specs::Entries::code_keeps))]
+pub fn code_rule(signals: &Signals, least: usize, c: Code) -> bool
+    requires { (c.signal < 65536) × (c.low < 65536) }
+    ensures { result ≡ code_keeps signals.now.count (signals_as signals.now) least (code_of c) }
 {
-    octets::wide(tail[2 + size * k + 2])
-}
-
-// Inner: c, whose least key is `least`, keeps its rule; sig starts at the signals' count.
-pub fn code_rule(sig: &[u8], size: usize, signals: usize, least: usize, c: Code) -> bool
-    requires le_size { (16 ≤ size) × (entry size signals ≤ length sig.now) }
-    requires signal_bound { (c.signal < 65536) × (c.low < 65536) }
-    ensures { result ≡ code_keeps signals (signal_at size sig.now) least (code_of c) }
-{
-    if signals <= c.signal {
+    if signals.count <= c.signal {
         return false;
     }
-    let w = width_of(sig, size, c.signal);
-    if 16 < w {
-        return false;
-    }
-    if c.high < c.low {
-        return false;
-    }
-    if !octets::fits(c.high as u64, w) {
-        return false;
-    }
-    least <= c.signal * 65536 + c.low
+    let w = signals.width(c.signal);
+    w <= 16
+        && c.low <= c.high
+        && octets::fits(c.high as u64, w)
+        && least <= c.signal * 65536 + c.low
 }
 
 // Inner: r, behind a route that ends at `past`, keeps its rule. The vehicle and the null behind it are one number, of which one range is asked.
-pub fn route_rule(sig: &[u8], size: usize, signals: usize, past: usize, r: Route) -> bool
-    requires le_size { (16 ≤ size) × (entry size signals ≤ length sig.now) }
-    requires vehicle_bound { (r.vehicle < 256) × (r.null < 256) × (r.start < 65536) }
-    ensures { result ≡ route_keeps signals (signal_at size sig.now) past (route_of r) }
+pub fn route_rule(signals: &Signals, past: usize, r: Route) -> bool
+    requires { (r.vehicle < 256) × (r.null < 256) × (r.start < 65536) }
+    ensures { result ≡ route_keeps signals.now.count (signals_as signals.now) past (route_of r) }
 {
-    if signals <= r.signal {
+    if signals.count <= r.signal {
         return false;
     }
     let v = r.vehicle + 256 * r.null;
-    (1 <= v) & (v <= 63) & (route_end(sig, size, r) <= 2048) & (past <= r.start)
+    (1 <= v) & (v <= 63) & (route_end(signals, r) <= 2048) & (past <= r.start)
 }
 
 // Inner: the first bit past a route whose signal exists.
-pub fn route_end(sig: &[u8], size: usize, r: Route) -> usize
-    requires { (16 ≤ size) × (entry size (r.signal + 1) ≤ length sig.now) × (r.start < 65536) }
-    ensures { result ≡ route_end (signal_at size sig.now) (route_of r) }
+pub fn route_end(signals: &Signals, r: Route) -> usize
+    requires { (r.signal < signals.now.count) × (r.start < 65536) }
+    ensures { result ≡ route_end (signals_as signals.now) (route_of r) }
 {
-    r.start + width_of(sig, size, r.signal)
+    r.start + signals.width(r.signal)
 }

@@ -7,9 +7,10 @@ ghost use Rattle.paper.specs.SignalList.{entry, check_size, code_size, route_siz
 ghost use Rattle.paper.specs.Accepted.{Sized};
 ghost use Rattle.paper.specs.Broken.{broken_or, broken, named, check_fault, signal_fault, code_fault, route_fault, fault_from_routes, fault_from_codes, fault_from_signals, fault_of};
 ghost use Rattle.entries.specs.Entries.{signal_of, code_of, route_of, Placeable};
+ghost use Rattle.entries.specs.Signals.{signals_as};
 ghost use Rattle.faults.specs.Faults.{fault_as, fault_answer, value_tests, order_tests, place_tests, code_tests_of, route_tests_of};
 
-use entries::{CHECK_SIZE, CODE_SIZE, Code, ROUTE_SIZE, Route, Signal, WIDEST};
+use entries::{CHECK_SIZE, CODE_SIZE, Code, ROUTE_SIZE, Route, Signal, Signals, WIDEST};
 use lists::{MOST_CHECKS, MOST_CODES, MOST_ROUTES, MOST_SIGNALS};
 
 // The entry at fault: its section, from 1, its number in it, from 0, and the first rule that it breaks, from 1; the number of the signal that it is or
@@ -34,12 +35,11 @@ fn unless(kept: bool, number: usize, later: usize) -> usize
 }
 
 // The signal that an entry names; all 0 where there is none.
-fn named_signal(sig: &[u8], size: usize, signals: usize, j: usize) -> Signal
-    requires { (16 ≤ size) × (entry size signals ≤ length sig.now) }
-    ensures { signal_of result ≡ named signals (signal_at size sig.now) j }
+fn named_signal(signals: &Signals, j: usize) -> Signal
+    ensures { signal_of result ≡ named signals.now.count (signals_as signals.now) j }
 {
-    if j < signals {
-        return entries::signal_at(sig, size, j);
+    if j < signals.count {
+        return signals.get(j);
     }
     Signal {
         start: 0,
@@ -113,21 +113,14 @@ fn signal_number(list: &[u8], checks: usize, s: Signal, later: usize) -> usize
 
 // Of a section that starts `base` octets on.
 #[tactic(auto, using(crate::proofs::Laws::small_entry, crate::proofs::Laws::rule_is))]
-fn signal_fault(
-    base: usize,
-    list: &[u8],
-    checks: usize,
-    tail: &[u8],
-    size: usize,
-    k: usize,
-) -> Fault
-    requires checks_in_bounds { (entry check_size checks ≤ length list.now) × (entry size (k + 1) ≤ length tail.now) }
-    requires sized { (Sized size) × (base ≤ 65536) × (k < 65536) }
-    requires k_value { signal_rule checks (check_at list.now) (signal_at size tail.now) k ≡ false }
-    ensures { fault_as result ≡ signal_fault size base checks (check_at list.now) (signal_at size tail.now) k }
+fn signal_fault(base: usize, list: &[u8], checks: usize, signals: &Signals, k: usize) -> Fault
+    requires checks_in_bounds { entry check_size checks ≤ length list.now }
+    requires in_bounds { (base ≤ 65536) × (k < 65536) × (k < signals.now.count) }
+    requires k_value { signal_rule checks (check_at list.now) (signals_as signals.now) k ≡ false }
+    ensures { fault_as result ≡ signal_fault signals.now.size base checks (check_at list.now) (signals_as signals.now) k }
 {
-    let s = entries::signal_at(tail, size, k);
-    let p = entries::signal_at(tail, size, entries::before(k));
+    let s = signals.get(k);
+    let p = signals.get(entries::before(k));
     let later = value_number(s, order_number(k, p, s));
     Fault {
         section: 2,
@@ -137,7 +130,7 @@ fn signal_fault(
         kind: s.kind,
         start: s.start,
         width: s.width,
-        at: base + (2 + size * k),
+        at: base + (2 + signals.size * k),
     }
 }
 
@@ -156,19 +149,18 @@ fn code_number(signals: usize, width: usize, k: usize, p: Code, c: Code) -> usiz
     )
 }
 
-fn code_fault(base: usize, sig: &[u8], size: usize, signals: usize, tail: &[u8], k: usize) -> Fault
-    requires signals_in_bounds { (entry size signals ≤ length sig.now) × (entry code_size (k + 1) ≤ length tail.now) }
-    requires sized { (Sized size) × (base ≤ 65536) × (k < 65536) }
-    ensures { fault_as result ≡ code_fault base signals (signal_at size sig.now) (code_at tail.now) k }
+fn code_fault(base: usize, signals: &Signals, tail: &[u8], k: usize) -> Fault
+    requires in_bounds { (base ≤ 65536) × (k < 65536) × (entry code_size (k + 1) ≤ length tail.now) }
+    ensures { fault_as result ≡ code_fault base signals.now.count (signals_as signals.now) (code_at tail.now) k }
 {
     let c = entries::code_at(tail, k);
     let p = entries::code_at(tail, entries::before(k));
-    let width = entries::width_at(sig, size, c.signal);
-    let s = named_signal(sig, size, signals, c.signal);
+    let width = signals.width_at(c.signal);
+    let s = named_signal(signals, c.signal);
     Fault {
         section: 3,
         index: k,
-        rule: code_number(signals, width, k, p, c),
+        rule: code_number(signals.count, width, k, p, c),
         signal: c.signal,
         kind: s.kind,
         start: s.start,
@@ -190,20 +182,19 @@ fn route_number(signals: usize, end: usize, k: usize, past: usize, r: Route) -> 
     )
 }
 
-fn route_fault(base: usize, sig: &[u8], size: usize, signals: usize, tail: &[u8], k: usize) -> Fault
-    requires signals_in_bounds { (entry size signals ≤ length sig.now) × (entry route_size (k + 1) ≤ length tail.now) }
-    requires sized { (Sized size) × (base ≤ 65536) × (k < 65536) }
-    ensures { fault_as result ≡ route_fault base signals (signal_at size sig.now) (route_at tail.now) k }
+fn route_fault(base: usize, signals: &Signals, tail: &[u8], k: usize) -> Fault
+    requires in_bounds { (base ≤ 65536) × (k < 65536) × (entry route_size (k + 1) ≤ length tail.now) }
+    ensures { fault_as result ≡ route_fault base signals.now.count (signals_as signals.now) (route_at tail.now) k }
 {
     let r = entries::route_at(tail, k);
     let p = entries::route_at(tail, entries::before(k));
-    let end = r.start + entries::width_at(sig, size, r.signal);
-    let past = p.start + entries::width_at(sig, size, p.signal);
-    let s = named_signal(sig, size, signals, r.signal);
+    let end = r.start + signals.width_at(r.signal);
+    let past = p.start + signals.width_at(p.signal);
+    let s = named_signal(signals, r.signal);
     Fault {
         section: 4,
         index: k,
-        rule: route_number(signals, end, k, past, r),
+        rule: route_number(signals.count, end, k, past, r),
         signal: r.signal,
         kind: s.kind,
         start: s.start,
@@ -212,31 +203,31 @@ fn route_fault(base: usize, sig: &[u8], size: usize, signals: usize, tail: &[u8]
     }
 }
 
-// The list from its routes on, which start `base` octets on; sig starts at the signals' count.
-fn from_routes(base: usize, sig: &[u8], size: usize, signals: usize, tail: &[u8]) -> Option<Fault>
-    requires { (Sized size) × (base ≤ 65536) × (entry size signals ≤ length sig.now) }
-    ensures { fault_answer result ≡ fault_from_routes base signals (signal_at size sig.now) tail.now }
+// The list from its routes on, which start `base` octets on.
+fn from_routes(base: usize, signals: &Signals, tail: &[u8]) -> Option<Fault>
+    requires { base ≤ 65536 }
+    ensures { fault_answer result ≡ fault_from_routes base signals.now.count (signals_as signals.now) tail.now }
 {
     let n = lists::open(tail, MOST_ROUTES, ROUTE_SIZE).ok()?;
-    let k = lists::first_bad_route(sig, size, signals, tail, n);
+    let k = lists::first_bad_route(signals, tail, n);
     if k < n {
-        return Some(route_fault(base, sig, size, signals, tail, k));
+        return Some(route_fault(base, signals, tail, k));
     }
     None
 }
 
 // From its codes on.
-fn from_codes(base: usize, sig: &[u8], size: usize, signals: usize, tail: &[u8]) -> Option<Fault>
-    requires { (Sized size) × (base ≤ 32768) × (entry size signals ≤ length sig.now) }
-    ensures { fault_answer result ≡ fault_from_codes base signals (signal_at size sig.now) tail.now }
+fn from_codes(base: usize, signals: &Signals, tail: &[u8]) -> Option<Fault>
+    requires { base ≤ 32768 }
+    ensures { fault_answer result ≡ fault_from_codes base signals.now.count (signals_as signals.now) tail.now }
 {
     let n = lists::open(tail, MOST_CODES, CODE_SIZE).ok()?;
-    let k = lists::first_bad_code(sig, size, signals, tail, n);
+    let k = lists::first_bad_code(signals, tail, n);
     if k < n {
-        return Some(code_fault(base, sig, size, signals, tail, k));
+        return Some(code_fault(base, signals, tail, k));
     }
     let past = base + (2 + CODE_SIZE * n);
-    from_routes(past, sig, size, signals, lists::rest(tail, CODE_SIZE, n))
+    from_routes(past, signals, lists::rest(tail, CODE_SIZE, n))
 }
 
 // From its signals on; list starts at the checks' count.
@@ -247,14 +238,15 @@ fn from_signals(base: usize, list: &[u8], checks: usize, tail: &[u8], size: usiz
     requires checks_kept { all (check_rule (check_at list.now)) checks ≡ true }
     ensures { fault_answer result ≡ fault_from_signals size base checks (check_at list.now) tail.now }
 {
-    let n = lists::open(tail, MOST_SIGNALS, size).ok()?;
-    let at = lists::first_bad_signal(list, checks, tail, size, n);
-    let end = 2 + size * n;
+    let count = lists::open(tail, MOST_SIGNALS, size).ok()?;
+    let signals = Signals { tail, size, count };
+    let at = lists::first_bad_signal(list, checks, &signals);
+    let end = 2 + size * count;
     if at < end {
         let k = (at - 2) / size;
-        return Some(signal_fault(base, list, checks, tail, size, k));
+        return Some(signal_fault(base, list, checks, &signals, k));
     }
-    from_codes(base + end, tail, size, n, lists::rest(tail, size, n))
+    from_codes(base + end, &signals, lists::rest(tail, size, count))
 }
 
 // The entry that judging refuses with 3 in the form that the caller says, with the first rule that it breaks. None where the list is accepted, or

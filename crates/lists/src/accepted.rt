@@ -8,7 +8,7 @@ ghost use Rattle.entries.specs.Entries.{signal_of, CheckRead, SignalRead, CodeRe
 ghost use Rattle.lists.specs.Judged.{counts_of};
 
 use crate::{Counts, judge, rest};
-use entries::{CHECK_SIZE, CODE_SIZE, Code, Route, Signal};
+use entries::{CHECK_SIZE, CODE_SIZE, Code, Route, Signal, Signals};
 use refusals::Refusal;
 
 // The octets of a list with the counts that it was accepted with.
@@ -51,6 +51,17 @@ impl<'a> AcceptedList<'a> {
         rest(self.codes_part(), CODE_SIZE, self.counts.codes)
     }
 
+    // Its signals.
+    fn signals(&self) -> Signals<'a>
+        ensures { (result.tail.now ≡ signals_part self.now.octets.now (counts_of self.now.counts)) × (result.size ≡ self.now.counts.size) × (result.count ≡ self.now.counts.signals) }
+    {
+        Signals {
+            tail: self.signals_part(),
+            size: self.counts.size,
+            count: self.counts.signals,
+        }
+    }
+
     // Check j.
     pub fn check(&self, j: usize) -> usize
         requires { j < self.now.counts.checks }
@@ -64,7 +75,7 @@ impl<'a> AcceptedList<'a> {
         requires { k < self.now.counts.signals }
         ensures { SignalRead ((list_as self.now).signal k) result }
     {
-        entries::signal_at(self.signals_part(), self.counts.size, k)
+        self.signals().get(k)
     }
 
     // Code entry e.
@@ -88,7 +99,7 @@ impl<'a> AcceptedList<'a> {
         requires { k < self.now.counts.signals }
         ensures { OctetRead ((list_as self.now).signal k).width result }
     {
-        entries::width_at(self.signals_part(), self.counts.size, k)
+        self.signals().width(k)
     }
 
     // The place of the check that the signal names, 0 for none: the same check may have another number in another list.

@@ -11,10 +11,11 @@ ghost use Rattle.paper.specs.SignalList.{from_routes, from_codes, from_signals, 
 ghost use Rattle.paper.specs.SignalList.{list_of, signals_part, codes_part, routes_part, place_of};
 ghost use Rattle.paper.specs.Accepted.{RefusedWithin, Laid, Sized};
 ghost use Rattle.entries.specs.Entries.{signal_of, code_of, code_past, Parted, CheckRead, SignalRead, CodeRead, RouteRead, OctetRead};
+ghost use Rattle.entries.specs.Signals.{signals_as};
 ghost use Rattle.lists.specs.Judged.{Carries, section_answer, sized_answer, judged_answer};
 
 pub use accepted::AcceptedList;
-use entries::{CHECK_SIZE, CODE_SIZE, Code, ROUTE_SIZE, Route, SERIAL_SIZE, SIGNAL_SIZE, Signal};
+use entries::{CHECK_SIZE, CODE_SIZE, Code, ROUTE_SIZE, SERIAL_SIZE, SIGNAL_SIZE, Signal, Signals};
 use refusals::Refusal;
 
 mod accepted;
@@ -153,39 +154,35 @@ fn common_checks(list: &[u8], checks: usize) -> usize
     j
 }
 
-// Inner: the offset of the first of n signals that breaks its rule, or the end of the section. Each is tested by its own rule and then against the checks from
+// Inner: the offset of the first signal that breaks its rule, or the end of the section. Each is tested by its own rule and then against the checks from
 // the first that may share a bit with it to the first at or past its end: checks rise, and starts do within a type.
-pub fn first_bad_signal(list: &[u8], checks: usize, tail: &[u8], size: usize, n: usize) -> usize
-    requires checks_in_bounds { (entry check_size checks ≤ length list.now) × (all (check_rule (check_at list.now)) checks ≡ true) }
-    requires sized { (Sized size) × (entry size n ≤ length tail.now) }
-    ensures { result ≡ entry size (first_bad (signal_rule checks (check_at list.now) (signal_at size tail.now)) n) }
+pub fn first_bad_signal(list: &[u8], checks: usize, signals: &Signals) -> usize
+    requires { (entry check_size checks ≤ length list.now) × (all (check_rule (check_at list.now)) checks ≡ true) }
+    ensures { result ≡ entry signals.now.size (first_bad (signal_rule checks (check_at list.now) (signals_as signals.now)) signals.now.count) }
 {
     let common = common_checks(list, checks);
     let mut kind = 0;
     let mut past = 0;
     let mut from = 0;
-    let mut k = 0;
-    'signals: loop {
-        if n <= k {
-            break 'signals 2 + size * n;
-        }
-        let s = entries::signal_at(tail, size, k);
+    for k in 0..signals.count {
+        let s = signals.get(k);
         if !entries::signal_own(checks, common, kind, past, s) {
-            break 'signals 2 + size * k;
+            return 2 + signals.size * k;
         }
         let end = s.start + s.width;
         let mut j = resumed(past, s, from);
+        // While: to the first check past the end, which the next signal goes on from.
         while entries::check_before(list, checks, j, end) {
             if s.start < entries::check_at(list, j) + 2 {
-                break 'signals 2 + size * k;
+                return 2 + signals.size * k;
             }
             j += 1;
         }
         from = j;
         kind = s.kind;
         past = end;
-        k += 1;
     }
+    2 + signals.size * signals.count
 }
 
 // The least key of a code entry behind c.
@@ -199,17 +196,16 @@ fn code_past(c: Code) -> usize
     c.signal * 65536 + (c.high + 2)
 }
 
-// Inner: the first of n codes that breaks its rule, n where none does; sig starts at the signals' count.
-pub fn first_bad_code(sig: &[u8], size: usize, signals: usize, tail: &[u8], n: usize) -> usize
-    requires le_size { (16 ≤ size) × (entry size signals ≤ length sig.now) }
-    requires n_in_bounds { entry code_size n ≤ length tail.now }
-    ensures first { result ≡ first_bad (code_rule signals (signal_at size sig.now) (code_at tail.now)) n }
+// Inner: the first of n codes that breaks its rule, n where none does.
+pub fn first_bad_code(signals: &Signals, tail: &[u8], n: usize) -> usize
+    requires { entry code_size n ≤ length tail.now }
+    ensures first { result ≡ first_bad (code_rule signals.now.count (signals_as signals.now) (code_at tail.now)) n }
     ensures within { result ≤ n }
 {
     let mut least = 0;
     for k in 0..n {
         let c = entries::code_at(tail, k);
-        if !entries::code_rule(sig, size, signals, least, c) {
+        if !entries::code_rule(signals, least, c) {
             return k;
         }
         least = code_past(c);
@@ -218,44 +214,45 @@ pub fn first_bad_code(sig: &[u8], size: usize, signals: usize, tail: &[u8], n: u
 }
 
 // Inner: the same of n routes.
-pub fn first_bad_route(sig: &[u8], size: usize, signals: usize, tail: &[u8], n: usize) -> usize
-    requires le_size { (16 ≤ size) × (entry size signals ≤ length sig.now) }
-    requires n_in_bounds { entry route_size n ≤ length tail.now }
-    ensures first { result ≡ first_bad (route_rule signals (signal_at size sig.now) (route_at tail.now)) n }
+pub fn first_bad_route(signals: &Signals, tail: &[u8], n: usize) -> usize
+    requires { entry route_size n ≤ length tail.now }
+    ensures first { result ≡ first_bad (route_rule signals.now.count (signals_as signals.now) (route_at tail.now)) n }
     ensures within { result ≤ n }
 {
     let mut past = 0;
     for k in 0..n {
         let r = entries::route_at(tail, k);
-        if !entries::route_rule(sig, size, signals, past, r) {
+        if !entries::route_rule(signals, past, r) {
             return k;
         }
-        past = entries::route_end(sig, size, r);
+        past = entries::route_end(signals, r);
     }
     n
 }
 
 // The greatest since-version of the signals, 1 if there is none.
-fn version_sized(tail: &[u8], size: usize, signals: usize) -> usize
-    requires { (16 ≤ size) × (entry size signals ≤ length tail.now) }
-    ensures { result ≡ greatest_since signals (signal_at size tail.now) }
+fn greatest_version(signals: &Signals) -> usize
+    ensures { result ≡ greatest_since signals.now.count (signals_as signals.now) }
 {
     let mut version = 1;
-    for k in 0..signals {
-        version = version.max(entries::since_at(tail, size, k));
+    for k in 0..signals.count {
+        version = version.max(signals.since(k));
     }
     version
 }
 
 // The same. The entries of form 1 are gone through by a size that the compiler knows, two at a time.
-fn version_of(tail: &[u8], size: usize, signals: usize) -> usize
-    requires { (16 ≤ size) × (entry size signals ≤ length tail.now) }
-    ensures { result ≡ greatest_since signals (signal_at size tail.now) }
+fn version_of(signals: &Signals) -> usize
+    ensures { result ≡ greatest_since signals.now.count (signals_as signals.now) }
 {
-    if size == SIGNAL_SIZE {
-        return version_sized(tail, SIGNAL_SIZE, signals);
+    if signals.size == SIGNAL_SIZE {
+        return greatest_version(&Signals {
+            tail: signals.tail,
+            size: SIGNAL_SIZE,
+            count: signals.count,
+        });
     }
-    version_sized(tail, size, signals)
+    greatest_version(signals)
 }
 
 // The answer of the rest of a list that starts `by` octets on.
@@ -272,21 +269,17 @@ fn moved(rest: Result<Counts, Broken>, by: usize) -> Result<Counts, Broken>
     }
 }
 
-// The list from its routes on; sig starts at the signals' count, and `version` is theirs.
+// The list from its routes on.
 fn from_routes(
-    sig: &[u8],
-    size: usize,
-    signals: usize,
-    version: usize,
+    signals: &Signals,
     checks: usize,
     codes: usize,
     tail: &[u8],
 ) -> Result<Counts, Broken>
-    requires { (16 ≤ size) × (entry size signals ≤ length sig.now) × (version ≡ greatest_since signals (signal_at size sig.now)) }
-    ensures { sized_answer result ≡ from_routes size signals (signal_at size sig.now) checks codes tail.now }
+    ensures { sized_answer result ≡ from_routes signals.now.size signals.now.count (signals_as signals.now) checks codes tail.now }
 {
     let routes = open(tail, MOST_ROUTES, ROUTE_SIZE)?;
-    let at = 2 + ROUTE_SIZE * first_bad_route(sig, size, signals, tail, routes);
+    let at = 2 + ROUTE_SIZE * first_bad_route(signals, tail, routes);
     let end = 2 + ROUTE_SIZE * routes;
     if at < end {
         return Err(Broken {
@@ -302,28 +295,20 @@ fn from_routes(
     }
     Ok(Counts {
         checks,
-        signals,
+        signals: signals.count,
         codes,
         routes,
-        version,
-        size,
+        version: version_of(signals),
+        size: signals.size,
     })
 }
 
 // From its codes on.
-fn from_codes(
-    sig: &[u8],
-    size: usize,
-    signals: usize,
-    version: usize,
-    checks: usize,
-    tail: &[u8],
-) -> Result<Counts, Broken>
-    requires { (16 ≤ size) × (entry size signals ≤ length sig.now) × (version ≡ greatest_since signals (signal_at size sig.now)) }
-    ensures { sized_answer result ≡ from_codes size signals (signal_at size sig.now) checks tail.now }
+fn from_codes(signals: &Signals, checks: usize, tail: &[u8]) -> Result<Counts, Broken>
+    ensures { sized_answer result ≡ from_codes signals.now.size signals.now.count (signals_as signals.now) checks tail.now }
 {
     let codes = open(tail, MOST_CODES, CODE_SIZE)?;
-    let at = 2 + CODE_SIZE * first_bad_code(sig, size, signals, tail, codes);
+    let at = 2 + CODE_SIZE * first_bad_code(signals, tail, codes);
     let end = 2 + CODE_SIZE * codes;
     if at < end {
         return Err(Broken {
@@ -331,18 +316,8 @@ fn from_codes(
             at,
         });
     }
-    moved(
-        from_routes(
-            sig,
-            size,
-            signals,
-            version,
-            checks,
-            codes,
-            rest(tail, CODE_SIZE, codes),
-        ),
-        end,
-    )
+    let onward = rest(tail, CODE_SIZE, codes);
+    moved(from_routes(signals, checks, codes, onward), end)
 }
 
 // From its signals on; list starts at the checks' count.
@@ -351,27 +326,17 @@ fn from_signals(list: &[u8], checks: usize, tail: &[u8], size: usize) -> Result<
     requires sized { Sized size }
     ensures { sized_answer result ≡ from_signals size checks (check_at list.now) tail.now }
 {
-    let signals = open(tail, MOST_SIGNALS, size)?;
-    let at = first_bad_signal(list, checks, tail, size, signals);
-    let end = 2 + size * signals;
+    let count = open(tail, MOST_SIGNALS, size)?;
+    let signals = Signals { tail, size, count };
+    let at = first_bad_signal(list, checks, &signals);
+    let end = 2 + size * count;
     if at < end {
         return Err(Broken {
             rule: Rule::Entry,
             at,
         });
     }
-    let version = version_of(tail, size, signals);
-    moved(
-        from_codes(
-            tail,
-            size,
-            signals,
-            version,
-            checks,
-            rest(tail, size, signals),
-        ),
-        end,
-    )
+    moved(from_codes(&signals, checks, rest(tail, size, count)), end)
 }
 
 // Judges a list whose signal entries have `size` octets.

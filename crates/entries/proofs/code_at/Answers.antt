@@ -3,7 +3,6 @@ use Prim.Native.Nat.{ℕ, ◌+◌, ◌*◌, ◌/◌, ◌%◌, ◌^◌}
 use mathlib.Core.Path.{◌≡◌}
 use mathlib.Core.List.{List}
 use native.Mathlib.Omega.{arith}
-use borrow.Author.Rules.{rules}
 use Rattle.paper.specs.Octets.{number, Octets}
 use Rattle.paper.specs.SignalList.{entry, code_size, code_at}
 use Rattle.paper.proofs.NumberLaws.{number_lt, number_split}

@@ -5,8 +5,6 @@ use mathlib.Core.Bool.{◌&&◌, and-true, and-false}
 use native.Mathlib.Omega.{arith}
 use lib.Dec.{leb, eqb}
 use borrow.Author.Tests.{lt-ltb, le-ltb, lt-leb, ne_eqb}
-use borrow.Author.Rules.{rules}
-use Rattle.paper.proofs.ListLaws.{entry_in}
 use Rattle.entries.specs.Entries.{route_keeps}
 use Rattle.entries.proofs.route_rule.Goals as goal
 
@@ -18,12 +16,6 @@ one_range vehicle (suc null) = simp (lt-leb (vehicle + 256 * suc null) 63 (omega
 pub returns-then-signals-r : goal.returns-then-signals-r
 unfolding route_keeps
 returns-then-signals-r c = simp (le-ltb _ _ c.if-signals-r.true)
-
-pub route_end-requires : goal.route_end-requires
-route_end-requires c =
-    let e = c in
-    let s = e in
-    (s.requires.le_size.0, entry_in _ _ _ e.if-signals-r.false s.requires.le_size.1, s.requires.vehicle_bound.2)
 
 pub returns : goal.returns
 unfolding route_keeps

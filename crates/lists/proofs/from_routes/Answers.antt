@@ -26,4 +26,4 @@ pub returns : goal.returns
 unfolding from_routes ending refuse_if
 returns c =
     entries_kept (opens (routes_from _ _ _ _ _ _) _ c.in_ok-routes.ensures.answer) (ap (entry route_size) c.first_bad_route.ensures.first) (omega arith)
-    c.if-at-end.false _ (simp (le-ltb _ _ c.if-end-tail.false, c.requires.2))
+    c.if-at-end.false _ (simp (le-ltb _ _ c.if-end-tail.false, c.version_of.ensures))

@@ -1,7 +1,0 @@
-use mathlib.Core.Path.{sym}
-use lib.ListN.{get_or-eq_default}
-use borrow.Author.Rules.{rules}
-use Rattle.entries.proofs.octet_at.Goals as goal
-
-pub returns-else-at-s : goal.returns-else-at-s
-returns-else-at-s c = record { is = sym (get_or-eq_default c.args.s.now 0 c.if-at-s.false); small = search rules }
