@@ -15,20 +15,20 @@ use Rattle.paper.specs.Reading.{Reading}
 use Rattle.paper.specs.Demands.{NoneLater, NoneExpired, Standing, Shared, withheld}
 use Rattle.paper.specs.Relaying.{relaying, AllChecked, ReplacementsKnown, Middle, LiveThere, Behind}
 use Rattle.paper.proofs.RelayingLaws as paper
-use Rattle.refusals.specs.declared.Outcome.{Outcome}
-use Rattle.refusals.specs.declared.Outcome.TheVariants as O
 use Rattle.refusals.specs.Outcome.{Written}
 use Rattle.refusals.proofs.WrittenLaws.{written_done, written_gives, one_written}
-use Rattle.reading.specs.declared.ReadOutcome.{ReadOutcome}
 use Rattle.reading.specs.Reading.{read_answer}
 use Rattle.demands.specs.declared.Passed.{Passed}
 use Rattle.demands.specs.Calls.{none}
 use Rattle.demands.specs.PassedOn.{PassedOn, Heard, LastRead}
+use Rattle.std.specs.Prelude.{Result, Ok}
+use Rattle.refusals.specs.declared.Refusal.{Refusal}
+use Rattle.reading.specs.declared.Reading as code
 use Rattle.demands.proofs.ReadBack.{made_runs, done_takes}
 
 -- `pass_on` is such a last reading, with nothing between: what it ensures it has from the contracts of the three calls, so they fit these records
 pub passed_last : (form : ℕ) (xs there : List ℕ) (now v : ℕ) (out here : List ℕ) (u stamp form' : ℕ) (ys : List ℕ) (later k : ℕ) (second held : List ℕ) (r : Passed)
-    → PassedOn form xs there now v out here u stamp form' ys later k second held r → stamp < turn → r.taken ≡ O.Done
+    → PassedOn form xs there now v out here u stamp form' ys later k second held r → stamp < turn → r.taken ≡ Ok tt
     → LastRead second u stamp form' ys later k r.read
 unfolding NoneLater NoneExpired
 passed_last form xs there now v out here u stamp form' ys later k second held r p clock took =
@@ -63,23 +63,23 @@ module _ (form : ℕ) (xs : List ℕ) (m : Counts) (form' : ℕ) (ys : List ℕ)
       }
 
   -- where every replacement in A is a code known to A, `relay` into an output of the type's length is done, whatever the clock
-  pub never_refused : ReplacementsKnown (list_of xs m) → (now : ℕ) (out : List ℕ) → length out ≡ type_length type → (r : Outcome) (second : List ℕ)
-      → Written (relaying form xs there now v (length out)) out r second → r ≡ O.Done
+  pub never_refused : ReplacementsKnown (list_of xs m) → (now : ℕ) (out : List ℕ) → length out ≡ type_length type → (r : Result (Unit {0}) Refusal) (second : List ℕ)
+      → Written (relaying form xs there now v (length out)) out r second → r ≡ Ok tt
   never_refused known now out long r second w =
       let e = paper.middle_relays form xs m form' ys n type values marks v stamp now there middle known in
-      (one_written _ out r O.Done second _ w (written_done _ out _ (sym (ap (relaying form xs there now v) long ∙ e)))).0
+      (one_written _ out r (Ok tt) second _ w (written_done _ out _ (sym (ap (relaying form xs there now v) long ∙ e)))).0
 
   -- what `relay` wrote is taken by whoever has a whole store, for a vehicle of the 63
-  pub relayed_taken : (now : ℕ) (out second : List ℕ) → Written (relaying form xs there now v (length out)) out O.Done second
-      → (store : List ℕ) (u stamp' : ℕ) → length store ≡ store_octets → 1 ≤ u → u ≤ vehicles → (r : Outcome) (new : List ℕ)
-      → Written (taking store u stamp' second) store r new → r ≡ O.Done
+  pub relayed_taken : (now : ℕ) (out second : List ℕ) → Written (relaying form xs there now v (length out)) out (Ok tt) second
+      → (store : List ℕ) (u stamp' : ℕ) → length store ≡ store_octets → 1 ≤ u → u ≤ vehicles → (r : Result (Unit {0}) Refusal) (new : List ℕ)
+      → Written (taking store u stamp' second) store r new → r ≡ Ok tt
   relayed_taken now out second w store u stamp' whole first last r new t =
       let e = paper.relayed_taken form xs m form' ys n type values marks v stamp now there middle (length out) second (written_gives _ out second w) store u stamp' whole first last in
-      (one_written _ store r O.Done new _ t (written_done _ store _ (sym e))).0
+      (one_written _ store r (Ok tt) new _ t (written_done _ store _ (sym e))).0
 
   -- `relay` is done in the middle at the clock value `now`, into `out`
-  module _ (now : ℕ) (out second : List ℕ) (w : Written (relaying form xs there now v (length out)) out O.Done second)
-      (u stamp' now' k : ℕ) (r : ReadOutcome) (l : LastRead second u stamp' form' ys now' k r) (hk : k < n.signals)
+  module _ (now : ℕ) (out second : List ℕ) (w : Written (relaying form xs there now v (length out)) out (Ok tt) second)
+      (u stamp' now' k : ℕ) (r : Result code.Reading Refusal) (l : LastRead second u stamp' form' ys now' k r) (hk : k < n.signals)
       (within : in_time (age now' stamp') ((list_of ys n).signal k).limit ≡ true) where
     sent_on : relaying form xs there now v (length out) ≡ gives second
     sent_on = written_gives _ out second w

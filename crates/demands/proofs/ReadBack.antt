@@ -18,15 +18,14 @@ use Rattle.paper.specs.Demands.{Step, offer, sweep, run, Passes, NoneLater, None
 use Rattle.paper.proofs.StoreLaws as laws
 use Rattle.paper.proofs.Demands as paper
 use Rattle.refusals.specs.declared.Refusal.{Refusal}
-use Rattle.refusals.specs.declared.Outcome.{Outcome}
-use Rattle.refusals.specs.declared.Outcome.TheVariants as O
 use Rattle.refusals.specs.Refusal.{number_of, carried_of}
 use Rattle.refusals.specs.Outcome.{Written}
 use Rattle.refusals.proofs.WrittenLaws.{written_done, written_gives, written_not, one_written}
-use Rattle.reading.specs.declared.ReadOutcome.{ReadOutcome}
 use Rattle.reading.specs.Reading.{read_answer}
 use Rattle.demands.specs.declared.Answers.{Answers}
 use Rattle.demands.specs.Told.{Told}
+use Rattle.std.specs.Prelude.{Result, Ok, Err}
+use Rattle.reading.specs.declared.Reading as code
 use Rattle.demands.specs.Calls.{Made, none, takes, sweeps, Calls}
 
 -- ---- the calls are the paper's steps
@@ -38,7 +37,7 @@ made_runs (takes w now telegram r t rest) = rw (← t.octets) (made_runs rest)
 made_runs (sweeps now r t rest) = rw (← t.octets) (made_runs rest)
 
 -- a call of `take` that is done takes the telegram, and one that is refused takes none
-pub done_takes : (store : List ℕ) (v now : ℕ) (telegram next : List ℕ) → Written (taking store v now telegram) store O.Done next
+pub done_takes : (store : List ℕ) (v now : ℕ) (telegram next : List ℕ) → Written (taking store v now telegram) store (Ok tt) next
     → (taking store v now telegram ≡ gives (taken store v now telegram)) × (taken store v now telegram ≡ next)
 done_takes store v now telegram next w =
     let e = written_gives _ store next w in
@@ -46,12 +45,12 @@ done_takes store v now telegram next w =
     (e ∙ ap gives (sym t), t)
 
 pub refused_passes : (store : List ℕ) (v w now : ℕ) (telegram : List ℕ) (f : Refusal) (next : List ℕ)
-    → Written (taking store w now telegram) store (O.Refused f) next → Passes v store (offer w now telegram)
+    → Written (taking store w now telegram) store (Err f) next → Passes v store (offer w now telegram)
 refused_passes store v w now telegram f next t = inr (number_of f, (carried_of f, written_not _ store f next t))
 
 -- `told` is such a run of calls, with one of `sweep` between: what it ensures it has from the contracts of the four, so they fit this record
 pub told_calls : (form : ℕ) (xs : List ℕ) (type : ℕ) (values marks out store : List ℕ) (v stamp at form' : ℕ) (ys : List ℕ) (now k : ℕ)
-    (sent held : List ℕ) (r : Answers) → (t : Told form xs type values marks out store v stamp at form' ys now k sent held r) → stamp < turn → r.composed ≡ O.Done → r.taken ≡ O.Done
+    (sent held : List ℕ) (r : Answers) → (t : Told form xs type values marks out store v stamp at form' ys now k sent held r) → stamp < turn → r.composed ≡ Ok tt → r.taken ≡ Ok tt
     → stale (slot_of t.heard v) at ≡ false → Calls form xs type values marks v stamp form' ys now k r.read
 unfolding NoneLater NoneExpired
 told_calls form xs type values marks out store v stamp at form' ys now k sent held r t clock composed took young =
@@ -71,7 +70,7 @@ told_calls form xs type values marks out store v stamp at form' ys now k sent he
       read = t.read;
     }
 
-module _ (form : ℕ) (xs : List ℕ) (type : ℕ) (values marks : List ℕ) (v stamp form' : ℕ) (ys : List ℕ) (now k : ℕ) (r : ReadOutcome)
+module _ (form : ℕ) (xs : List ℕ) (type : ℕ) (values marks : List ℕ) (v stamp form' : ℕ) (ys : List ℕ) (now k : ℕ) (r : Result code.Reading Refusal)
     (c : Calls form xs type values marks v stamp form' ys now k r) where
   sent : composing form xs type values marks (length c.out) ≡ gives c.telegram
   sent = written_gives _ c.out c.telegram c.composed
@@ -116,7 +115,7 @@ module _ (form : ℕ) (xs : List ℕ) (type : ℕ) (values marks : List ℕ) (v 
 
 -- DEMAND 2, reading back under the list that it was composed with: a signal that the type carries, with a mark ok or forced, or no check,
 -- reads back within its time limit as given
-pub read_back : (form : ℕ) (xs : List ℕ) (type : ℕ) (values marks : List ℕ) (v stamp now k : ℕ) (r : ReadOutcome) → Calls form xs type values marks v stamp form xs now k r
+pub read_back : (form : ℕ) (xs : List ℕ) (type : ℕ) (values marks : List ℕ) (v stamp now k : ℕ) (r : Result code.Reading Refusal) → Calls form xs type values marks v stamp form xs now k r
     → (m : Counts) → judge form xs ≡ gives m → k < m.signals → carries type ((list_of xs m).signal k).type ≡ true
     → (given_mark marks ((list_of xs m).signal k) ≡ ok) ⊎ (given_mark marks ((list_of xs m).signal k) ≡ forced)
     → in_time (age now stamp) ((list_of xs m).signal k).limit ≡ true
@@ -127,9 +126,9 @@ read_back form xs type values marks v stamp now k r c m e hk carried mark within
     (standing form xs type values marks v stamp form xs now k r c _ within)
 
 -- what `compose` wrote, `take` never refuses for a vehicle of the 63 and a store of the right length
-pub composed_taken : (form : ℕ) (xs : List ℕ) (type : ℕ) (values marks out telegram : List ℕ) → Written (composing form xs type values marks (length out)) out O.Done telegram
-    → (before : List ℕ) (v now : ℕ) (r : Outcome) (after : List ℕ) → length before ≡ store_octets → 1 ≤ v → v ≤ vehicles
-    → Written (taking before v now telegram) before r after → (r ≡ O.Done) × (after ≡ taken before v now telegram)
+pub composed_taken : (form : ℕ) (xs : List ℕ) (type : ℕ) (values marks out telegram : List ℕ) → Written (composing form xs type values marks (length out)) out (Ok tt) telegram
+    → (before : List ℕ) (v now : ℕ) (r : Result (Unit {0}) Refusal) (after : List ℕ) → length before ≡ store_octets → 1 ≤ v → v ≤ vehicles
+    → Written (taking before v now telegram) before r after → (r ≡ Ok tt) × (after ≡ taken before v now telegram)
 composed_taken form xs type values marks out telegram composed before v now r after whole first last took =
     let e = paper.composed_taken form xs type values marks (length out) telegram (written_gives _ out telegram composed) before v now whole first last in
-    one_written _ before r O.Done after (taken before v now telegram) took (written_done _ before _ (sym e))
+    one_written _ before r (Ok tt) after (taken before v now telegram) took (written_done _ before _ (sym e))

@@ -1,15 +1,15 @@
 -- C-24 in calls: a telegram goes through a gateway in the middle to a last reader, each call by what its contract ensures.
-use Rattle.std.specs.Prelude.{ℕ, ◌<◌, ◌≡◌, List, length}
+use Rattle.std.specs.Prelude.{ℕ, ◌<◌, ◌≡◌, List, length, Result, Ok}
 use Rattle.paper.specs.Store.{taking, turn}
 use Rattle.paper.specs.Reading.{reading}
 use Rattle.paper.specs.Composing.{composing}
 use Rattle.paper.specs.Relaying.{relaying}
 use Rattle.paper.specs.Demands.{Step, NoneLater, NoneExpired}
-use Rattle.refusals.specs.declared.Outcome.TheVariants as O
 use Rattle.refusals.specs.Outcome.{Written}
-use Rattle.reading.specs.declared.ReadOutcome.{ReadOutcome}
 use Rattle.reading.specs.Reading.{read_answer}
 use Rattle.demands.specs.declared.Passed.{Passed}
+use Rattle.refusals.specs.declared.Refusal.{Refusal}
+use Rattle.reading.specs.declared.Reading.{Reading}
 use Rattle.demands.specs.Calls.{Made}
 
 -- what three calls in a row answer: `relay` in the middle, `take` by the last reader, and `read` there
@@ -24,22 +24,22 @@ pub record PassedOn (form : ℕ) (inner there : List ℕ) (clock v : ℕ) (out h
 pub record Heard (form' : ℕ) (ys : List ℕ) (type : ℕ) (values marks : List ℕ) (v stamp : ℕ) (there : List ℕ) : Type 0 where
   pub out : List ℕ
   pub first : List ℕ
-  pub composed : Written (composing form' ys type values marks (length out)) out O.Done first
+  pub composed : Written (composing form' ys type values marks (length out)) out (Ok tt) first
   pub before : List ℕ
   pub after : List ℕ
   pub clock : stamp < turn
-  pub took : Written (taking before v stamp first) before O.Done after
+  pub took : Written (taking before v stamp first) before (Ok tt) after
   pub steps : List Step
   pub made : Made after steps there
   pub later : NoneLater v after steps
 
 -- The last reader: `take` of what the middle composed is done for vehicle u, no later call takes a telegram of that vehicle and none of `sweep` expires its
 -- slot; `read` of signal k under ys answers r
-pub record LastRead (second : List ℕ) (u stamp form' : ℕ) (ys : List ℕ) (now k : ℕ) (r : ReadOutcome) : Type 0 where
+pub record LastRead (second : List ℕ) (u stamp form' : ℕ) (ys : List ℕ) (now k : ℕ) (r : Result Reading Refusal) : Type 0 where
   pub before : List ℕ
   pub after : List ℕ
   pub clock : stamp < turn
-  pub took : Written (taking before u stamp second) before O.Done after
+  pub took : Written (taking before u stamp second) before (Ok tt) after
   pub steps : List Step
   pub store : List ℕ
   pub made : Made after steps store

@@ -6,17 +6,16 @@ ghost use Rattle.demands.specs.Orders.{TakenBoth, MarshalledTwice};
 ghost use Rattle.demands.specs.PassedOn.{PassedOn};
 ghost use Rattle.demands.specs.Told.{Told};
 
-use marshalling::Marshalled;
-use reading::ReadOutcome;
-use refusals::Outcome;
+use reading::Reading;
+use refusals::Refusal;
 
 // What each of the four calls answers.
-#[derive(Clone, Copy)]
+#[derive(Clone, Copy, Debug, PartialEq, Eq)]
 pub struct Answers {
-    pub composed: Outcome,
-    pub taken: Outcome,
-    pub swept: Outcome,
-    pub read: ReadOutcome,
+    pub composed: Result<(), Refusal>,
+    pub taken: Result<(), Refusal>,
+    pub swept: Result<(), Refusal>,
+    pub read: Result<Reading, Refusal>,
 }
 
 // The telegram is left in `out` and in the vehicle's slot. Taken at `stamp`, swept at `sweep`, read at `clock`.
@@ -51,10 +50,10 @@ pub fn told(
 }
 
 // What two takings answer, in the order in which they are made.
-#[derive(Clone, Copy)]
+#[derive(Clone, Copy, Debug, PartialEq, Eq)]
 pub struct Both {
-    pub one: Outcome,
-    pub two: Outcome,
+    pub one: Result<(), Refusal>,
+    pub two: Result<(), Refusal>,
 }
 
 pub fn take_both(
@@ -74,10 +73,10 @@ pub fn take_both(
 }
 
 // What two marshallings answer that are asked the same.
-#[derive(Clone, Copy)]
+#[derive(Clone, Copy, Debug, PartialEq, Eq)]
 pub struct Twice {
-    pub once: Marshalled,
-    pub again: Marshalled,
+    pub once: Result<usize, Refusal>,
+    pub again: Result<usize, Refusal>,
 }
 
 pub fn marshal_twice(list: &[u8], form: u8, store: &[u8], clock: u32, bus: &mut [u8]) -> Twice
@@ -89,11 +88,11 @@ pub fn marshal_twice(list: &[u8], form: u8, store: &[u8], clock: u32, bus: &mut 
 }
 
 // What the gateway in the middle answers, and what its telegram is answered by the last reader.
-#[derive(Clone, Copy)]
+#[derive(Clone, Copy, Debug, PartialEq, Eq)]
 pub struct Passed {
-    pub relayed: Outcome,
-    pub taken: Outcome,
-    pub read: ReadOutcome,
+    pub relayed: Result<(), Refusal>,
+    pub taken: Result<(), Refusal>,
+    pub read: Result<Reading, Refusal>,
 }
 
 // Relayed from the store `there` under the list `inner`, taken into the store `here`, and read under the list `outer`.

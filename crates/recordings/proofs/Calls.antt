@@ -3,81 +3,83 @@
 use Prim.Native.Nat.{ℕ, suc, ◌+◌, ◌*◌, ◌/◌, ◌%◌, ◌≤◌}
 use mathlib.Core.Path.{◌≡◌, refl, sym, ap, ◌∙◌}
 use mathlib.Core.Logic.{◌↔◌}
-use mathlib.Core.Bool.{Bool, true, false, cond}
 use mathlib.Core.List.{List, [], ◌∷◌}
 use native.Mathlib.Omega.{arith}
 use Rattle.paper.specs.Octets.{Octets}
 use Rattle.paper.specs.Answer.{Answer, gives, refused}
 use Rattle.paper.specs.Recordings as paper
-use Rattle.paper.specs.Recordings.{Step, Finding, Course, going, ended, judged, concluded, recording, checking, most_steps}
+use Rattle.paper.specs.Recordings.{Step, Place, Finding, Course, going, ended, judged, concluded, recording, checking, most_steps}
 use Rattle.paper.proofs.RecordingLaws.{checked, accepted_exactly, wrong_exactly, stays_ended}
+use Rattle.std.specs.Prelude.{Option, Some, None, Result, Ok, Err}
+use Rattle.refusals.specs.declared.Refusal.{Refusal}
 use Rattle.refusals.specs.Refusal.{refusal_of}
 use Rattle.refusals.proofs.Laws.{numbered, numbered_of}
+use Rattle.reading.specs.declared.reason.Reason.{Reason}
+use Rattle.reading.proofs.Laws.{reason_numbered, reason_numbered_of}
+use Rattle.recordings.specs.declared.Routed.{Routed}
 use Rattle.recordings.specs.declared.WrongBit.{WrongBit}
-use Rattle.recordings.specs.declared.Checked.{Checked}
-use Rattle.recordings.specs.declared.Checked.TheVariants.{Right, Wrong, Refused}
-use Rattle.recordings.specs.Recordings.{place_of, checked_answer, Low}
+use Rattle.recordings.specs.Recordings.{place_in, place_of, checked_answer, Low}
 
 -- ---- the answer is settled
 
-told : Answer Finding → Checked
-told (gives paper.right) = Right
-told (gives (paper.wrong a (paper.in_route r reason))) = Wrong (record { octet = a / 8; bit = a % 8; in_route = true; route = r; reason = reason })
-told (gives (paper.wrong a paper.outside)) = Wrong (record { octet = a / 8; bit = a % 8; in_route = false; route = 0; reason = 0 })
-told (refused n at) = Refused (numbered n at)
+placed : Place → Option Routed
+placed (paper.in_route r reason) = Some (record { route = r; reason = reason_numbered reason })
+placed paper.outside = None
 
-told_of_lem : (c : Checked) → Low c → told (checked_answer c) ≡ c
+placed_of : (o : Option Routed) → placed (place_in o) ≡ o
+unfolding placed
+placed_of (Some r) = ap (λ (x : Reason). Some (record { route = r.route; reason = x })) (reason_numbered_of r.reason)
+placed_of None = refl
+
+told : Answer Finding → Result (Option WrongBit) Refusal
+told (gives paper.right) = Ok None
+told (gives (paper.wrong a p)) = Ok (Some (record { octet = a / 8; bit = a % 8; route = placed p }))
+told (refused n at) = Err (numbered n at)
+
+told_of_lem : (c : Result (Option WrongBit) Refusal) → Low c → told (checked_answer c) ≡ c
 unfolding told
-told_of_lem Right low = refl
-told_of_lem (Refused f) low = ap Refused (numbered_of f)
-told_of_lem (Wrong w) low = by w.in_route refl
-  where
-    octet : (8 * w.octet + w.bit) / 8 ≡ w.octet
-    octet = omega (arith, low.0)
-
-    bit : (8 * w.octet + w.bit) % 8 ≡ w.bit
-    bit = omega (arith, low.0)
-
-    by : (b : Bool) → w.in_route ≡ b → told (gives (paper.wrong (8 * w.octet + w.bit) (cond b (paper.in_route w.route w.reason) paper.outside))) ≡ Wrong w
-    by true e = λ i. Wrong (record { octet = octet i; bit = bit i; in_route = sym e i; route = w.route; reason = w.reason })
-    by false e =
-        let z = low.1 e in
-        λ i. Wrong (record { octet = octet i; bit = bit i; in_route = sym e i; route = sym z.0 i; reason = sym z.1 i })
+told_of_lem (Ok None) low = refl
+told_of_lem (Err f) low = ap Err (numbered_of f)
+told_of_lem (Ok (Some w)) low =
+    let octet : (8 * w.octet + w.bit) / 8 ≡ w.octet = omega (arith, low) in
+    let bit : (8 * w.octet + w.bit) % 8 ≡ w.bit = omega (arith, low) in
+    let route = placed_of w.route in
+    λ i. Ok (Some (record { octet = octet i; bit = bit i; route = route i }))
 
 -- two answers that meet the contract are equal
-pub one_checked : (a : Answer Finding) (c d : Checked) → (checked_answer c ≡ a) × Low c → (checked_answer d ≡ a) × Low d → c ≡ d
+pub one_checked : (a : Answer Finding) (c d : Result (Option WrongBit) Refusal) → (checked_answer c ≡ a) × Low c → (checked_answer d ≡ a) × Low d → c ≡ d
 one_checked a c d p q = sym (told_of_lem c p.1) ∙ ap told (p.0 ∙ sym q.0) ∙ told_of_lem d q.1
 
 -- ---- what a call tells
 
-said_right : (c : Checked) → checked_answer c ≡ gives paper.right → c ≡ Right
-said_right Right e = refl
-said_right (Wrong w) e = let z : ◌≡◌ {A = ℕ} 0 1 = cc in absurd (omega arith)
-said_right (Refused f) e = let z : ◌≡◌ {A = ℕ} 0 1 = cc in absurd (omega arith)
+said_right : (c : Result (Option WrongBit) Refusal) → checked_answer c ≡ gives paper.right → c ≡ Ok None
+said_right (Ok None) e = refl
+said_right (Ok (Some w)) e = let z : ◌≡◌ {A = ℕ} 0 1 = cc in absurd (omega arith)
+said_right (Err f) e = let z : ◌≡◌ {A = ℕ} 0 1 = cc in absurd (omega arith)
 
-module _ (form : ℕ) (xs : List ℕ) (k : ℕ) (last : List ℕ) (s : Step) (c : Checked) (e : checked_answer c ≡ checking form xs k last s) where
-  -- a step that the call answers Right is exactly one whose data after marshalling gives
-  pub answers_right : Octets s.before → Octets s.after → (c ≡ Right) ↔ paper.Right form xs k last s
+module _ (form : ℕ) (xs : List ℕ) (k : ℕ) (last : List ℕ) (s : Step) (c : Result (Option WrongBit) Refusal) (e : checked_answer c ≡ checking form xs k last s) where
+  -- a step of which the call names no wrong bit is exactly one whose data after marshalling gives
+  pub answers_right : Octets s.before → Octets s.after → (c ≡ Ok None) ↔ paper.Right form xs k last s
   answers_right o p =
       let x = accepted_exactly form xs k last s o p in
       (λ q. x.0 (sym e ∙ ap checked_answer q), λ h. said_right c (e ∙ x.1 h))
 
-  -- and one that it answers Wrong exactly one in which that bit is the first that differs, and lies where it says
-  pub answers_wrong : (w : WrongBit) → Low c → Low (Wrong w) → (c ≡ Wrong w) ↔ paper.Wrong form xs k last s (8 * w.octet + w.bit) (place_of w)
+  -- and one of which it names a wrong bit exactly one in which that bit is the first that differs, and lies where it says
+  pub answers_wrong : (w : WrongBit) → Low c → Low (Ok (Some w)) → (c ≡ Ok (Some w)) ↔ paper.Wrong form xs k last s (8 * w.octet + w.bit) (place_of w)
   answers_wrong w low own =
       let x = wrong_exactly form xs k last s (8 * w.octet + w.bit) (place_of w) in
-      (λ q. x.0 (sym e ∙ ap checked_answer q), λ h. one_checked (checking form xs k last s) c (Wrong w) (e, low) (sym (x.1 h), own))
+      (λ q. x.0 (sym e ∙ ap checked_answer q), λ h. one_checked (checking form xs k last s) c (Ok (Some w)) (e, low) (sym (x.1 h), own))
 
 -- ---- going through the steps with the call
 
 -- what a caller keeps after a step: the count and the data after of one that was right, or the step that ended the judging
-abbrev pub keeps : ℕ → List ℕ → Checked → Course
-keeps k after Right = going (suc k) after
-keeps k after (Wrong w) = ended k (checked_answer (Wrong w))
-keeps k after (Refused f) = ended k (refusal_of f)
+abbrev pub keeps : ℕ → List ℕ → Result (Option WrongBit) Refusal → Course
+keeps k after (Ok None) = going (suc k) after
+keeps k after (Ok (Some w)) = ended k (checked_answer (Ok (Some w)))
+keeps k after (Err f) = ended k (refusal_of f)
 
 -- a caller asks no more once a step ended it
-unfoldable pub through : (ℕ → List ℕ → Step → Checked) → Course → List Step → Course
+unfoldable pub through : (ℕ → List ℕ → Step → Result (Option WrongBit) Refusal) → Course → List Step → Course
 through call c [] = c
 through call (going k last) (s ∷ ss) = through call (keeps k s.after (call k last s)) ss
 through call (ended k x) (s ∷ ss) = ended k x
@@ -88,7 +90,7 @@ AllLent Lent last [] = Unit {0}
 AllLent Lent last (s ∷ ss) = Lent last s × AllLent Lent s.after ss
 
 -- a call that keeps its contract for up to 1,000 steps before, and for what can be lent to it
-module _ (form : ℕ) (xs : List ℕ) (call : ℕ → List ℕ → Step → Checked) (Lent : List ℕ → Step → Type 0)
+module _ (form : ℕ) (xs : List ℕ) (call : ℕ → List ℕ → Step → Result (Option WrongBit) Refusal) (Lent : List ℕ → Step → Type 0)
     (meets : (k : ℕ) (last : List ℕ) (s : Step) → k ≤ most_steps → Lent last s → checked_answer (call k last s) ≡ checking form xs k last s) where
   -- each course of a caller is that of the judging
   pub through_judged : (k : ℕ) (last : List ℕ) (ss : List Step) → k ≤ most_steps → AllLent Lent last ss
@@ -102,11 +104,11 @@ module _ (form : ℕ) (xs : List ℕ) (call : ℕ → List ℕ → Step → Chec
       ends x [] = refl
       ends x (t ∷ ts) = sym (stays_ended form xs k x ts)
 
-      by : (c : Checked) → call k last s ≡ c → (suc k ≤ most_steps → through call (going (suc k) s.after) ss ≡ judged form xs (going (suc k) s.after) ss)
+      by : (c : Result (Option WrongBit) Refusal) → call k last s ≡ c → (suc k ≤ most_steps → through call (going (suc k) s.after) ss ≡ judged form xs (going (suc k) s.after) ss)
           → through call (keeps k s.after c) ss ≡ judged form xs (paper.onward_by k s.after (checked_answer c)) ss
-      by Right q rest = rest (checked form xs k last s paper.right (sym (meets k last s few lent.0) ∙ ap checked_answer q)).few
-      by (Wrong w) q rest = ends (checked_answer (Wrong w)) ss
-      by (Refused f) q rest = ends (refusal_of f) ss
+      by (Ok None) q rest = rest (checked form xs k last s paper.right (sym (meets k last s few lent.0) ∙ ap checked_answer q)).few
+      by (Ok (Some w)) q rest = ends (checked_answer (Ok (Some w))) ss
+      by (Err f) q rest = ends (refusal_of f) ss
 
   -- and with what it says of the list at the end, it is the recording's verdict
   pub through_recording : (ss : List Step) → AllLent Lent [] ss → concluded form xs (through call (going 0 []) ss) ≡ recording form xs ss

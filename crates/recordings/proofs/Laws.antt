@@ -2,85 +2,94 @@
 use Prim.Native.Nat.{ℕ, zero, suc, ◌+◌, ◌-◌, ◌*◌, ◌/◌, ◌%◌, ◌^◌, ◌≤◌, ◌<◌}
 use mathlib.Core.Path.{◌≡◌, refl, sym, ap, ◌∙◌}
 use mathlib.Core.Logic.{◌⊎◌, inl, inr}
-use mathlib.Core.Bool.{Bool, false, not}
+use mathlib.Core.Bool.{Bool, true, false, not}
 use mathlib.Core.List.{List}
 use native.Mathlib.Nat.{eq-or-lt_of_le, add-zero}
 use native.Mathlib.Omega.{arith}
 use native.Mathlib.Decide.{dec_lt, ℕ_discrete}
 use lib.ListN.{length, get_or, take, drop, length-drop}
-use lib.Seq.{get_or-drop, take_all}
+use lib.Seq.{get_or-drop, take_all, ext_get_or}
+use lib.Pointwise.{pointwise}
+use Rattle.std.proofs.lemmas.Bool.Decides.{Decides-eqb, Decides-like, same_from_decides}
+use Rattle.std.proofs.lemmas.Slice.Eq.{slice_eq-Decides}
 use lib.Dec.{eqb}
 use lib.Arith.{digits_lt}
 use lib.Pow.{pow-add, pow_mono, shl_exact, shr-shr, high, low}
-use borrow.Author.Tests.{eq-eqb, ne_eqb, lt-ltb, le-ltb}
+use borrow.Author.Tests.{ne_eqb, lt-ltb, le-ltb}
 use Rattle.paper.specs.Octets.{bit, field, Octets}
-use Rattle.paper.specs.Answer.{Answer, gives, refuse_if}
-use Rattle.paper.specs.First.{all, some}
 use Rattle.paper.specs.SignalList.{SignalList, route_end}
-use Rattle.paper.specs.Store.{is_store}
 use Rattle.paper.specs.Marshalling.{routed, marshalled}
 use Rattle.paper.specs.Accepted.{Kept}
-use Rattle.paper.specs.Recordings.{Step, in_route, outside, Finding, right, wrong, route_with, located, finding, same_octets, follows, checking_by}
-use Rattle.paper.proofs.AnswerLaws.{past}
+use Rattle.paper.specs.Recordings.{lies_in, in_route, outside, right, wrong, route_with, located, finding, same_octets}
 use Rattle.paper.proofs.FieldLaws.{bit_lt, field_lt, field_ext, field_split, field_bits, octet_field}
 use Rattle.paper.proofs.ListLaws.{routes_apart}
-use Rattle.paper.proofs.LoopLaws.{Passed}
+use Rattle.paper.proofs.LoopLaws.{Passed, fails_here, fails_nowhere}
 use Rattle.paper.proofs.MarshallingLaws.{outside_routes, each_route}
-use Rattle.paper.proofs.RecordingLaws.{in_none, right_exactly, named_is}
-use Rattle.marshalling.specs.Marshalling.{is_short}
-use Rattle.recordings.specs.Recordings.{Upto, Reaches, Same, Alike, Digit, Written, Spotted, Between}
+use Rattle.paper.proofs.RecordingLaws.{in_none, right_exactly, named_is, same_octets_lem}
+use Rattle.std.specs.Prelude.{Option, Some, None}
+use Rattle.recordings.specs.Recordings.{Agrees, Stops, Spotted, FirstOff, FirstSpot, Same, Alike, Digit, Written, Between, place_in, finding_of}
 use Rattle.recordings.specs.declared.Spot.{Spot}
+use Rattle.recordings.specs.declared.Routed.{Routed}
 
--- ---- a loop from `from` on: P holds at each index passed
+-- ---- where P holds, and the first index at which it fails
 
-pub upto_none : (P : ℕ → Type 0) (from to : ℕ) → from ≤ to → Upto P from to from
-upto_none P from to h = record { lo = omega arith; hi = h; each = λ b le lt. absurd (omega arith) }
+pub agrees_none : (P : ℕ → Type 0) (from to : ℕ) → to ≤ from → Agrees P from to
+agrees_none P from to h = record { each = λ a le lt. absurd (omega arith) }
 
-module _ {P : ℕ → Type 0} {from to a : ℕ} (h : Upto P from to a) where
-  pub upto_more : a < to → P a → Upto P from to (a + 1)
-  upto_more lt p = record { lo = omega (arith, h.lo); hi = omega arith; each = λ b le less. by b le (eq-or-lt_of_le less) }
+module _ {P : ℕ → Type 0} {from mid : ℕ} (h : Agrees P from mid) where
+  pub agrees_more : P mid → Agrees P from (mid + 1)
+  agrees_more p = record { each = λ a le lt. by a le (eq-or-lt_of_le lt) }
     where
-      by : (b : ℕ) → from ≤ b → (suc b ≡ a + 1) ⊎ (suc b < a + 1) → P b
-      by b le (inl e) = let q : a ≡ b = omega arith in rw q at p
-      by b le (inr l) = h.each b le (omega arith)
+      by : (a : ℕ) → from ≤ a → (suc a ≡ mid + 1) ⊎ (suc a < mid + 1) → P a
+      by a le (inl e) = let q : mid ≡ a = omega arith in rw q at p
+      by a le (inr l) = h.each a le (omega arith)
 
-  pub stops_here : (P a → ⊥) → Reaches P from to a
-  stops_here n = record { lo = h.lo; hi = h.hi; each = h.each; stops = λ _. n }
+  pub agrees_less : (to : ℕ) → to ≤ mid → Agrees P from to
+  agrees_less to le = record { each = λ a lo lt. h.each a lo (omega arith) }
 
-  pub stops_past : to ≤ a → Reaches P from to a
-  stops_past le = record { lo = h.lo; hi = h.hi; each = h.each; stops = λ lt. absurd (omega arith) }
+  pub stops_here : {to : ℕ} → from ≤ mid → mid < to → (P mid → ⊥) → Stops P from to mid
+  stops_here lo hi n = record { lo = lo; hi = hi; before = h; fails = n }
 
--- two runs, one after the other
-module _ {P : ℕ → Type 0} {from mid to : ℕ} where
-  pub reaches_first : (r : ℕ) → Reaches P from mid r → mid ≤ to → r < mid → Reaches P from to r
-  reaches_first r h le lt = record { lo = h.lo; hi = omega (arith, h.hi); each = h.each; stops = λ _. h.stops lt }
+  -- two runs, one after the other
+  pub agrees_then : {to : ℕ} → Agrees P mid to → Agrees P from to
+  agrees_then k = record {
+    each = λ a lo lt. elim (dec_lt a mid) [
+      | yes less ↦ h.each a lo less
+      | no ge ↦ k.each a (omega arith) lt
+    ];
+  }
 
-  pub reaches_then : (q r : ℕ) → Reaches P from mid q → mid ≤ q → Reaches P mid to r → Reaches P from to r
-  reaches_then q r h le k =
-      record {
-        lo = omega (arith, h.lo, h.hi, k.lo);
-        hi = k.hi;
-        each = λ a lo lt. elim (dec_lt a mid) [
-          | yes less ↦ h.each a lo (omega arith)
-          | no ge ↦ k.each a (omega arith) lt
-        ];
-        stops = k.stops;
-      }
+  module _ (le : from ≤ mid) (to : ℕ) where
+    pub stops_then : {r : ℕ} → Stops P mid to r → Stops P from to r
+    stops_then k = record { lo = omega (arith, k.lo); hi = k.hi; before = agrees_then k.before; fails = k.fails }
 
-pub reaches_other : {P Q : ℕ → Type 0} {from to r : ℕ} → ((a : ℕ) → from ≤ a → a < to → P a → Q a) → ((a : ℕ) → from ≤ a → a < to → Q a → P a)
-    → Reaches P from to r → Reaches Q from to r
-reaches_other f g h =
-    record { lo = h.lo; hi = h.hi; each = λ a lo lt. f a lo (omega (arith, h.hi)) (h.each a lo lt); stops = λ lt q. h.stops lt (g _ h.lo lt q) }
+    pub first_then : (o : Option ℕ) → FirstOff P mid to o → FirstOff P from to o
+    first_then (Some r) k = stops_then k
+    first_then None k = agrees_then k
 
--- the same run counted from elsewhere
-pub reaches_moved : {P : ℕ → Type 0} {to : ℕ} (s r : ℕ) → Reaches (λ i. P (s + i)) 0 to r → Reaches P s (s + to) (s + r)
-reaches_moved {P} {to} s r h =
-    record {
-      lo = omega arith;
-      hi = omega (arith, h.hi);
-      each = λ a lo lt. let e : s + (a - s) ≡ a = omega arith in rw e at (h.each (a - s) (omega arith) (omega arith));
-      stops = λ lt. h.stops (omega arith);
-    }
+    pub spot_then : (o : Option Spot) → FirstSpot P mid to o → FirstSpot P from to o
+    spot_then (Some s) k = record { stops = stops_then k.stops; low = k.low }
+    spot_then None k = agrees_then k
+
+pub stops_first : {P : ℕ → Type 0} {from mid r : ℕ} (to : ℕ) → mid ≤ to → Stops P from mid r → Stops P from to r
+stops_first to le h = record { lo = h.lo; hi = omega (arith, h.hi); before = h.before; fails = h.fails }
+
+-- of two facts that tell the same
+module _ {P Q : ℕ → Type 0} {from to : ℕ} (f : (a : ℕ) → from ≤ a → a < to → P a → Q a) where
+  pub agrees_other : Agrees P from to → Agrees Q from to
+  agrees_other h = record { each = λ a lo lt. f a lo lt (h.each a lo lt) }
+
+  module _ (g : (a : ℕ) → from ≤ a → a < to → Q a → P a) where
+    pub stops_other : {r : ℕ} → Stops P from to r → Stops Q from to r
+    stops_other h = record { lo = h.lo; hi = h.hi; before = record { each = λ a lo lt. f a lo (omega (arith, h.hi)) (h.before.each a lo lt) }; fails = λ q. h.fails (g _ h.lo h.hi q) }
+
+    pub first_other : (o : Option ℕ) → FirstOff P from to o → FirstOff Q from to o
+    first_other (Some r) h = stops_other h
+    first_other None h = agrees_other h
+
+    pub spot_other : (o : Option Spot) → FirstSpot P from to o → FirstSpot Q from to o
+    spot_other (Some s) h = record { stops = stops_other h.stops; low = h.low }
+    spot_other None h = agrees_other h
 
 -- ---- bits
 
@@ -107,23 +116,16 @@ bit_digit l s (suc w) i h =
     ]
 
 -- two fields of one value agree at every bit, and a field of a number's value has its digits
-pub fields_agree : (xs ys : List ℕ) (from to width : ℕ) → from + width ≡ to → field xs from width ≡ field ys from width → Reaches (Same xs ys) from to to
+pub fields_agree : (xs ys : List ℕ) (from to width : ℕ) → from + width ≡ to → field xs from width ≡ field ys from width → Agrees (Same xs ys) from to
 fields_agree xs ys from to width wide e =
-    record {
-      lo = omega arith;
-      hi = omega arith;
-      each = λ a le lt. let z : from + (a - from) ≡ a = omega arith in rw z at (field_bits xs ys from from width e (a - from) (omega arith));
-      stops = λ lt. absurd (omega arith);
-    }
+    record { each = λ a le lt. let z : from + (a - from) ≡ a = omega arith in rw z at (field_bits xs ys from from width e (a - from) (omega arith)) }
 
-pub digits_agree : (xs : List ℕ) (start width value : ℕ) → field xs start width ≡ value → Reaches (Digit xs start width value) 0 width width
-digits_agree xs start width value e =
-    record {
-      lo = omega arith;
-      hi = omega arith;
-      each = λ i le lt. bit_digit xs start width i lt ∙ ap (λ (v : ℕ). v / 2 ^ (width - 1 - i) % 2) e;
-      stops = λ lt. absurd (omega arith);
-    }
+-- a bit of a field, by its address, is a digit of the number that the field holds
+pub digit_of : (xs : List ℕ) (start width value : ℕ) → field xs start width ≡ value → (a : ℕ) → start ≤ a → a < start + width → Digit xs start width value a
+digit_of xs start width value e a le lt =
+    let z : start + (a - start) ≡ a = omega arith in
+    let y : width - 1 - (a - start) ≡ start + width - 1 - a = omega arith in
+    rw (z, y) at (bit_digit xs start width (a - start) (omega arith) ∙ ap (λ (v : ℕ). v / 2 ^ (width - 1 - (a - start)) % 2) e)
 
 -- a gap of no bits
 pub gap_none : (xs ys : List ℕ) (pos gap : ℕ) → gap ≡ 0 → field xs pos gap ≡ field ys pos gap
@@ -153,29 +155,19 @@ module _ (gap width kept value : ℕ) (room : gap + width ≤ 64) (low-kept : ke
 
 -- what the search of a gap and then of a field found
 module _ (before after : List ℕ) (pos start width value : ℕ) where
-  digit_at : (i : ℕ) → Digit after start width value i → Written before after start width value (start + i)
-  digit_at i d = (λ lt. absurd (omega arith), λ _. let e : start + i - start ≡ i = omega arith in rw e d)
+  pub before_field : (r : ℕ) → Stops (Same after before) pos start r → Stops (Written before after start width value) pos (start + width) r
+  before_field r k = stops_first (start + width) (omega arith) (stops_other (λ a lo lt s. (λ _. s, λ le. absurd (omega arith))) (λ a lo lt w. w.0 lt) k)
 
-  at_digit : (i : ℕ) → Written before after start width value (start + i) → Digit after start width value i
-  at_digit i w = let e : start + i - start ≡ i = omega arith in rw e at (w.1 (omega arith))
-
-  in_before : (q : ℕ) → Reaches (Same after before) pos start q → Reaches (Written before after start width value) pos start q
-  in_before q = reaches_other (λ a lo lt s. (λ _. s, λ le. absurd (omega arith))) (λ a lo lt w. w.0 lt)
-
-  behind_it : (i : ℕ) → Reaches (Digit after start width value) 0 width i → Reaches (Written before after start width value) start (start + width) (start + i)
-  behind_it i k = reaches_moved start i (reaches_other (λ i _ _ d. digit_at i d) (λ i _ _ w. at_digit i w) k)
-
-  pub before_field : (q : ℕ) → Reaches (Same after before) pos start q → q < start → Reaches (Written before after start width value) pos (start + width) q
-  before_field q k lt = reaches_first q (in_before q k) (omega arith) lt
-
-  pub in_field_at : (q i : ℕ) → Reaches (Same after before) pos start q → start ≤ q → Reaches (Digit after start width value) 0 width i
-      → Reaches (Written before after start width value) pos (start + width) (start + i)
-  in_field_at q i k ge d = reaches_then q _ (in_before q k) ge (behind_it i d)
+  pub in_field_at : (o : Option ℕ) → pos ≤ start → Agrees (Same after before) pos start → FirstOff (Digit after start width value) start (start + width) o
+      → FirstOff (Written before after start width value) pos (start + width) o
+  in_field_at o le k d =
+      first_then (agrees_other (λ a lo lt s. (λ _. s, λ le. absurd (omega arith))) k) le (start + width) o
+      (first_other (λ a lo lt d. (λ less. absurd (omega arith), λ _. d)) (λ a lo lt w. w.1 lo) o d)
 
   pub field_whole : pos ≤ start → field after pos (start - pos) ≡ field before pos (start - pos) → field after start width ≡ value
-      → Reaches (Written before after start width value) pos (start + width) (start + width)
+      → Agrees (Written before after start width value) pos (start + width)
   field_whole le e f =
-      in_field_at start width (fields_agree after before pos start (start - pos) (omega arith) e) (omega arith) (digits_agree after start width value f)
+      in_field_at None le (fields_agree after before pos start (start - pos) (omega arith) e) (record { each = digit_of after start width value f })
 
 -- the bits of the octets from q on
 pub bit-drop : (l : List ℕ) (q a : ℕ) → bit (drop q l) a ≡ bit l (8 * q + a)
@@ -201,9 +193,8 @@ pub eight_field : (l : List ℕ) (q : ℕ) → field (take (length l - q) (drop 
 eight_field l q = rw (rest_is q l) (field_ext (drop q l) l 0 (8 * q) 64 (λ i lt. let z : 0 + i ≡ i = omega arith in rw z (bit-drop l q i)))
 
 -- and where it is the same, so is each of them
-pub eight_alike : (l m : List ℕ) → Octets l → Octets m → (q : ℕ) → field l (8 * q) 64 ≡ field m (8 * q) 64 → Reaches (Alike l m) q (q + 8) (q + 8)
-eight_alike l m o p q e =
-    record { lo = omega arith; hi = omega arith; each = each; stops = λ lt. absurd (omega arith) }
+pub eight_alike : (l m : List ℕ) → Octets l → Octets m → (q : ℕ) → field l (8 * q) 64 ≡ field m (8 * q) 64 → Agrees (Alike l m) q (q + 8)
+eight_alike l m o p q e = record { each = each }
   where
     each : (i : ℕ) → q ≤ i → i < q + 8 → Alike l m i
     each i le lt =
@@ -214,91 +205,53 @@ eight_alike l m o p q e =
         ∙ octet_field m i p
 
 -- the bits of octets that are the same
-pub alike_bits : (l m : List ℕ) (from to q : ℕ) → Upto (Alike l m) from to q → Upto (Same l m) (8 * from) (8 * to) (8 * q)
-alike_bits l m from to q h =
+pub alike_bits : (l m : List ℕ) (from to : ℕ) → Agrees (Alike l m) from to → Agrees (Same l m) (8 * from) (8 * to)
+alike_bits l m from to h =
     record {
-      lo = omega (arith, h.lo);
-      hi = omega (arith, h.hi);
       each = λ a lo lt.
           let z : 8 * (a / 8) + a % 8 ≡ a = omega arith in
           rw z at (same_octet l m (a / 8) (h.each (a / 8) (omega arith) (omega arith)) (a % 8) (omega arith));
     }
 
-pub alike_passed : (l m : List ℕ) (n q : ℕ) → Upto (Alike l m) 0 n q → Passed (λ j. eqb (get_or l j 0) (get_or m j 0)) n q
-alike_passed l m n q h = record { within = h.hi; each = λ j lt. eq-eqb (get_or l j 0) (get_or m j 0) (h.each j (omega arith) lt) }
-
 module _ (l m : List ℕ) (q : ℕ) where
-  pub octet_agrees : get_or l q 0 ≡ get_or m q 0 → Reaches (λ b. Same l m (8 * q + b)) 0 8 8
-  octet_agrees e = record { lo = omega arith; hi = omega arith; each = λ b _ lt. same_octet l m q e b lt; stops = λ lt. absurd (omega arith) }
+  pub octet_agrees : get_or l q 0 ≡ get_or m q 0 → Agrees (λ b. Same l m (8 * q + b)) 0 8
+  octet_agrees e = record { each = λ b _ lt. same_octet l m q e b lt }
 
-  pub octet_part : (r : ℕ) → Reaches (Same (take (length l - q) (drop q l)) (take (length m - q) (drop q m))) 0 8 r → Reaches (λ b. Same l m (8 * q + b)) 0 8 r
-  octet_part r h =
-      reaches_other (λ a _ _ e. sym (bit-drop l q a) ∙ e ∙ bit-drop m q a) (λ a _ _ e. bit-drop l q a ∙ e ∙ sym (bit-drop m q a))
+  pub octet_part : (o : Option ℕ) → FirstOff (Same (take (length l - q) (drop q l)) (take (length m - q) (drop q m))) 0 8 o
+      → FirstOff (λ b. Same l m (8 * q + b)) 0 8 o
+  octet_part o h =
+      first_other (λ a _ _ e. sym (bit-drop l q a) ∙ e ∙ bit-drop m q a) (λ a _ _ e. bit-drop l q a ∙ e ∙ sym (bit-drop m q a)) o
       (rw (rest_is q l, rest_is q m) at h)
 
--- an upper end for both, as it is reached
-module _ {P : ℕ → Type 0} {from to mid end q : ℕ} (h : Upto P from to mid) (k : Reaches P mid end q) (le : end ≤ to) where
-  pub reached_past : end ≤ q → Upto P from to end
-  reached_past ge =
-      record {
-        lo = omega (arith, h.lo, k.lo, k.hi);
-        hi = le;
-        each = λ a lo lt. elim (dec_lt a mid) [
-          | yes less ↦ h.each a lo less
-          | no more ↦ k.each a (omega arith) (omega arith)
-        ];
-      }
-
-  pub reached_here : q < end → Reaches P from to q
-  reached_here lt =
-      record {
-        lo = omega (arith, h.lo, k.lo);
-        hi = omega arith;
-        each = λ a lo less. elim (dec_lt a mid) [
-          | yes less ↦ h.each a lo less
-          | no ge ↦ k.each a (omega arith) (omega arith)
-        ];
-        stops = λ _. k.stops lt;
-      }
-
 -- one octet more
-module _ {P : ℕ → Type 0} {from octets q r : ℕ} (h : Upto P from (8 * octets) (8 * q)) (lt : q < octets) (k : Reaches (λ b. P (8 * q + b)) 0 8 r) where
-  pub octet_past : 8 ≤ r → Upto P from (8 * octets) (8 * (q + 1))
-  octet_past ge =
-      let e : 8 * q + 8 ≡ 8 * (q + 1) = omega arith in
-      rw e at (reached_past h (reaches_moved (8 * q) r k) (omega arith) (omega arith))
+module _ {P : ℕ → Type 0} (from q : ℕ) (h : Agrees P (8 * from) (8 * q)) where
+  pub octet_past : Agrees (λ b. P (8 * q + b)) 0 8 → Agrees P (8 * from) (8 * (q + 1))
+  octet_past k =
+      agrees_then h (record {
+        each = λ a lo lt.
+            let e : 8 * q + (a - 8 * q) ≡ a = omega arith in
+            rw e at (k.each (a - 8 * q) (omega arith) (omega arith));
+      })
 
-  pub octet_here : r < 8 → Spotted P from (8 * octets) (record { octet = q; bit = r })
-  octet_here less = record { reaches = reached_here h (reaches_moved (8 * q) r k) (omega arith) (omega arith); low = less }
-
-pub octets_all : {P : ℕ → Type 0} {from octets q : ℕ} → Upto P from (8 * octets) (8 * q) → octets ≤ q → Spotted P from (8 * octets) (record { octet = q; bit = 0 })
-octets_all {P} {from} {octets} {q} h le =
-    let e : 8 * q + 0 ≡ 8 * q = omega arith in
-    record { reaches = rw e (stops_past h (omega arith)); low = omega arith }
+  pub octet_here : (octets r : ℕ) → from ≤ q → q < octets → Stops (λ b. P (8 * q + b)) 0 8 r → Spotted P (8 * from) (8 * octets) (record { octet = q; bit = r })
+  octet_here octets r le lt k =
+      record {
+        stops = stops_then h (omega arith) (8 * octets) (record {
+          lo = omega arith;
+          hi = omega (arith, k.hi);
+          before = record {
+            each = λ a lo less.
+                let e : 8 * q + (a - 8 * q) ≡ a = omega arith in
+                rw e at (k.before.each (a - 8 * q) (omega arith) (omega arith));
+          };
+          fails = k.fails;
+        });
+        low = k.hi;
+      }
 
 -- an address as a spot
-pub spot_of : {P : ℕ → Type 0} {from to : ℕ} (a : ℕ) → Reaches P from to a → Spotted P from to (record { octet = a / 8; bit = a % 8 })
-spot_of a h =
-    let e : 8 * (a / 8) + a % 8 ≡ a = omega arith in
-    record { reaches = rw e h; low = omega arith }
-
-pub spot_then : {P : ℕ → Type 0} {from mid to : ℕ} (s : Spot) (q : ℕ) → Reaches P from mid q → mid ≤ q → Spotted P mid to s → Spotted P from to s
-spot_then s q h le k = record { reaches = reaches_then q _ h le k.reaches; low = k.low }
-
-pub spot_from : {P : ℕ → Type 0} {from mid to : ℕ} (s : Spot) → Upto P from to mid → Spotted P mid to s → Spotted P from to s
-spot_from {P} {from} {mid} {to} s h k =
-    record {
-      reaches = record {
-        lo = omega (arith, h.lo, k.reaches.lo);
-        hi = k.reaches.hi;
-        each = λ a lo lt. elim (dec_lt a mid) [
-          | yes less ↦ h.each a lo less
-          | no ge ↦ k.reaches.each a (omega arith) lt
-        ];
-        stops = k.reaches.stops;
-      };
-      low = k.low;
-    }
+pub spotted : {P : ℕ → Type 0} {from to r : ℕ} {s : Spot} → 8 * s.octet + s.bit ≡ r → s.bit < 8 → Stops P from to r → Spotted P from to s
+spotted e low h = record { stops = rw e h; low = low }
 
 -- ---- what marshalling gives, bit by bit
 
@@ -326,13 +279,10 @@ module _ (l : SignalList) (h : Kept l) (store : List ℕ) (now : ℕ) (before af
   first_between = record { behind = λ j lt. absurd (omega arith); ahead = λ j _ _. omega arith }
 
   -- past the last route
-  pub rest_spotted : (r pos to : ℕ) → l.routes ≤ r → Between l r pos → (s : Spot) → Spotted (Same after before) pos to s
-      → Spotted (Same after (marshalled l store now before l.routes)) pos to s
-  rest_spotted r pos to le b s k =
-      record {
-        reaches = reaches_other (λ a lo less e. e ∙ sym (in_gap r pos b a lo (none a))) (λ a lo less e. e ∙ in_gap r pos b a lo (none a)) k.reaches;
-        low = k.low;
-      }
+  pub rest_spotted : (r pos to : ℕ) → l.routes ≤ r → Between l r pos → (o : Option Spot) → FirstSpot (Same after before) pos to o
+      → FirstSpot (Same after (marshalled l store now before l.routes)) pos to o
+  rest_spotted r pos to le b =
+      spot_other (λ a lo less e. e ∙ sym (in_gap r pos b a lo (none a))) (λ a lo less e. e ∙ in_gap r pos b a lo (none a))
     where
       none : (a j : ℕ) → r ≤ j → j < l.routes → a < (l.route j).start
       none a j ge lt = absurd (omega arith)
@@ -347,73 +297,51 @@ module _ (l : SignalList) (h : Kept l) (store : List ℕ) (now : ℕ) (before af
         by (inl e) = let less' : a < (l.route r).start = omega (arith, es) in rw e at less'
         by (inr less') = omega (arith, es, routes_apart l h r j less' lt')
 
-    digit : (i : ℕ) → i < width → bit (marshalled l store now before l.routes) (start + i) ≡ value / 2 ^ (width - 1 - i) % 2
-    digit i less =
-        bit_digit (marshalled l store now before l.routes) start width i less
-        ∙ ap (λ (v : ℕ). v / 2 ^ (width - 1 - i) % 2) (rw (es, ew, ev) (each_route l h store now before fits r lt))
+    in_field : (a : ℕ) → start ≤ a → a < start + width → Digit (marshalled l store now before l.routes) start width value a
+    in_field = digit_of (marshalled l store now before l.routes) start width value (rw (es, ew, ev) (each_route l h store now before fits r lt))
 
-    in_field : (a : ℕ) → start ≤ a → a < start + width → bit (marshalled l store now before l.routes) a ≡ value / 2 ^ (width - 1 - (a - start)) % 2
-    in_field a le less = let z : start + (a - start) ≡ a = omega arith in rw z at (digit (a - start) (omega arith))
+    to : (a : ℕ) → pos ≤ a → a < start + width → Written before after start width value a → Same after (marshalled l store now before l.routes) a
+    to a lo less w = elim (dec_lt a start) [
+      | yes lt ↦ w.0 lt ∙ sym (in_gap r pos b a lo (far a lt))
+      | no ge ↦ w.1 (omega arith) ∙ sym (in_field a (omega arith) less)
+    ]
 
-    pub route_reaches : (q : ℕ) → Reaches (Written before after start width value) pos (start + width) q
-        → Reaches (Same after (marshalled l store now before l.routes)) pos (route_end l.signal (l.route r)) q
-    route_reaches q k =
-        let e : start + width ≡ route_end l.signal (l.route r) = omega (arith, es, ew) in
-        rw e at (reaches_other to from k)
-      where
-        to : (a : ℕ) → pos ≤ a → a < start + width → Written before after start width value a → Same after (marshalled l store now before l.routes) a
-        to a lo less w = elim (dec_lt a start) [
-          | yes lt ↦ w.0 lt ∙ sym (in_gap r pos b a lo (far a lt))
-          | no ge ↦
-              let i : start + (a - start) ≡ a = omega arith in
-              rw i at (w.1 (omega arith)) ∙ sym (in_field a (omega arith) less)
-        ]
+    from : (a : ℕ) → pos ≤ a → a < start + width → Same after (marshalled l store now before l.routes) a → Written before after start width value a
+    from a lo less s = (λ lt. s ∙ in_gap r pos b a lo (far a lt), λ le. s ∙ in_field a le less)
 
-        from : (a : ℕ) → pos ≤ a → a < start + width → Same after (marshalled l store now before l.routes) a → Written before after start width value a
-        from a lo less s = (
-          λ lt. s ∙ in_gap r pos b a lo (far a lt),
-          λ le. let i : start + (a - start) ≡ a = omega arith in rw i (s ∙ in_field a le less),
-        )
+    pub route_agrees : Agrees (Written before after start width value) pos (start + width) → Agrees (Same after (marshalled l store now before l.routes)) pos (start + width)
+    route_agrees = agrees_other to
+
+    pub route_stops : (q : ℕ) → Stops (Written before after start width value) pos (start + width) q
+        → Stops (Same after (marshalled l store now before l.routes)) pos (start + width) q
+    route_stops q = stops_other to from
 
 -- ---- where the first wrong bit lies
 
 module _ (l : SignalList) (store : List ℕ) (now a : ℕ) where
   -- no route ends past bit 2048
-  pub far_outside : Kept l → 2048 ≤ a → located l store now a ≡ outside
-  far_outside h le = in_none l a h store now (λ r q. omega (arith, (h.route r q.0).ends, q.2))
+  pub far_outside : Kept l → 2048 ≤ a → outside ≡ located l store now a
+  far_outside h le = sym (in_none l a h store now (λ r q. omega (arith, (h.route r q.0).ends, q.2)))
 
-  module _ (r : ℕ) (e : r ≡ route_with l a) where
-    pub no_route : l.routes ≤ r → located l store now a ≡ outside
-    unfolding located
-    no_route le = rw (← e, le-ltb r l.routes le) refl
+  -- a loop over the routes found it in route r, or in none
+  pub no_route : {r : ℕ} → Passed (λ j. not (lies_in l a j)) l.routes r → l.routes ≤ r → outside ≡ located l store now a
+  unfolding located route_with
+  no_route {r} p le = rw (← fails_nowhere p le, le-ltb l.routes l.routes (omega arith)) refl
 
-    pub that_route : (reason : ℕ) → r < l.routes → reason ≡ (routed l store now r).reason → located l store now a ≡ in_route r reason
-    unfolding located
-    that_route reason lt q = rw (← e, lt-ltb r l.routes lt, q) refl
+  pub that_route : {r reason : ℕ} → Passed (λ j. not (lies_in l a j)) l.routes r → r < l.routes → true ≡ lies_in l a r → reason ≡ (routed l store now r).reason
+      → in_route r reason ≡ located l store now a
+  unfolding located route_with
+  that_route {r} {reason} p lt lies q = rw (← fails_here p lt (ap not lies) refl, lt-ltb r l.routes lt, q) refl
 
-module _ (l : SignalList) (store : List ℕ) (now : ℕ) (ours after : List ℕ) (s : Spot) (h : Spotted (Same after ours) 0 (8 * length after) s) where
-  pub found_right : length after ≤ s.octet → finding l store now ours after ≡ right
-  found_right le = (right_exactly l store now ours after).1 (λ a lt. h.reaches.each a (omega arith) (omega arith))
+module _ (l : SignalList) (store : List ℕ) (now : ℕ) (ours after : List ℕ) where
+  pub found_right : Agrees (Same after ours) 0 (8 * length after) → right ≡ finding l store now ours after
+  found_right h = sym ((right_exactly l store now ours after).1 (λ a lt. h.each a (omega arith) lt))
 
-  pub found_wrong : s.octet < length after → finding l store now ours after ≡ wrong (8 * s.octet + s.bit) (located l store now (8 * s.octet + s.bit))
-  found_wrong lt =
-      let less : 8 * s.octet + s.bit < 8 * length after = omega (arith, h.low) in
-      named_is l store now ours after (8 * s.octet + s.bit) less (h.reaches.stops less) (λ b below. h.reaches.each b (omega arith) below)
-
--- ---- the whole call
-
--- the paper's `checking_by` as one row of tests
-unfoldable pub in_a_row : ℕ → List ℕ → Step → SignalList → Answer Finding
-in_a_row k last s l =
-    refuse_if (not (is_store s.store)) 5 0
-    (refuse_if (some (is_short l (length s.before)) l.routes) 12 0
-    (refuse_if (not (eqb (length s.after) (length s.before))) 36 0
-    (refuse_if (not (follows k last s.before)) 37 0
-    (gives (finding l s.store s.clock (marshalled l s.store s.clock s.before l.routes) s.after)))))
-
-pub row_is : (k : ℕ) (last : List ℕ) (s : Step) (l : SignalList) (a : Answer Finding) → a ≡ in_a_row k last s l → a ≡ checking_by k last s l
-unfolding in_a_row
-row_is k last s l a e = e ∙ past _ 5 0 _ _ _ (past _ 12 0 _ _ _ refl)
+  pub found_wrong : (s : Spot) (o : Option Routed) → Spotted (Same after ours) 0 (8 * length after) s → place_in o ≡ located l store now (8 * s.octet + s.bit)
+      → finding_of (Some (record { octet = s.octet; bit = s.bit; route = o })) ≡ finding l store now ours after
+  found_wrong s o h e =
+      ap (wrong (8 * s.octet + s.bit)) e
+      ∙ sym (named_is l store now ours after (8 * s.octet + s.bit) h.stops.hi h.stops.fails (λ b below. h.stops.before.each b (omega arith) below))
 
 -- ---- following on
 
@@ -422,6 +350,18 @@ module _ (xs ys : List ℕ) where
   unfolding same_octets
   same_not ne = rw (ne_eqb (length xs) (length ys) ne) refl
 
-  pub same_by : (b : Bool) → length xs ≡ length ys → b ≡ all (λ i. eqb (get_or xs i 0) (get_or ys i 0)) (length xs) → b ≡ same_octets xs ys
-  unfolding same_octets
-  same_by b e q = rw (eq-eqb (length xs) (length ys) e) q
+  -- and where they are as long and agree before `from`, the test of the rest tells
+  module _ (from : ℕ) (long : length xs ≡ length ys) (le : from ≤ length xs) (h : Agrees (Alike xs ys) 0 from) where
+    rest_alike : take (length xs - from) (drop from xs) ≡ take (length ys - from) (drop from ys) → xs ≡ ys
+    rest_alike e = ext_get_or 0 xs ys long (λ i lt. elim (dec_lt i from) [
+      | yes less ↦ h.each i (omega arith) less
+      | no ge ↦
+          let z : from + (i - from) ≡ i = omega arith in
+          let d : drop from xs ≡ drop from ys = sym (rest_is from xs) ∙ e ∙ rest_is from ys in
+          rw z at (sym (get_or-drop from xs (i - from) 0) ∙ ap (λ (l : List ℕ). get_or l (i - from) 0) d ∙ get_or-drop from ys (i - from) 0)
+    ])
+
+    pub same_rest : {b : Bool} → b ≡ pointwise eqb (take (length xs - from) (drop from xs)) (take (length ys - from) (drop from ys)) → b ≡ same_octets xs ys
+    same_rest {b} e =
+        same_from_decides b (same_octets xs ys)
+        (Decides-like b rest_alike (ap (λ (l : List ℕ). take (length l - from) (drop from l))) (slice_eq-Decides Decides-eqb _ _ b e)) (same_octets_lem xs ys)

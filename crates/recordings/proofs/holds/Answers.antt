@@ -1,8 +1,6 @@
 -- `recordings::holds` meets its contract. Assumes nothing.
 use mathlib.Core.Path.{sym, ◌∙◌}
-use mathlib.Core.Bool.{false≢true}
 use native.Mathlib.Omega.{arith}
-use borrow.Author.Rules.{rules}
 use borrow.Author.Tests.{eqb-true}
 use Rattle.recordings.proofs.Laws.{gap_none, joined_fits, parts_agree}
 use Rattle.recordings.proofs.holds.Goals as goal
@@ -11,18 +9,9 @@ pub returns-then-gap-eq0 : goal.returns-then-gap-eq0
 returns-then-gap-eq0 c e = (gap_none _ _ _ _ c.if-gap-eq0.true, sym c.read_field.ensures.value ∙ eqb-true _ _ e)
 
 pub overflow_add-result : goal.overflow_add-result
-overflow_add-result c =
-    let k = c in
-    let s = k in
-    record { fits = joined_fits _ _ _ _ k.if-gap-width-gt64.false k.read_field-kept.ensures.small s.requires.4 }
+overflow_add-result c = record { fits = joined_fits _ _ _ _ c.if-gap-width-gt64.false c.read_field-kept.ensures.small c.requires.4 }
 
 pub returns : goal.returns
 returns c e =
-    let k = c in
-    let s = k in
-    parts_agree _ _ _ _ k.if-gap-width-gt64.false k.read_field-kept.ensures.small s.requires.4 _ _ _ _ _ (omega arith) k.read_field-kept.ensures.value
+    parts_agree _ _ _ _ c.if-gap-width-gt64.false c.read_field-kept.ensures.small c.requires.4 _ _ _ _ _ (omega arith) c.read_field-kept.ensures.value
     c.read_field-2.ensures.value (eqb-true _ _ e)
-
-pub returns-then-gap-width-gt64 : goal.returns-then-gap-width-gt64
-returns-then-gap-width-gt64 c e =
-    absurd (false≢true e)

