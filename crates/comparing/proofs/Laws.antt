@@ -8,7 +8,7 @@ use native.Mathlib.Nat.{le_refl}
 use native.Mathlib.Omega.{arith}
 use lib.Dec.{ltb, leb, eqb}
 use lib.Pow.{pow_mono}
-use borrow.Author.Tests.{ltb-true, ltb-false, leb-false, not-true, not-false, lt-ltb, le-ltb, le-leb, lt-leb, eq-eqb, ne_eqb}
+use borrow.Author.Tests.{ltb-true, ltb-false, not-true, not-false, lt-ltb, le-ltb, le-leb, lt-leb, eq-eqb, ne_eqb}
 use Rattle.paper.specs.Answer.{Sought, found, nothing}
 use Rattle.paper.specs.First.{some, next}
 use Rattle.paper.specs.Search.{Cut}
@@ -16,13 +16,13 @@ use Rattle.paper.specs.Accepted.{Kept}
 use Rattle.paper.specs.SignalList.{Signal as PaperSignal, Route, SignalList, has_codes, known_in, knows, place_of, version, OfTwo}
 use Rattle.paper.specs.Broken.{broken}
 use Rattle.paper.specs.Pairs.{Keyed, Pair, has, index, signal_key, signal_keys, signals_of, Rising, next_pair}
-use Rattle.paper.specs.Comparing.{Range as PaperRange, Changed as PaperChanged, starts, past, tells, change_at, differs_in, signal_fields, gained, codes_compared, signal_differs, signal_change, keep_tests, breaks, routes_of, route_keys, route_fields, route_differs, route_change, signal_changed, route_changed, next_in, next_signal, next_route, next_gained}
+use Rattle.paper.specs.Comparing.{Range as PaperRange, Changed as PaperChanged, starts, past, tells, change_at, differs_in, signal_fields, gained, codes_compared, signal_differs, signal_change, keep_tests, breaks, routes_of, route_keys, route_fields, route_differs, route_change, next_in, next_gained}
 use Rattle.bools.proofs.Tests.{neither, other}
 use Rattle.paper.proofs.FirstLaws.{is_from, some_true, some_false, some_more}
 use Rattle.paper.proofs.PassingLaws.{next_here, next_past, next_least, next_before, next_passes}
 use Rattle.paper.proofs.PairLaws.{has_index, index_none}
 use Rattle.paper.proofs.ListLaws.{routes_apart}
-use Rattle.std.specs.Prelude.{Option, Result}
+use Rattle.std.specs.Prelude.{Option, Some, None, Result}
 use Rattle.refusals.specs.declared.ListRefused.{ListRefused}
 use Rattle.refusals.proofs.WrittenLaws.{one_of_two, sought_told, sought_told_of}
 use Rattle.finding.specs.declared.Reached.{Reached}
@@ -30,9 +30,11 @@ use Rattle.finding.specs.Finding.{Reaches}
 use Rattle.finding.proofs.Laws.{reached_from, reached_index}
 use Rattle.known.specs.Known.{code_keys, Own}
 use Rattle.known.proofs.Laws.{ordered_of, is_within, has_some, in_range_lem, cut_signal, outside, knows_all, knows_below}
+use Rattle.pairing.specs.declared.Pair.{Pair as CodePair}
+use Rattle.pairing.specs.Pairing.{pair_of}
 use Rattle.comparing.specs.declared.Changed.{Changed}
 use Rattle.comparing.specs.declared.Range.{Range}
-use Rattle.comparing.specs.Comparing.{Next, Fresh, wanted, range_from, numbers_differ, kept_as, added_as, told_of, PairThere, pair_in, paired_in, paired_routes}
+use Rattle.comparing.specs.Comparing.{Passed, none_passed, one_passed, FirstTold, Next, Fresh, wanted, range_from, numbers_differ, kept_as, added_as, told_of, PairThere, pair_in, paired_in, paired_routes}
 use Rattle.comparing.specs.Comparing.{changed_of, range_of, next_changed_of, next_range_of, changes_answer, gained_answer}
 
 -- ---- the codes of a signal, from one on
@@ -299,6 +301,28 @@ module _ {A : Type 0} (t u : Keyed) (top : ℕ) (test : ℕ → Bool) (none : (q
           ];
         }
 
+-- where the pairs that are met are the next of two, and of each is told what the test says, what is told first is the next at which it passes
+pub first_told_is : (t u : Keyed) (top : ℕ) (test : ℕ → Bool) (none : (q : ℕ) → in_one t u q ≡ false → test q ≡ false) (at : ℕ → PaperChanged)
+    (meets : ℕ → Option CodePair → Type 0) (tells : CodePair → Option Changed → Type 0) (from : ℕ)
+    → ((key : ℕ) (p : CodePair) → meets key (Some p) → found (pair_of p) ≡ paired_in t u top key)
+    → ((key : ℕ) → meets key None → nothing ≡ paired_in t u top key)
+    → ((p : CodePair) (o : Option Changed) → PairThere t u (pair_of p) → tells p o → next_changed_of o ≡ cond (test p.key) (found (at p.key)) nothing)
+    → (r : Option Changed) → FirstTold meets tells from r → next_changed_of r ≡ next_in test top at from
+first_told_is t u top test none at meets tells from some_met none_met tell = by
+  where
+    cleared : (key : ℕ) → Passed meets tells from key → Clear test from key
+    cleared key none_passed = record { least = le_refl from; each = λ q lo hi. absurd (omega arith) }
+    cleared key (one_passed k p before m d) =
+        let w = met t u top k (pair_of p) (some_met k p m) in
+        clear_more t u top test none at from k (cleared k before) (pair_of p) w (tell p None w.there d)
+
+    by : (r : Option Changed) → FirstTold meets tells from r → next_changed_of r ≡ next_in test top at from
+    by None w = none_told t u top test none at from w.0 (cleared w.0 w.1.0) (none_met w.0 w.1.1)
+    by (Some x) w =
+        let p = w.1.0 in
+        let m = met t u top w.0 (pair_of p) (some_met w.0 p w.1.1.1) in
+        told_next t u top test none at from w.0 (cleared w.0 w.1.1.0) (pair_of p) m (changed_of x) (tell p (Some x) m.there w.1.1.2)
+
 module _ (a b : SignalList) (from : ℕ) (p : Pair) where
   pub signal_met : found p ≡ next_pair a b from → Met (signals_of a) (signals_of b) signal_keys from p
   unfolding next_pair
@@ -368,15 +392,6 @@ module _ (a b : SignalList) (q : ℕ) where
   pub route_untold : in_one (routes_of a) (routes_of b) q ≡ false → tells (route_change a b q) ≡ false
   unfolding route_change
   route_untold e = neither_tells (routes_of a) (routes_of b) (route_differs a b) q e
-
-module _ (a b : SignalList) (from key : ℕ) where
-  pub signal_none : Clear (λ q. tells (signal_change a b q)) from key → nothing ≡ next_pair a b key → nothing ≡ next_signal a b from
-  unfolding next_pair next_signal
-  signal_none c e = none_told (signals_of a) (signals_of b) signal_keys _ (signal_untold a b) (signal_changed a b) from key c e
-
-  pub route_none : Clear (λ q. tells (route_change a b q)) from key → nothing ≡ paired_routes a b key → nothing ≡ next_route a b from
-  unfolding paired_routes next_route
-  route_none c e = none_told (routes_of a) (routes_of b) route_keys _ (route_untold a b) (route_changed a b) from key c e
 
 -- ---- the rule of extending that a signal breaks
 

@@ -1,5 +1,5 @@
 -- What the parts of a comparison answer, and the paper's answer for each case of the code's.
-use Rattle.std.specs.Prelude.{ℕ, ◌+◌, ◌≤◌, ◌<◌, ◌≡◌, ◌⊎◌, Bool, true, false, not, cond, ◌||◌, [], ◌∷◌, Option, Result, ltb, eqb}
+use Rattle.std.specs.Prelude.{ℕ, ◌+◌, ◌≤◌, ◌<◌, ◌≡◌, ◌⊎◌, Bool, true, false, not, cond, ◌||◌, [], ◌∷◌, Option, Some, None, Result, ltb, eqb}
 use Rattle.paper.specs.Answer.{Sought, found, nothing}
 use Rattle.paper.specs.SignalList.{Signal, SignalList, knows, OfTwo}
 use Rattle.paper.specs.Broken.{broken}
@@ -7,6 +7,7 @@ use Rattle.paper.specs.Pairs.{Keyed, Pair, has, index}
 use Rattle.paper.specs.Comparing.{Range as PaperRange, Changed as PaperChanged, starts, range_at, tells, gained, signal_differs, signal_change, keep_tests, signal_changed, routes_of, route_keys, route_change, route_changed, next_in}
 use Rattle.refusals.specs.declared.ListRefused.{ListRefused}
 use Rattle.refusals.specs.Outcome.{sought_of, of_two_answer}
+use Rattle.pairing.specs.declared.Pair.{Pair as CodePair}
 use Rattle.comparing.specs.declared.Stretch.{Stretch}
 use Rattle.comparing.specs.declared.Compared.{Compared}
 use Rattle.comparing.specs.declared.Changed.{Changed}
@@ -85,6 +86,18 @@ paired_in t u top from = next_in (λ q. has t q || has u q) top (pair_in t u) fr
 
 unfoldable pub paired_routes : SignalList → SignalList → ℕ → Sought Pair
 paired_routes a b from = paired_in (routes_of a) (routes_of b) route_keys from
+
+-- ---- from a key on, one pair after the other; `meets` and `tells` say what two calls may answer
+
+-- there was nothing to tell of those that were met, and the next is looked for from `key` on
+pub data Passed (meets : ℕ → Option CodePair → Type 0) (tells : CodePair → Option Changed → Type 0) (from : ℕ) : ℕ → Type 0 where
+  none_passed : Passed meets tells from from
+  one_passed : (key : ℕ) (p : CodePair) → Passed meets tells from key → meets key (Some p) → tells p None → Passed meets tells from (p.key + 1)
+
+-- what is told of the pair met then, or that none is left
+abbrev pub FirstTold : (ℕ → Option CodePair → Type 0) → (CodePair → Option Changed → Type 0) → ℕ → Option Changed → Type 0
+FirstTold meets tells from None = (key : ℕ) × (Passed meets tells from key × meets key None)
+FirstTold meets tells from (Some c) = (key : ℕ) × ((p : CodePair) × (Passed meets tells from key × meets key (Some p) × tells p (Some c)))
 
 -- ---- the answers
 

@@ -1,9 +1,9 @@
 // What differs between two lists, one difference after the other. What has a `requires` is inner: its caller in the library shows it.
 #![tactic(auto)]
 
-ghost use Rattle.std.specs.Prelude.{◌≡◌, ◌<◌, ◌≤◌};
+ghost use Rattle.std.specs.Prelude.{◌≡◌, ◌<◌, ◌≤◌, ℕ, Some};
 ghost use Rattle.paper.specs.First.{some};
-ghost use Rattle.paper.specs.Pairs.{index, signal_key, signals_of};
+ghost use Rattle.paper.specs.Pairs.{index, signal_key, signal_keys, signals_of};
 ghost use Rattle.paper.specs.Comparing.{gained, codes_compared, routes_of, route_keys, route_differs};
 ghost use Rattle.paper.specs.Comparing.{next_signal, next_route, next_gained, signal_changes, route_changes, codes_gained};
 ghost use Rattle.entries.specs.Entries.{signal_of};
@@ -11,7 +11,7 @@ ghost use Rattle.lists.specs.Listed.{list_as};
 ghost use Rattle.known.specs.Known.{Entries};
 ghost use Rattle.finding.specs.Finding.{Reaches};
 ghost use Rattle.pairing.specs.Pairing.{pair_of, next_of};
-ghost use Rattle.comparing.specs.Comparing.{Steady, Next, Fresh, wanted, numbers_differ, kept_as, ComparedAs, added_as, told_of, PairThere};
+ghost use Rattle.comparing.specs.Comparing.{FirstTold, Steady, Next, Fresh, wanted, numbers_differ, kept_as, ComparedAs, added_as, told_of, PairThere};
 ghost use Rattle.comparing.specs.Comparing.{signal_told_at, route_told_at, paired_routes, range_from};
 ghost use Rattle.comparing.specs.Comparing.{changed_of, next_changed_of, changes_answer, next_range_of, gained_answer};
 
@@ -222,18 +222,35 @@ fn signal_told(a: &AcceptedList, b: &AcceptedList, p: Pair) -> Option<Changed>
     None
 }
 
-// Inner: the next signal at the key `from` or above that was added, removed or changed.
-pub fn next_signal(a: &AcceptedList, b: &AcceptedList, from: usize) -> Option<Changed>
-    ensures { next_changed_of result ≡ next_signal (list_as a.now) (list_as b.now) from }
+// The first that there is to tell from a key on: `next` answers the pair at a key or the next above it, `told` what there is to tell of a pair.
+fn first_told<N: Fn(usize) -> Option<Pair>, T: Fn(Pair) -> Option<Changed>>(
+    from: usize,
+    next: N,
+    told: T,
+) -> Option<Changed>
+    requires next { N.IsAlwaysCallable next }
+    requires told { (key : ℕ) (p : _) → N.post next key (Some p) → T.pre told p × (key ≤ p.key) × (p.key < signal_keys) }
+    ensures { FirstTold (N.post next) (T.post told) from result }
 {
     let mut key = from;
-    while let Some(p) = pairing::next_pair(a, b, key) {
-        if let Some(c) = signal_told(a, b, p) {
+    while let Some(p) = next(key) {
+        if let Some(c) = told(p) {
             return Some(c);
         }
         key = p.key + 1;
     }
     None
+}
+
+// Inner: the next signal at the key `from` or above that was added, removed or changed.
+pub fn next_signal(a: &AcceptedList, b: &AcceptedList, from: usize) -> Option<Changed>
+    ensures { next_changed_of result ≡ next_signal (list_as a.now) (list_as b.now) from }
+{
+    first_told(
+        from,
+        |key| pairing::next_pair(a, b, key),
+        |p| signal_told(a, b, p),
+    )
 }
 
 // The first route whose destination is `from` or above.
@@ -303,14 +320,7 @@ fn route_told(a: &AcceptedList, b: &AcceptedList, p: Pair) -> Option<Changed>
 pub fn next_route(a: &AcceptedList, b: &AcceptedList, from: usize) -> Option<Changed>
     ensures { next_changed_of result ≡ next_route (list_as a.now) (list_as b.now) from }
 {
-    let mut key = from;
-    while let Some(p) = next_routes(a, b, key) {
-        if let Some(c) = route_told(a, b, p) {
-            return Some(c);
-        }
-        key = p.key + 1;
-    }
-    None
+    first_told(from, |key| next_routes(a, b, key), |p| route_told(a, b, p))
 }
 
 // Where a range of codes gained that began before `from` has ended.

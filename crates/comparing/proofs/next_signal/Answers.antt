@@ -1,25 +1,28 @@
-use native.Mathlib.Omega.{arith}
-use Rattle.paper.specs.Comparing.{signal_changed, next_signal}
-use Rattle.comparing.proofs.Laws.{signal_met, signal_none, told_next, clear_more, signal_untold}
+-- `comparing::next_signal` meets its contract: at every key passed nothing is told. Assumes nothing.
+use borrow.Author.Rules.{rules}
+use mathlib.Core.Path.{◌≡◌}
+use Rattle.paper.specs.Answer.{found}
+use Rattle.paper.specs.Pairs.{signals_of, signal_keys, next_pair}
+use Rattle.paper.specs.Comparing.{tells, signal_change, signal_changed, next_signal}
+use Rattle.lists.specs.Listed.{list_as}
+use Rattle.pairing.specs.Pairing.{pair_of}
+use Rattle.comparing.specs.Comparing.{PairThere}
+use Rattle.comparing.proofs.Laws.{first_told_is, signal_met, signal_untold}
 use Rattle.comparing.proofs.next_signal.Goals as goal
 
-pub signal_told-requires : goal.signal_told-requires
-signal_told-requires c = (signal_met _ _ _ _ c.in-Some.ensures).there
-
-pub returns-in-Some-signal_told : goal.returns-in-Some-signal_told
-unfolding next_signal
-returns-in-Some-signal_told c =
-    told_next _ _ _ _ (signal_untold _ _) (signal_changed _ _) _ _ c.loop-p.invariant _ (signal_met _ _ _ _ c.in-Some.ensures) _ c.in-Some-signal_told.ensures
-
-pub overflow_add-key : goal.overflow_add-key
-overflow_add-key c = omega (arith, (signal_met _ _ _ _ c.in-Some.ensures).small)
-
-pub loop-p-smaller : goal.loop-p-smaller
-loop-p-smaller c = let m = signal_met _ _ _ _ c.in-Some.ensures in omega (arith, m.least, m.small)
-
-pub loop-p-preserved : goal.loop-p-preserved
-loop-p-preserved c =
-    clear_more _ _ _ _ (signal_untold _ _) (signal_changed _ _) _ _ c.loop-p.invariant _ (signal_met _ _ _ _ c.in-Some.ensures) c.in_default-signal_told.ensures
+pub first_told-requires-clause-told : goal.first_told-requires-clause-told
+first_told-requires-clause-told c = λ key p m.
+    let a = list_as c.args.a.now in
+    let b = list_as c.args.b.now in
+    let e : found (pair_of p) ≡ next_pair a b key = search rules in
+    let w = signal_met a b key (pair_of p) e in
+    let there : PairThere (signals_of a) (signals_of b) (pair_of p) = w.there in
+    (search rules, w.least, w.small)
 
 pub returns : goal.returns
-returns c = signal_none _ _ _ _ c.loop-p.invariant c.in_default.ensures
+unfolding next_signal next_pair
+returns c =
+    let a = list_as c.args.a.now in
+    let b = list_as c.args.b.now in
+    first_told_is (signals_of a) (signals_of b) signal_keys (λ q. tells (signal_change a b q)) (signal_untold a b) (signal_changed a b) _ _ _
+    (λ key p m. search rules) (λ key m. search rules) (λ p o h m. search rules) _ c.first_told.ensures
