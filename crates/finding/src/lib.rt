@@ -17,7 +17,7 @@ use refusals::Refusal;
 pub const PAST_KEYS: usize = 3072;
 
 // A signal, and the place of its check, 0 for none.
-#[derive(Clone, Copy)]
+#[derive(Clone, Copy, Debug, PartialEq, Eq)]
 pub struct Entry {
     pub signal: Signal,
     pub place: usize,
