@@ -2,22 +2,20 @@
 use Prim.Native.Nat.{ℕ}
 use mathlib.Core.Path.{◌≡◌, refl, sym, ap, ◌∙◌}
 use mathlib.Core.List.{List}
-use Rattle.paper.specs.Answer.{Answer, gives, refused}
+use Rattle.std.specs.Prelude.{Result, Ok}
+use Rattle.paper.specs.Answer.{Answer}
 use lib.ListN.{length}
 use Rattle.paper.specs.Store.{is_store, slot_of}
 use Rattle.paper.specs.Train.{Vehicle, member}
 use Rattle.paper.specs.Doors as paper
-use Rattle.paper.proofs.AnswerLaws.{one_answer}
 use Rattle.paper.proofs.DoorsLaws.{DoorsExactly, doors_exactly, others_unasked}
 use Rattle.refusals.specs.declared.Refusal.{Refusal}
-use Rattle.refusals.specs.Refusal.{number_of, carried_of}
+use Rattle.refusals.proofs.WrittenLaws.{one_result}
 use Rattle.doors.specs.declared.State.{State}
 use Rattle.doors.specs.declared.State.TheVariants as S
 use Rattle.doors.specs.declared.Side.{Side}
 use Rattle.doors.specs.declared.Doors.{Doors}
-use Rattle.doors.specs.declared.SummaryOutcome.{SummaryOutcome}
-use Rattle.doors.specs.declared.SummaryOutcome.TheVariants as Y
-use Rattle.doors.specs.Doors.{state_as, side_as, summary_answer}
+use Rattle.doors.specs.Doors.{state_as, side_as, doors_as, summary_answer}
 
 -- ---- the answer is settled
 
@@ -39,37 +37,24 @@ side_of_lem : (s : Side) → side_told (side_as s) ≡ s
 unfolding side_told
 side_of_lem s = λ i. record { state = state_of_lem s.state i; kept = s.kept; size = s.size }
 
--- the refusal of a number, with what it carries
-numbered : ℕ → ℕ → Refusal
-numbered n at = record { 0 = n; 1 = at }
+doors_told : paper.Doors → Doors
+doors_told d = record { left = side_told d.left; right = side_told d.right }
 
-numbered_of : (f : Refusal) → numbered (number_of f) (carried_of f) ≡ f
-unfolding numbered
-numbered_of f = refl
+doors_of : (d : Doors) → doors_told (doors_as d) ≡ d
+unfolding doors_told
+doors_of d = λ i. record { left = side_of_lem d.left i; right = side_of_lem d.right i }
 
-summary_told : Answer paper.Doors → SummaryOutcome
-summary_told (gives d) = Y.Doors (record { left = side_told d.left; right = side_told d.right })
-summary_told (refused n at) = Y.Refused (numbered n at)
-
-summary_of : (q : SummaryOutcome) → summary_told (summary_answer q) ≡ q
-unfolding summary_told
-summary_of (Y.Doors d) = λ i. Y.Doors (record { left = side_of_lem d.left i; right = side_of_lem d.right i })
-summary_of (Y.Refused f) = ap Y.Refused (numbered_of f)
-
-pub one_summary : (a : Answer paper.Doors) (q r : SummaryOutcome) → summary_answer q ≡ a → summary_answer r ≡ a → q ≡ r
-one_summary = one_answer summary_answer summary_told summary_of
+pub one_summary : (a : Answer paper.Doors) (q r : Result Doors Refusal) → summary_answer q ≡ a → summary_answer r ≡ a → q ≡ r
+one_summary = one_result doors_as doors_told doors_of
 
 -- ---- what a summary says
 
-abbrev pub doors_as : Doors → paper.Doors
-doors_as d = record { left = side_as d.left; right = side_as d.right }
-
-pub summary_exactly : (form : ℕ) (xs store : List ℕ) (now : ℕ) (train : List Vehicle) (a : ℕ) (q : SummaryOutcome) (d : Doors)
-    → summary_answer q ≡ paper.doors form xs store now train a → q ≡ Y.Doors d → DoorsExactly form xs store now train a (doors_as d)
+pub summary_exactly : (form : ℕ) (xs store : List ℕ) (now : ℕ) (train : List Vehicle) (a : ℕ) (q : Result Doors Refusal) (d : Doors)
+    → summary_answer q ≡ paper.doors form xs store now train a → q ≡ Ok d → DoorsExactly form xs store now train a (doors_as d)
 summary_exactly form xs store now train a q d e given = doors_exactly form xs store now train a (doors_as d) (sym e ∙ ap summary_answer given)
 
 -- two calls with stores in which the vehicles asked have the same slots, and which are both whole or neither, answer the same
-pub others_unasked_of : (form : ℕ) (xs store other : List ℕ) (now : ℕ) (train : List Vehicle) (a : ℕ) (q r : SummaryOutcome)
+pub others_unasked_of : (form : ℕ) (xs store other : List ℕ) (now : ℕ) (train : List Vehicle) (a : ℕ) (q r : Result Doors Refusal)
     → summary_answer q ≡ paper.doors form xs store now train a → summary_answer r ≡ paper.doors form xs other now train a → is_store store ≡ is_store other
     → ((v : ℕ) → paper.Asked (member train a) (length train) v → slot_of store v ≡ slot_of other v) → q ≡ r
 others_unasked_of form xs store other now train a q r e f whole same =

@@ -1,18 +1,16 @@
 -- The paper's answer for each case of the code's enums, and what the parts of the summary answer.
-use Rattle.std.specs.Prelude.{ℕ, ◌/◌, ◌%◌, ◌^◌, Bool, cond, List, eqb, length}
-use Rattle.paper.specs.Answer.{Answer, gives, map_answer, Sought, found, nothing}
+use Rattle.std.specs.Prelude.{ℕ, Option, Result, ◌/◌, ◌%◌, ◌^◌, Bool, cond, List, eqb, length}
+use Rattle.paper.specs.Answer.{Answer, map_answer, Sought, found, nothing}
 use Rattle.paper.specs.SignalList.{SignalList}
 use Rattle.paper.specs.Reading.{Reading, reading_at}
 use Rattle.paper.specs.Train.{Vehicle, member, resolving}
 use Rattle.paper.specs.Doors as paper
-use Rattle.refusals.specs.Refusal.{refusal_of}
+use Rattle.refusals.specs.declared.Refusal.{Refusal}
+use Rattle.refusals.specs.Outcome.{answer_of, sought_of}
 use Rattle.doors.specs.declared.State.{State}
 use Rattle.doors.specs.declared.State.TheVariants as S
 use Rattle.doors.specs.declared.Side.{Side}
-use Rattle.doors.specs.declared.SummaryOutcome.{SummaryOutcome}
-use Rattle.doors.specs.declared.SummaryOutcome.TheVariants as Y
-use Rattle.doors.specs.declared.Door.{Door}
-use Rattle.doors.specs.declared.Door.TheVariants as D
+use Rattle.doors.specs.declared.Doors.{Doors}
 
 abbrev pub state_as : State → paper.State
 state_as S.Locked = paper.locked
@@ -22,14 +20,15 @@ state_as S.Unknown = paper.unknown
 abbrev pub side_as : Side → paper.Side
 side_as s = record { state = state_as s.state; kept = record { set = s.kept; size = s.size } }
 
-abbrev pub summary_answer : SummaryOutcome → Answer paper.Doors
-summary_answer (Y.Doors d) = gives (record { left = side_as d.left; right = side_as d.right })
-summary_answer (Y.Refused f) = refusal_of f
+abbrev pub doors_as : Doors → paper.Doors
+doors_as d = record { left = side_as d.left; right = side_as d.right }
+
+abbrev pub summary_answer : Result Doors Refusal → Answer paper.Doors
+summary_answer = answer_of doors_as
 
 -- a door signal's number, where the list has it
-abbrev pub door_answer : Door → Sought ℕ
-door_answer (D.At k) = found k
-door_answer D.Missing = nothing
+abbrev pub door_answer : Option ℕ → Sought ℕ
+door_answer = sought_of (λ k. k)
 
 abbrev pub door_on : SignalList → ℕ → Sought ℕ
 door_on l place = cond (paper.has_door l place) (found (paper.door_of l place)) nothing

@@ -13,9 +13,9 @@ ghost use Rattle.lists.specs.Judged.{counts_of};
 ghost use Rattle.train.specs.Marks.{vehicle_of};
 ghost use Rattle.doors.specs.Doors.{in_set, door_answer, door_on, state_as, said_by, state_by, side_as, train_summary, summary_answer};
 
-use gateway::{Counts, EntryOutcome, Found, GapOutcome, Judged, ReadOutcome, Refusal, Resolved};
+use gateway::{Counts, Refusal};
 
-#[derive(Clone, Copy)]
+#[derive(Clone, Copy, Debug, PartialEq, Eq)]
 pub enum State {
     Locked,
     Open,
@@ -23,30 +23,17 @@ pub enum State {
 }
 
 // What is said of one side, and which vehicles kept it from saying locked: bit v of the set is vehicle v, and size counts them.
-#[derive(Clone, Copy)]
+#[derive(Clone, Copy, Debug, PartialEq, Eq)]
 pub struct Side {
     pub state: State,
     pub kept: u64,
     pub size: u32,
 }
 
-#[derive(Clone, Copy)]
+#[derive(Clone, Copy, Debug, PartialEq, Eq)]
 pub struct Doors {
     pub left: Side,
     pub right: Side,
-}
-
-#[derive(Clone, Copy)]
-pub enum SummaryOutcome {
-    Doors(Doors),
-    Refused(Refusal),
-}
-
-// The number of a door signal in the list.
-#[derive(Clone, Copy)]
-enum Door {
-    At(usize),
-    Missing,
 }
 
 // The bit addresses of octet 20 bit 4 and bit 5.
@@ -54,26 +41,21 @@ const LEFT: usize = 156;
 
 const RIGHT: usize = 157;
 
-// The common signal of one bit at this place.
-fn door_at(list: &[u8], form: u8, n: Counts, place: usize) -> Door
+// The number of the common signal of one bit at this place.
+fn door_at(list: &[u8], form: u8, n: Counts, place: usize) -> Option<usize>
     requires { judging form list.now ≡ gives (counts_of n) }
     ensures { door_answer result ≡ door_on (list_of list.now (counts_of n)) place }
 {
-    let found = gateway::find_signal(list, form, 0, place);
-    match found {
-        Found::Refused(f) => Door::Missing,
-        Found::At(k) => {
-            let entry = gateway::signal_entry(list, form, k);
-            match entry {
-                EntryOutcome::Refused(f) => Door::Missing,
-                EntryOutcome::Entry(e) => {
-                    if e.signal.width == 1 {
-                        return Door::At(k);
-                    }
-                    Door::Missing
-                }
-            }
-        }
+    let Ok(k) = gateway::find_signal(list, form, 0, place) else {
+        return None;
+    };
+    let Ok(entry) = gateway::signal_entry(list, form, k) else {
+        return None;
+    };
+    if entry.signal.width == 1 {
+        Some(k)
+    } else {
+        None
     }
 }
 
@@ -90,20 +72,13 @@ fn vehicle_says(
     requires { (judging form list.now ≡ gives (counts_of n)) × (length store.now ≡ store_octets) × (1 ≤ v) × (v ≤ 63) × (k < n.signals) }
     ensures { state_as result ≡ said_by (reading_at (list_of list.now (counts_of n)) store.now clock v k) }
 {
-    let read = gateway::read(list, form, store, clock, v, k);
-    match read {
-        ReadOutcome::Refused(f) => State::Unknown,
-        ReadOutcome::Read(r) => {
-            if 1 < r.reason {
-                return State::Unknown;
-            }
-            let value = r.value;
-            match value {
-                1 => State::Locked,
-                0 => State::Open,
-                _ => State::Unknown,
-            }
-        }
+    match gateway::read(list, form, store, clock, v, k) {
+        Ok(r) if r.reason.is_live() => match r.value {
+            1 => State::Locked,
+            0 => State::Open,
+            _ => State::Unknown,
+        },
+        _ => State::Unknown,
     }
 }
 
@@ -124,6 +99,7 @@ fn side_of(
     let mut kept = 0u64;
     let mut any = false;
     let mut v = 0;
+    // While: a `for` joins the three states before its step, and then the proof did not close.
     while v < last {
         v += 1;
         if (set >> v) % 2 == 1 {
@@ -170,19 +146,14 @@ fn by_train(
     address: u64,
     l: usize,
     r: usize,
-) -> SummaryOutcome
+) -> Result<Doors, Refusal>
     requires { (judging form list.now ≡ gives (counts_of n)) × (length store.now ≡ store_octets) × (l < n.signals) × (r < n.signals) }
     ensures { summary_answer result ≡ train_summary (list_of list.now (counts_of n)) store.now clock (map vehicle_of marks.now) address l r }
 {
-    let resolved = gateway::resolve(marks, address);
-    match resolved {
-        Resolved::Refused(f) => SummaryOutcome::Refused(f),
-        Resolved::Members(m) => {
-            let left = side_of(list, form, n, store, clock, marks.len(), m.set, l);
-            let right = side_of(list, form, n, store, clock, marks.len(), m.set, r);
-            SummaryOutcome::Doors(Doors { left, right })
-        }
-    }
+    let m = gateway::resolve(marks, address)?;
+    let left = side_of(list, form, n, store, clock, marks.len(), m.set, l);
+    let right = side_of(list, form, n, store, clock, marks.len(), m.set, r);
+    Ok(Doors { left, right })
 }
 
 // Behind 1 to 4: the store, 5, and the two door signals, 35.
@@ -194,23 +165,18 @@ fn by_list(
     clock: u32,
     marks: &[u8],
     address: u64,
-) -> SummaryOutcome
+) -> Result<Doors, Refusal>
     requires { judging form list.now ≡ gives (counts_of n) }
     ensures { summary_answer result ≡ doors_by store.now clock (map vehicle_of marks.now) address (list_of list.now (counts_of n)) }
 {
-    let gap = gateway::gap(store, 1);
-    if let GapOutcome::Refused(f) = gap {
-        return SummaryOutcome::Refused(f);
-    }
-    let left = door_at(list, form, n, LEFT);
-    let right = door_at(list, form, n, RIGHT);
-    match left {
-        Door::Missing => SummaryOutcome::Refused(Refusal::DOOR_MISSING),
-        Door::At(l) => match right {
-            Door::Missing => SummaryOutcome::Refused(Refusal::DOOR_MISSING),
-            Door::At(r) => by_train(list, form, n, store, clock, marks, address, l, r),
-        },
-    }
+    gateway::gap(store, 1)?;
+    let Some(left) = door_at(list, form, n, LEFT) else {
+        return Err(Refusal::DoorMissing);
+    };
+    let Some(right) = door_at(list, form, n, RIGHT) else {
+        return Err(Refusal::DoorMissing);
+    };
+    by_train(list, form, n, store, clock, marks, address, left, right)
 }
 
 // Each side locked, open or not known, of the vehicles that meet the address, 66 being all, and who kept it from locked; vehicle 1 is the first of the marks.
@@ -222,12 +188,9 @@ pub fn summary(
     clock: u32,
     marks: &[u8],
     address: u64,
-) -> SummaryOutcome
+) -> Result<Doors, Refusal>
     ensures { summary_answer result ≡ doors form list.now store.now clock (map vehicle_of marks.now) address }
 {
-    let judged = gateway::judge(list, form);
-    match judged {
-        Judged::Refused(f) => SummaryOutcome::Refused(f),
-        Judged::Accepted(n) => by_list(list, form, n, store, clock, marks, address),
-    }
+    let n = gateway::judge(list, form)?;
+    by_list(list, form, n, store, clock, marks, address)
 }
