@@ -8,7 +8,7 @@ use lib.ListN.{length}
 use native.Mathlib.Omega.{arith}
 use Rattle.paper.specs.Answer.{Answer, gives, refused, forget, map_answer, Given, Numbered, Sought, found, nothing}
 use Rattle.paper.specs.Telegrams.{check_place}
-use Rattle.paper.specs.SignalList.{Counts, judge, OfTwo, of_both, first_refused, second_refused, GivenTwo, NumberedTwo}
+use Rattle.paper.specs.SignalList.{Counts, judge, OfTwo, of_both, GivenTwo, NumberedTwo}
 use Rattle.paper.specs.Profiles.{Profile, profiling}
 use Rattle.paper.specs.Extends.{extends_lists}
 use Rattle.paper.specs.Pairs.{Entry, entry_of, finding}

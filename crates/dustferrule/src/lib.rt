@@ -2,7 +2,7 @@
 // A result's refusal is 0 where the call was not refused, and every field that an answer does not use is 0.
 #![tactic(auto)]
 
-ghost use Rattle.std.specs.Prelude.{◌≡◌, map, length};
+ghost use Rattle.std.specs.Prelude.{◌≡◌, ℕ, map, length};
 ghost use Rattle.paper.specs.Answer.{gives};
 ghost use Rattle.paper.specs.Telegrams.{check_place};
 ghost use Rattle.paper.specs.SignalList.{judge as judging};
@@ -24,7 +24,6 @@ ghost use Rattle.paper.specs.Doors.{doors};
 ghost use Rattle.paper.specs.Recordings.{checking};
 ghost use Rattle.paper.specs.ETelegrams.{e_reading, answering};
 ghost use Rattle.paper.specs.Remedies.{area_blocks, remedy_reading, remedy_block, remedy_writing};
-ghost use Rattle.refusals.specs.Refusal.{number_of, carried_of};
 ghost use Rattle.refusals.specs.Outcome.{outcome_of};
 ghost use Rattle.lists.specs.Judged.{judged_answer};
 ghost use Rattle.profiles.specs.Profiles.{profile_of};
@@ -44,25 +43,24 @@ ghost use Rattle.recordings.specs.Recordings.{checked_answer, Low, step_of};
 ghost use Rattle.etelegrams.specs.Answers.{e_read_answer};
 ghost use Rattle.texts.specs.Texts.{read_answer as remediesAnswer, remedy_answer};
 ghost use Rattle.textwriting.specs.Writing.{handed_of, wrote_answer};
-ghost use Rattle.dustferrule.specs.Results.{yes_no, profile_numbered, change_refused, change_c, range_refused, range_c, kind_numbered, code_of, unit_of, float_of, outcome_c, judged_c, extending_c, entry_c, found_c, serial_c, gap_c, lives_c, place_c, reading_c, shown_c, members_c, level_c, property_c, christened_c, state_c, doors_c, checked_c, e_read_c, remedies_c, remedy_c, wrote_c, WrittenC, ReadIntoC, DeliveredC, ChristenedC, WroteC};
+ghost use Rattle.dustferrule.specs.Results.{profile_numbered, change_c, range_c, kind_numbered, code_of, unit_of, float_of, outcome_c, judged_c, extending_c, entry_c, found_c, serial_c, gap_c, lives_c, place_c, reading_c, shown_c, members_c, level_c, property_c, christened_c, state_c, doors_c, checked_c, e_read_c, remedies_c, remedy_c, wrote_c, WrittenC, ReadIntoC, DeliveredC, ChristenedC, WroteC};
 
-use doors::{State, SummaryOutcome};
+use doors::{Doors, State};
 use gateway::{
-    Changes, Checked, Christened, ERead, EntryOutcome, ExtendsOutcome, Found, Gained, GapOutcome,
-    Judged, Kind, Level, Marshalled, Outcome, Place, Profile, PropertyRead, ReadOutcome, Refusal,
-    RemediesRead, RemedyRead, Resolved, SerialOutcome, Showing, Shown, Wrote,
+    Changed, Counts, EReading, Entry, Kind, Level, ListRefused, Members, Profile, Property, Range,
+    Reading, Refusal, Remedies, Remedy, Shown, ShownReading, WrongBit,
 };
 
 // A call that only writes.
 #[repr(C)]
-#[derive(Clone, Copy)]
+#[derive(Clone, Copy, Debug, Default, PartialEq)]
 pub struct DfOutcome {
     pub refusal: u32,
     pub carried: u64,
 }
 
 #[repr(C)]
-#[derive(Clone, Copy)]
+#[derive(Clone, Copy, Debug, Default, PartialEq)]
 pub struct DfJudged {
     pub refusal: u32,
     pub carried: u64,
@@ -73,9 +71,14 @@ pub struct DfJudged {
     pub version: u64,
 }
 
+// Which list was refused.
+const FIRST: u32 = 1;
+
+const SECOND: u32 = 2;
+
 // which: 1 the first list was refused, 2 the second; extends: 1 yes, 0 no.
 #[repr(C)]
-#[derive(Clone, Copy)]
+#[derive(Clone, Copy, Debug, Default, PartialEq)]
 pub struct DfExtending {
     pub refusal: u32,
     pub which: u32,
@@ -85,7 +88,7 @@ pub struct DfExtending {
 
 // which: as above; found: 1 a difference, 0 there is none more; breaks: the rule of extending that it breaks, 0 for none.
 #[repr(C)]
-#[derive(Clone, Copy)]
+#[derive(Clone, Copy, Debug, Default, PartialEq)]
 pub struct DfChange {
     pub refusal: u32,
     pub which: u32,
@@ -99,7 +102,7 @@ pub struct DfChange {
 
 // Codes, from low to high.
 #[repr(C)]
-#[derive(Clone, Copy)]
+#[derive(Clone, Copy, Debug, Default, PartialEq)]
 pub struct DfRange {
     pub refusal: u32,
     pub which: u32,
@@ -111,7 +114,7 @@ pub struct DfRange {
 
 // A signal's entry, kind being the paper's type, and the place of its check, 0 for none.
 #[repr(C)]
-#[derive(Clone, Copy)]
+#[derive(Clone, Copy, Debug, Default, PartialEq)]
 pub struct DfEntry {
     pub refusal: u32,
     pub carried: u64,
@@ -126,7 +129,7 @@ pub struct DfEntry {
 }
 
 #[repr(C)]
-#[derive(Clone, Copy)]
+#[derive(Clone, Copy, Debug, Default, PartialEq)]
 pub struct DfFound {
     pub refusal: u32,
     pub carried: u64,
@@ -134,7 +137,7 @@ pub struct DfFound {
 }
 
 #[repr(C)]
-#[derive(Clone, Copy)]
+#[derive(Clone, Copy, Debug, Default, PartialEq)]
 pub struct DfSerial {
     pub refusal: u32,
     pub carried: u64,
@@ -142,14 +145,14 @@ pub struct DfSerial {
 }
 
 #[repr(C)]
-#[derive(Clone, Copy)]
+#[derive(Clone, Copy, Debug, Default, PartialEq)]
 pub struct DfGap {
     pub refusal: u32,
     pub gap: u32,
 }
 
 #[repr(C)]
-#[derive(Clone, Copy)]
+#[derive(Clone, Copy, Debug, Default, PartialEq)]
 pub struct DfMarshalled {
     pub refusal: u32,
     pub carried: u64,
@@ -157,14 +160,14 @@ pub struct DfMarshalled {
 }
 
 #[repr(C)]
-#[derive(Clone, Copy)]
+#[derive(Clone, Copy, Debug, Default, PartialEq)]
 pub struct DfPlace {
     pub refusal: u32,
     pub place: u64,
 }
 
 #[repr(C)]
-#[derive(Clone, Copy)]
+#[derive(Clone, Copy, Debug, Default, PartialEq)]
 pub struct DfReading {
     pub refusal: u32,
     pub reason: u32,
@@ -173,7 +176,7 @@ pub struct DfReading {
 }
 
 #[repr(C)]
-#[derive(Clone, Copy)]
+#[derive(Clone, Copy, Debug, Default, PartialEq)]
 pub struct DfShown {
     pub refusal: u32,
     pub reason: u32,
@@ -184,7 +187,7 @@ pub struct DfShown {
 }
 
 #[repr(C)]
-#[derive(Clone, Copy)]
+#[derive(Clone, Copy, Debug, Default, PartialEq)]
 pub struct DfMembers {
     pub refusal: u32,
     pub size: u32,
@@ -193,7 +196,7 @@ pub struct DfMembers {
 
 // found: 1 a row of table E.1, 0 there is none of this number; level: 0 gateway, 1 vehicle; its place; holds: 1 the bit is set.
 #[repr(C)]
-#[derive(Clone, Copy)]
+#[derive(Clone, Copy, Debug, Default, PartialEq)]
 pub struct DfProperty {
     pub found: u32,
     pub level: u32,
@@ -204,7 +207,7 @@ pub struct DfProperty {
 
 // vehicles: how many marks were written.
 #[repr(C)]
-#[derive(Clone, Copy)]
+#[derive(Clone, Copy, Debug, Default, PartialEq)]
 pub struct DfChristened {
     pub refusal: u32,
     pub vehicles: u64,
@@ -212,7 +215,7 @@ pub struct DfChristened {
 
 // left, right: 0 not known, 1 locked, 2 open; the vehicles that kept the side from locked, as in DfMembers.
 #[repr(C)]
-#[derive(Clone, Copy)]
+#[derive(Clone, Copy, Debug, Default, PartialEq)]
 pub struct DfDoors {
     pub refusal: u32,
     pub left: u32,
@@ -227,7 +230,7 @@ pub struct DfDoors {
 // right: 1 the data after are what our rules give, 0 refused, or a bit is wrong: bit 0-7 of this octet from 0 is the first; in_route: 1 it lies in this route, whose
 // reading has this reason, 0 in none.
 #[repr(C)]
-#[derive(Clone, Copy)]
+#[derive(Clone, Copy, Debug, Default, PartialEq)]
 pub struct DfChecked {
     pub refusal: u32,
     pub right: u32,
@@ -240,7 +243,7 @@ pub struct DfChecked {
 }
 
 #[repr(C)]
-#[derive(Clone, Copy)]
+#[derive(Clone, Copy, Debug, Default, PartialEq)]
 pub struct DfERead {
     pub refusal: u32,
     pub code: u32,
@@ -250,7 +253,7 @@ pub struct DfERead {
 
 // What a telegram with remedy texts says beside its blocks; ordered: octet 23.
 #[repr(C)]
-#[derive(Clone, Copy)]
+#[derive(Clone, Copy, Debug, Default, PartialEq)]
 pub struct DfRemedies {
     pub refusal: u32,
     pub language: u32,
@@ -260,7 +263,7 @@ pub struct DfRemedies {
 
 // found: 1 a block, 0 there is none more; at, size: where its text stands in the telegram, counted from 0, and its octets.
 #[repr(C)]
-#[derive(Clone, Copy)]
+#[derive(Clone, Copy, Debug, Default, PartialEq)]
 pub struct DfRemedy {
     pub refusal: u32,
     pub found: u32,
@@ -271,305 +274,260 @@ pub struct DfRemedy {
 
 // size: the octets that were written.
 #[repr(C)]
-#[derive(Clone, Copy)]
+#[derive(Clone, Copy, Debug, Default, PartialEq)]
 pub struct DfWrote {
     pub refusal: u32,
     pub size: u64,
 }
 
-fn number(f: Refusal) -> u32
-    ensures { result ≡ number_of f }
-{
-    gateway::number(f) as u32
-}
+impl From<Result<(), Refusal>> for DfOutcome {
+    ghost from_gives = { λ r d. d ≡ outcome_c (outcome_of r) };
 
-fn carried(f: Refusal) -> u64
-    ensures { result ≡ carried_of f }
-{
-    gateway::carried(f) as u64
-}
-
-fn outcome_c(o: Outcome) -> DfOutcome
-    ensures { result ≡ outcome_c (outcome_of o) }
-{
-    match o {
-        Outcome::Done => DfOutcome {
-            refusal: 0,
-            carried: 0,
-        },
-        Outcome::Refused(f) => DfOutcome {
-            refusal: number(f),
-            carried: carried(f),
-        },
-    }
-}
-
-fn judged_c(j: Judged) -> DfJudged
-    ensures { result ≡ judged_c (judged_answer j) }
-{
-    match j {
-        Judged::Accepted(n) => DfJudged {
-            refusal: 0,
-            carried: 0,
-            checks: n.checks as u64,
-            signals: n.signals as u64,
-            codes: n.codes as u64,
-            routes: n.routes as u64,
-            version: n.version as u64,
-        },
-        Judged::Refused(f) => DfJudged {
-            refusal: number(f),
-            carried: carried(f),
-            checks: 0,
-            signals: 0,
-            codes: 0,
-            routes: 0,
-            version: 0,
-        },
-    }
-}
-
-fn extending_c(o: ExtendsOutcome) -> DfExtending
-    ensures { result ≡ extending_c (extends_answer o) }
-{
-    match o {
-        ExtendsOutcome::Yes => DfExtending {
-            refusal: 0,
-            which: 0,
-            carried: 0,
-            extends: 1,
-        },
-        ExtendsOutcome::No => DfExtending {
-            refusal: 0,
-            which: 0,
-            carried: 0,
-            extends: 0,
-        },
-        ExtendsOutcome::FirstRefused(f) => DfExtending {
-            refusal: number(f),
-            which: 1,
-            carried: carried(f),
-            extends: 0,
-        },
-        ExtendsOutcome::SecondRefused(f) => DfExtending {
-            refusal: number(f),
-            which: 2,
-            carried: carried(f),
-            extends: 0,
-        },
-    }
-}
-
-fn change_refused(f: Refusal, which: u32) -> DfChange
-    ensures { result ≡ change_refused (number_of f) which (carried_of f) }
-{
-    DfChange {
-        refusal: number(f),
-        which,
-        carried: carried(f),
-        found: 0,
-        breaks: 0,
-        key: 0,
-        first: 0,
-        second: 0,
-    }
-}
-
-fn change_c(o: Changes) -> DfChange
-    ensures { result ≡ change_c (changes_answer o) }
-{
-    match o {
-        Changes::Changed(c) => DfChange {
-            refusal: 0,
-            which: 0,
-            carried: 0,
-            found: 1,
-            breaks: c.breaks as u64,
-            key: c.key as u64,
-            first: c.first as u64,
-            second: c.second as u64,
-        },
-        Changes::NoMore => DfChange {
-            refusal: 0,
-            which: 0,
-            carried: 0,
-            found: 0,
-            breaks: 0,
-            key: 0,
-            first: 0,
-            second: 0,
-        },
-        Changes::FirstRefused(f) => change_refused(f, 1),
-        Changes::SecondRefused(f) => change_refused(f, 2),
-    }
-}
-
-fn range_refused(f: Refusal, which: u32) -> DfRange
-    ensures { result ≡ range_refused (number_of f) which (carried_of f) }
-{
-    DfRange {
-        refusal: number(f),
-        which,
-        carried: carried(f),
-        found: 0,
-        low: 0,
-        high: 0,
-    }
-}
-
-fn range_c(o: Gained) -> DfRange
-    ensures { result ≡ range_c (gained_answer o) }
-{
-    match o {
-        Gained::Codes(c) => DfRange {
-            refusal: 0,
-            which: 0,
-            carried: 0,
-            found: 1,
-            low: c.low as u64,
-            high: c.high as u64,
-        },
-        Gained::NoMore => DfRange {
-            refusal: 0,
-            which: 0,
-            carried: 0,
-            found: 0,
-            low: 0,
-            high: 0,
-        },
-        Gained::FirstRefused(f) => range_refused(f, 1),
-        Gained::SecondRefused(f) => range_refused(f, 2),
-    }
-}
-
-fn entry_c(o: EntryOutcome) -> DfEntry
-    ensures { result ≡ entry_c (entry_answer o) }
-{
-    match o {
-        EntryOutcome::Entry(e) => {
-            let s = e.signal;
-            DfEntry {
-                refusal: 0,
-                carried: 0,
-                start: s.start as u64,
-                width: s.width as u64,
-                kind: s.kind as u64,
-                check: s.check as u64,
-                since: s.since as u64,
-                limit: s.limit,
-                replacement: s.replacement,
-                place: e.place as u64,
-            }
+    fn from(answer: Result<(), Refusal>) -> DfOutcome {
+        match answer {
+            Ok(()) => DfOutcome::default(),
+            Err(f) => DfOutcome {
+                refusal: f.number().into(),
+                carried: f.carried() as u64,
+            },
         }
-        EntryOutcome::Refused(f) => DfEntry {
-            refusal: number(f),
-            carried: carried(f),
-            start: 0,
-            width: 0,
-            kind: 0,
-            check: 0,
-            since: 0,
-            limit: 0,
-            replacement: 0,
-            place: 0,
-        },
     }
 }
 
-fn found_c(o: Found) -> DfFound
-    ensures { result ≡ found_c (found_answer o) }
-{
-    match o {
-        Found::At(k) => DfFound {
-            refusal: 0,
-            carried: 0,
-            signal: k as u64,
-        },
-        Found::Refused(f) => DfFound {
-            refusal: number(f),
-            carried: carried(f),
-            signal: 0,
-        },
+impl From<Result<Counts, Refusal>> for DfJudged {
+    ghost from_gives = { λ r d. d ≡ judged_c (judged_answer r) };
+
+    fn from(answer: Result<Counts, Refusal>) -> DfJudged {
+        match answer {
+            Ok(n) => DfJudged {
+                checks: n.checks as u64,
+                signals: n.signals as u64,
+                codes: n.codes as u64,
+                routes: n.routes as u64,
+                version: n.version as u64,
+                ..DfJudged::default()
+            },
+            Err(f) => DfJudged {
+                refusal: f.number().into(),
+                carried: f.carried() as u64,
+                ..DfJudged::default()
+            },
+        }
     }
 }
 
-fn serial_c(o: SerialOutcome) -> DfSerial
-    ensures { result ≡ serial_c (serial_answer o) }
-{
-    match o {
-        SerialOutcome::Serial(v) => DfSerial {
-            refusal: 0,
-            carried: 0,
-            serial: v as u64,
-        },
-        SerialOutcome::Refused(f) => DfSerial {
-            refusal: number(f),
-            carried: carried(f),
-            serial: 0,
-        },
+impl From<Result<bool, ListRefused>> for DfExtending {
+    ghost from_gives = { λ r d. d ≡ extending_c (extends_answer r) };
+
+    fn from(answer: Result<bool, ListRefused>) -> DfExtending {
+        match answer {
+            Ok(extends) => DfExtending {
+                extends: extends.into(),
+                ..DfExtending::default()
+            },
+            Err(ListRefused::First(f)) => DfExtending {
+                refusal: f.number().into(),
+                which: FIRST,
+                carried: f.carried() as u64,
+                ..DfExtending::default()
+            },
+            Err(ListRefused::Second(f)) => DfExtending {
+                refusal: f.number().into(),
+                which: SECOND,
+                carried: f.carried() as u64,
+                ..DfExtending::default()
+            },
+        }
     }
 }
 
-fn gap_c(o: GapOutcome) -> DfGap
-    ensures { result ≡ gap_c (gap_answer o) }
-{
-    match o {
-        GapOutcome::Gap(n) => DfGap { refusal: 0, gap: n },
-        GapOutcome::Refused(f) => DfGap {
-            refusal: number(f),
-            gap: 0,
-        },
+impl From<Result<Option<Changed>, ListRefused>> for DfChange {
+    ghost from_gives = { λ r d. d ≡ change_c (changes_answer r) };
+
+    fn from(answer: Result<Option<Changed>, ListRefused>) -> DfChange {
+        match answer {
+            Ok(Some(c)) => DfChange {
+                found: 1,
+                breaks: c.breaks as u64,
+                key: c.key as u64,
+                first: c.first as u64,
+                second: c.second as u64,
+                ..DfChange::default()
+            },
+            Ok(None) => DfChange::default(),
+            Err(ListRefused::First(f)) => DfChange {
+                refusal: f.number().into(),
+                which: FIRST,
+                carried: f.carried() as u64,
+                ..DfChange::default()
+            },
+            Err(ListRefused::Second(f)) => DfChange {
+                refusal: f.number().into(),
+                which: SECOND,
+                carried: f.carried() as u64,
+                ..DfChange::default()
+            },
+        }
     }
 }
 
-fn lives_c(o: Marshalled) -> DfMarshalled
-    ensures { result ≡ lives_c (live_answer o) }
-{
-    match o {
-        Marshalled::Live(n) => DfMarshalled {
-            refusal: 0,
-            carried: 0,
-            lives: n as u64,
-        },
-        Marshalled::Refused(f) => DfMarshalled {
-            refusal: number(f),
-            carried: carried(f),
-            lives: 0,
-        },
+impl From<Result<Option<Range>, ListRefused>> for DfRange {
+    ghost from_gives = { λ r d. d ≡ range_c (gained_answer r) };
+
+    fn from(answer: Result<Option<Range>, ListRefused>) -> DfRange {
+        match answer {
+            Ok(Some(c)) => DfRange {
+                found: 1,
+                low: c.low as u64,
+                high: c.high as u64,
+                ..DfRange::default()
+            },
+            Ok(None) => DfRange::default(),
+            Err(ListRefused::First(f)) => DfRange {
+                refusal: f.number().into(),
+                which: FIRST,
+                carried: f.carried() as u64,
+                ..DfRange::default()
+            },
+            Err(ListRefused::Second(f)) => DfRange {
+                refusal: f.number().into(),
+                which: SECOND,
+                carried: f.carried() as u64,
+                ..DfRange::default()
+            },
+        }
     }
 }
 
-fn place_c(p: Place) -> DfPlace
-    ensures { result ≡ place_c (place_answer p) }
-{
-    match p {
-        Place::At(place) => DfPlace {
-            refusal: 0,
-            place: place as u64,
-        },
-        Place::Refused(f) => DfPlace {
-            refusal: number(f),
-            place: 0,
-        },
+impl From<Result<Entry, Refusal>> for DfEntry {
+    ghost from_gives = { λ r d. d ≡ entry_c (entry_answer r) };
+
+    fn from(answer: Result<Entry, Refusal>) -> DfEntry {
+        match answer {
+            Ok(e) => DfEntry {
+                start: e.signal.start as u64,
+                width: e.signal.width as u64,
+                kind: e.signal.kind as u64,
+                check: e.signal.check as u64,
+                since: e.signal.since as u64,
+                limit: e.signal.limit,
+                replacement: e.signal.replacement,
+                place: e.place as u64,
+                ..DfEntry::default()
+            },
+            Err(f) => DfEntry {
+                refusal: f.number().into(),
+                carried: f.carried() as u64,
+                ..DfEntry::default()
+            },
+        }
     }
 }
 
-fn reading_c(o: ReadOutcome) -> DfReading
-    ensures { result ≡ reading_c (read_answer o) }
-{
-    match o {
-        ReadOutcome::Read(x) => DfReading {
-            refusal: 0,
-            reason: x.reason as u32,
-            carried: 0,
-            value: x.value,
-        },
-        ReadOutcome::Refused(f) => DfReading {
-            refusal: number(f),
-            reason: 0,
-            carried: carried(f),
-            value: 0,
-        },
+impl From<Result<usize, Refusal>> for DfFound {
+    ghost from_gives = { λ r d. d ≡ found_c (found_answer r) };
+
+    fn from(answer: Result<usize, Refusal>) -> DfFound {
+        match answer {
+            Ok(k) => DfFound {
+                signal: k as u64,
+                ..DfFound::default()
+            },
+            Err(f) => DfFound {
+                refusal: f.number().into(),
+                carried: f.carried() as u64,
+                ..DfFound::default()
+            },
+        }
+    }
+}
+
+impl From<Result<usize, Refusal>> for DfSerial {
+    ghost from_gives = { λ r d. d ≡ serial_c (serial_answer r) };
+
+    fn from(answer: Result<usize, Refusal>) -> DfSerial {
+        match answer {
+            Ok(serial) => DfSerial {
+                serial: serial as u64,
+                ..DfSerial::default()
+            },
+            Err(f) => DfSerial {
+                refusal: f.number().into(),
+                carried: f.carried() as u64,
+                ..DfSerial::default()
+            },
+        }
+    }
+}
+
+impl From<Result<u32, Refusal>> for DfGap {
+    ghost from_gives = { λ r d. d ≡ gap_c (gap_answer r) };
+
+    fn from(answer: Result<u32, Refusal>) -> DfGap {
+        match answer {
+            Ok(gap) => DfGap {
+                gap,
+                ..DfGap::default()
+            },
+            Err(f) => DfGap {
+                refusal: f.number().into(),
+                ..DfGap::default()
+            },
+        }
+    }
+}
+
+impl From<Result<usize, Refusal>> for DfMarshalled {
+    ghost from_gives = { λ r d. d ≡ lives_c (live_answer r) };
+
+    fn from(answer: Result<usize, Refusal>) -> DfMarshalled {
+        match answer {
+            Ok(lives) => DfMarshalled {
+                lives: lives as u64,
+                ..DfMarshalled::default()
+            },
+            Err(f) => DfMarshalled {
+                refusal: f.number().into(),
+                carried: f.carried() as u64,
+                ..DfMarshalled::default()
+            },
+        }
+    }
+}
+
+impl From<Result<usize, Refusal>> for DfPlace {
+    ghost from_gives = { λ r d. d ≡ place_c (place_answer r) };
+
+    fn from(answer: Result<usize, Refusal>) -> DfPlace {
+        match answer {
+            Ok(place) => DfPlace {
+                place: place as u64,
+                ..DfPlace::default()
+            },
+            Err(f) => DfPlace {
+                refusal: f.number().into(),
+                ..DfPlace::default()
+            },
+        }
+    }
+}
+
+impl From<Result<Reading, Refusal>> for DfReading {
+    ghost from_gives = { λ r d. d ≡ reading_c (read_answer r) };
+
+    fn from(answer: Result<Reading, Refusal>) -> DfReading {
+        match answer {
+            Ok(r) => DfReading {
+                reason: r.reason.number().into(),
+                value: r.value,
+                ..DfReading::default()
+            },
+            Err(f) => DfReading {
+                refusal: f.number().into(),
+                carried: f.carried() as u64,
+                ..DfReading::default()
+            },
+        }
     }
 }
 
@@ -630,53 +588,43 @@ fn float_of(s: Shown) -> f32
     }
 }
 
-fn shown_c(o: Showing) -> DfShown
-    ensures { result ≡ shown_c (showing_answer o) }
-{
-    match o {
-        Showing::Shown(x) => {
-            let s = x.shown;
-            DfShown {
-                refusal: 0,
-                reason: x.reason as u32,
-                carried: 0,
-                code: code_of(s),
-                unit: unit_of(s),
-                value: float_of(s),
-            }
+impl From<Result<ShownReading, Refusal>> for DfShown {
+    ghost from_gives = { λ r d. d ≡ shown_c (showing_answer r) };
+
+    fn from(answer: Result<ShownReading, Refusal>) -> DfShown {
+        match answer {
+            Ok(r) => DfShown {
+                reason: r.reason.number().into(),
+                code: code_of(r.shown),
+                unit: unit_of(r.shown),
+                value: float_of(r.shown),
+                ..DfShown::default()
+            },
+            Err(f) => DfShown {
+                refusal: f.number().into(),
+                carried: f.carried() as u64,
+                ..DfShown::default()
+            },
         }
-        Showing::Refused(f) => DfShown {
-            refusal: number(f),
-            reason: 0,
-            carried: carried(f),
-            code: 0,
-            unit: 0,
-            value: 0.0,
-        },
     }
 }
 
-fn members_c(o: Resolved) -> DfMembers
-    ensures { result ≡ members_c (resolved_answer o) }
-{
-    match o {
-        Resolved::Members(m) => DfMembers {
-            refusal: 0,
-            size: m.size,
-            set: m.set,
-        },
-        Resolved::Refused(f) => DfMembers {
-            refusal: number(f),
-            size: 0,
-            set: 0,
-        },
-    }
-}
+impl From<Result<Members, Refusal>> for DfMembers {
+    ghost from_gives = { λ r d. d ≡ members_c (resolved_answer r) };
 
-fn yes_no(b: bool) -> u32
-    ensures { result ≡ yes_no b }
-{
-    if b { 1 } else { 0 }
+    fn from(answer: Result<Members, Refusal>) -> DfMembers {
+        match answer {
+            Ok(m) => DfMembers {
+                size: m.size,
+                set: m.set,
+                ..DfMembers::default()
+            },
+            Err(f) => DfMembers {
+                refusal: f.number().into(),
+                ..DfMembers::default()
+            },
+        }
+    }
 }
 
 fn level_c(l: Level) -> u32
@@ -688,42 +636,37 @@ fn level_c(l: Level) -> u32
     }
 }
 
-fn property_c(row: u32, o: PropertyRead) -> DfProperty
-    ensures { result ≡ property_c (held_answer row o) }
-{
-    match o {
-        PropertyRead::Row(p) => {
-            let level = p.level;
-            DfProperty {
+impl From<Option<Property>> for DfProperty {
+    ghost from_gives = { λ p d. (row : ℕ) → d ≡ property_c (held_answer row p) };
+
+    fn from(answer: Option<Property>) -> DfProperty {
+        match answer {
+            Some(p) => DfProperty {
                 found: 1,
-                level: level_c(level),
-                octet: p.octet as u32,
-                bit: p.bit as u32,
-                holds: yes_no(p.holds),
-            }
+                level: level_c(p.level),
+                octet: p.octet.into(),
+                bit: p.bit.into(),
+                holds: p.holds.into(),
+            },
+            None => DfProperty::default(),
         }
-        PropertyRead::NoRow => DfProperty {
-            found: 0,
-            level: 0,
-            octet: 0,
-            bit: 0,
-            holds: 0,
-        },
     }
 }
 
-fn christened_c(o: Christened) -> DfChristened
-    ensures { result ≡ christened_c (christened_answer o) }
-{
-    match o {
-        Christened::Vehicles(n) => DfChristened {
-            refusal: 0,
-            vehicles: n as u64,
-        },
-        Christened::Refused(f) => DfChristened {
-            refusal: number(f),
-            vehicles: 0,
-        },
+impl From<Result<usize, Refusal>> for DfChristened {
+    ghost from_gives = { λ r d. d ≡ christened_c (christened_answer r) };
+
+    fn from(answer: Result<usize, Refusal>) -> DfChristened {
+        match answer {
+            Ok(vehicles) => DfChristened {
+                vehicles: vehicles as u64,
+                ..DfChristened::default()
+            },
+            Err(f) => DfChristened {
+                refusal: f.number().into(),
+                ..DfChristened::default()
+            },
+        }
     }
 }
 
@@ -737,155 +680,136 @@ fn state_c(s: State) -> u32
     }
 }
 
-fn doors_c(o: SummaryOutcome) -> DfDoors
-    ensures { result ≡ doors_c (summary_answer o) }
+impl From<Result<Doors, Refusal>> for DfDoors {
+    ghost from_gives = { λ r d. d ≡ doors_c (summary_answer r) };
+
+    fn from(answer: Result<Doors, Refusal>) -> DfDoors {
+        match answer {
+            Ok(d) => DfDoors {
+                left: state_c(d.left.state),
+                left_set: d.left.kept,
+                left_size: d.left.size,
+                right: state_c(d.right.state),
+                right_set: d.right.kept,
+                right_size: d.right.size,
+                ..DfDoors::default()
+            },
+            Err(f) => DfDoors {
+                refusal: f.number().into(),
+                carried: f.carried() as u64,
+                ..DfDoors::default()
+            },
+        }
+    }
+}
+
+// No `From`, which could not ask that the bit is below 8.
+fn checked_c(checked: Result<Option<WrongBit>, Refusal>) -> DfChecked
+    requires { Low checked }
+    ensures { result ≡ checked_c (checked_answer checked) }
 {
-    match o {
-        SummaryOutcome::Doors(d) => {
-            let left = d.left;
-            let right = d.right;
-            let left_state = left.state;
-            let right_state = right.state;
-            DfDoors {
-                refusal: 0,
-                left: state_c(left_state),
-                carried: 0,
-                left_set: left.kept,
-                left_size: left.size,
-                right: state_c(right_state),
-                right_set: right.kept,
-                right_size: right.size,
+    match checked {
+        Ok(None) => DfChecked {
+            right: 1,
+            ..DfChecked::default()
+        },
+        Ok(Some(w)) => {
+            let place = DfChecked {
+                octet: w.octet as u64,
+                bit: w.bit as u32,
+                ..DfChecked::default()
+            };
+            match w.route {
+                Some(r) => DfChecked {
+                    in_route: 1,
+                    route: r.route as u64,
+                    reason: r.reason.number().into(),
+                    ..place
+                },
+                None => place,
             }
         }
-        SummaryOutcome::Refused(f) => DfDoors {
-            refusal: number(f),
-            left: 0,
-            carried: carried(f),
-            left_set: 0,
-            left_size: 0,
-            right: 0,
-            right_set: 0,
-            right_size: 0,
+        Err(f) => DfChecked {
+            refusal: f.number().into(),
+            carried: f.carried() as u64,
+            ..DfChecked::default()
         },
     }
 }
 
-fn checked_c(c: Checked) -> DfChecked
-    requires { Low c }
-    ensures { result ≡ checked_c (checked_answer c) }
-{
-    match c {
-        Checked::Right => DfChecked {
-            refusal: 0,
-            right: 1,
-            carried: 0,
-            octet: 0,
-            bit: 0,
-            in_route: 0,
-            route: 0,
-            reason: 0,
-        },
-        Checked::Wrong(w) => DfChecked {
-            refusal: 0,
-            right: 0,
-            carried: 0,
-            octet: w.octet as u64,
-            bit: w.bit as u32,
-            in_route: yes_no(w.in_route),
-            route: w.route as u64,
-            reason: w.reason as u32,
-        },
-        Checked::Refused(f) => DfChecked {
-            refusal: number(f),
-            right: 0,
-            carried: carried(f),
-            octet: 0,
-            bit: 0,
-            in_route: 0,
-            route: 0,
-            reason: 0,
-        },
+impl From<Result<EReading, Refusal>> for DfERead {
+    ghost from_gives = { λ r d. d ≡ e_read_c (e_read_answer r) };
+
+    fn from(answer: Result<EReading, Refusal>) -> DfERead {
+        match answer {
+            Ok(e) => DfERead {
+                code: e.code.into(),
+                report: e.report.into(),
+                status: e.status.into(),
+                ..DfERead::default()
+            },
+            Err(f) => DfERead {
+                refusal: f.number().into(),
+                ..DfERead::default()
+            },
+        }
     }
 }
 
-fn e_read_c(o: ERead) -> DfERead
-    ensures { result ≡ e_read_c (e_read_answer o) }
-{
-    match o {
-        ERead::Read(x) => DfERead {
-            refusal: 0,
-            code: x.code as u32,
-            report: yes_no(x.report),
-            status: x.status as u32,
-        },
-        ERead::Refused(f) => DfERead {
-            refusal: number(f),
-            code: 0,
-            report: 0,
-            status: 0,
-        },
+impl From<Result<Remedies, Refusal>> for DfRemedies {
+    ghost from_gives = { λ r d. d ≡ remedies_c (remediesAnswer r) };
+
+    fn from(answer: Result<Remedies, Refusal>) -> DfRemedies {
+        match answer {
+            Ok(x) => DfRemedies {
+                language: x.language.into(),
+                ordered: x.ordered.into(),
+                count: x.count.into(),
+                ..DfRemedies::default()
+            },
+            Err(f) => DfRemedies {
+                refusal: f.number().into(),
+                ..DfRemedies::default()
+            },
+        }
     }
 }
 
-fn remedies_c(o: RemediesRead) -> DfRemedies
-    ensures { result ≡ remedies_c (remediesAnswer o) }
-{
-    match o {
-        RemediesRead::Read(x) => DfRemedies {
-            refusal: 0,
-            language: x.language as u32,
-            ordered: x.ordered as u32,
-            count: x.count as u32,
-        },
-        RemediesRead::Refused(f) => DfRemedies {
-            refusal: number(f),
-            language: 0,
-            ordered: 0,
-            count: 0,
-        },
+impl From<Result<Option<Remedy>, Refusal>> for DfRemedy {
+    ghost from_gives = { λ r d. d ≡ remedy_c (remedy_answer r) };
+
+    fn from(answer: Result<Option<Remedy>, Refusal>) -> DfRemedy {
+        match answer {
+            Ok(Some(b)) => DfRemedy {
+                found: 1,
+                key: b.key.into(),
+                at: b.at as u64,
+                size: b.size as u64,
+                ..DfRemedy::default()
+            },
+            Ok(None) => DfRemedy::default(),
+            Err(f) => DfRemedy {
+                refusal: f.number().into(),
+                ..DfRemedy::default()
+            },
+        }
     }
 }
 
-fn remedy_c(o: RemedyRead) -> DfRemedy
-    ensures { result ≡ remedy_c (remedy_answer o) }
-{
-    match o {
-        RemedyRead::Found(b) => DfRemedy {
-            refusal: 0,
-            found: 1,
-            key: b.key as u32,
-            at: b.at as u64,
-            size: b.size as u64,
-        },
-        RemedyRead::Nothing => DfRemedy {
-            refusal: 0,
-            found: 0,
-            key: 0,
-            at: 0,
-            size: 0,
-        },
-        RemedyRead::Refused(f) => DfRemedy {
-            refusal: number(f),
-            found: 0,
-            key: 0,
-            at: 0,
-            size: 0,
-        },
-    }
-}
+impl From<Result<usize, Refusal>> for DfWrote {
+    ghost from_gives = { λ r d. d ≡ wrote_c (wrote_answer r) };
 
-fn wrote_c(o: Wrote) -> DfWrote
-    ensures { result ≡ wrote_c (wrote_answer o) }
-{
-    match o {
-        Wrote::Octets(n) => DfWrote {
-            refusal: 0,
-            size: n as u64,
-        },
-        Wrote::Refused(f) => DfWrote {
-            refusal: number(f),
-            size: 0,
-        },
+    fn from(answer: Result<usize, Refusal>) -> DfWrote {
+        match answer {
+            Ok(size) => DfWrote {
+                size: size as u64,
+                ..DfWrote::default()
+            },
+            Err(f) => DfWrote {
+                refusal: f.number().into(),
+                ..DfWrote::default()
+            },
+        }
     }
 }
 
@@ -893,35 +817,35 @@ fn wrote_c(o: Wrote) -> DfWrote
 pub extern "C" fn df_judge(list: &[u8], form: u8) -> DfJudged
     ensures { result ≡ judged_c (judging form list.now) }
 {
-    judged_c(gateway::judge(list, form))
+    gateway::judge(list, form).into()
 }
 
 #[unsafe(no_mangle)]
 pub extern "C" fn df_judge_profile(profile: u8, list: &[u8], form: u8) -> DfJudged
     ensures { result ≡ judged_c (profiling (profile_numbered profile) form list.now) }
 {
-    judged_c(gateway::judge_profile(profile_of(profile), list, form))
+    gateway::judge_profile(profile_of(profile), list, form).into()
 }
 
 #[unsafe(no_mangle)]
 pub extern "C" fn df_extends(a: &[u8], form: u8, b: &[u8], other: u8) -> DfExtending
     ensures { result ≡ extending_c (extends_lists form a.now other b.now) }
 {
-    extending_c(gateway::extends(a, form, b, other))
+    gateway::extends(a, form, b, other).into()
 }
 
 #[unsafe(no_mangle)]
 pub extern "C" fn df_signal_change(a: &[u8], form: u8, b: &[u8], other: u8, from: u64) -> DfChange
     ensures { result ≡ change_c (signal_changes form a.now other b.now from) }
 {
-    change_c(gateway::signal_change(a, form, b, other, from as usize))
+    gateway::signal_change(a, form, b, other, from as usize).into()
 }
 
 #[unsafe(no_mangle)]
 pub extern "C" fn df_route_change(a: &[u8], form: u8, b: &[u8], other: u8, from: u64) -> DfChange
     ensures { result ≡ change_c (route_changes form a.now other b.now from) }
 {
-    change_c(gateway::route_change(a, form, b, other, from as usize))
+    gateway::route_change(a, form, b, other, from as usize).into()
 }
 
 #[unsafe(no_mangle)]
@@ -935,70 +859,70 @@ pub extern "C" fn df_codes_gained(
 ) -> DfRange
     ensures { result ≡ range_c (codes_gained form a.now other b.now key from) }
 {
-    range_c(gateway::codes_gained(a, form, b, other, key as usize, from as usize))
+    gateway::codes_gained(a, form, b, other, key as usize, from as usize).into()
 }
 
 #[unsafe(no_mangle)]
 pub extern "C" fn df_signal_entry(list: &[u8], form: u8, signal: u64) -> DfEntry
     ensures { result ≡ entry_c (entry_of form list.now signal) }
 {
-    entry_c(gateway::signal_entry(list, form, signal as usize))
+    gateway::signal_entry(list, form, signal as usize).into()
 }
 
 #[unsafe(no_mangle)]
 pub extern "C" fn df_find_signal(list: &[u8], form: u8, kind: u64, start: u64) -> DfFound
     ensures { result ≡ found_c (finding form list.now kind start) }
 {
-    found_c(gateway::find_signal(list, form, kind as usize, start as usize))
+    gateway::find_signal(list, form, kind as usize, start as usize).into()
 }
 
 #[unsafe(no_mangle)]
 pub extern "C" fn df_serial(list: &[u8], form: u8, signal: u64) -> DfSerial
     ensures { result ≡ serial_c (serial_of form list.now signal) }
 {
-    serial_c(gateway::serial_of(list, form, signal as usize))
+    gateway::serial_of(list, form, signal as usize).into()
 }
 
 #[unsafe(no_mangle)]
 pub extern "C" fn df_to_form_2(list: &[u8], out: &mut [u8]) -> DfOutcome
     ensures { WrittenC (to_form2 list.now (length out.old)) out.old result out.new }
 {
-    outcome_c(gateway::to_form_2(list, out))
+    gateway::to_form_2(list, out).into()
 }
 
 #[unsafe(no_mangle)]
 pub extern "C" fn df_to_form_1(list: &[u8], out: &mut [u8]) -> DfOutcome
     ensures { WrittenC (to_form1 list.now (length out.old)) out.old result out.new }
 {
-    outcome_c(gateway::to_form_1(list, out))
+    gateway::to_form_1(list, out).into()
 }
 
 #[unsafe(no_mangle)]
 pub extern "C" fn df_check_place(bit: u64) -> DfPlace
     ensures { result ≡ place_c (check_place bit) }
 {
-    place_c(gateway::check_place(bit))
+    gateway::check_place(bit).into()
 }
 
 #[unsafe(no_mangle)]
 pub extern "C" fn df_take(store: &mut [u8], vehicle: u64, clock: u32, telegram: &[u8]) -> DfOutcome
     ensures { WrittenC (taking store.old vehicle clock telegram.now) store.old result store.new }
 {
-    outcome_c(gateway::take(store, vehicle as usize, clock, telegram))
+    gateway::take(store, vehicle as usize, clock, telegram).into()
 }
 
 #[unsafe(no_mangle)]
 pub extern "C" fn df_gap(store: &[u8], vehicle: u64) -> DfGap
     ensures { result ≡ gap_c (gapping store.now vehicle) }
 {
-    gap_c(gateway::gap(store, vehicle as usize))
+    gateway::gap(store, vehicle as usize).into()
 }
 
 #[unsafe(no_mangle)]
 pub extern "C" fn df_sweep(store: &mut [u8], clock: u32) -> DfOutcome
     ensures { WrittenC (sweeping store.old clock) store.old result store.new }
 {
-    outcome_c(gateway::sweep(store, clock))
+    gateway::sweep(store, clock).into()
 }
 
 #[unsafe(no_mangle)]
@@ -1012,7 +936,7 @@ pub extern "C" fn df_read(
 ) -> DfReading
     ensures { result ≡ reading_c (reading form list.now store.now clock vehicle signal) }
 {
-    reading_c(gateway::read(list, form, store, clock, vehicle as usize, signal as usize))
+    gateway::read(list, form, store, clock, vehicle as usize, signal as usize).into()
 }
 
 #[unsafe(no_mangle)]
@@ -1027,7 +951,7 @@ pub extern "C" fn df_read_all(
 ) -> DfOutcome
     ensures { ReadIntoC (readings form list.now store.now clock vehicle (length values.old) (length reasons.old)) values.old reasons.old result values.new reasons.new }
 {
-    outcome_c(gateway::read_all(list, form, store, clock, vehicle as usize, values, reasons))
+    gateway::read_all(list, form, store, clock, vehicle as usize, values, reasons).into()
 }
 
 #[unsafe(no_mangle)]
@@ -1042,7 +966,7 @@ pub extern "C" fn df_read_train(
 ) -> DfOutcome
     ensures { ReadIntoC (train_readings form list.now store.now clock last (length values.old) (length reasons.old)) values.old reasons.old result values.new reasons.new }
 {
-    outcome_c(gateway::read_train(list, form, store, clock, last as usize, values, reasons))
+    gateway::read_train(list, form, store, clock, last as usize, values, reasons).into()
 }
 
 #[unsafe(no_mangle)]
@@ -1055,7 +979,7 @@ pub extern "C" fn df_marshal(
 ) -> DfMarshalled
     ensures { DeliveredC (marshalling form list.now store.now clock bus.old) bus.old result bus.new }
 {
-    lives_c(gateway::marshal(list, form, store, clock, bus))
+    gateway::marshal(list, form, store, clock, bus).into()
 }
 
 #[unsafe(no_mangle)]
@@ -1069,7 +993,7 @@ pub extern "C" fn df_compose(
 ) -> DfOutcome
     ensures { WrittenC (composing form list.now kind values.now marks.now (length out.old)) out.old result out.new }
 {
-    outcome_c(gateway::compose(list, form, kind as usize, values, marks, out))
+    gateway::compose(list, form, kind as usize, values, marks, out).into()
 }
 
 #[unsafe(no_mangle)]
@@ -1083,7 +1007,7 @@ pub extern "C" fn df_relay(
 ) -> DfOutcome
     ensures { WrittenC (relaying form list.now store.now clock vehicle (length out.old)) out.old result out.new }
 {
-    outcome_c(gateway::relay(list, form, store, clock, vehicle as usize, out))
+    gateway::relay(list, form, store, clock, vehicle as usize, out).into()
 }
 
 #[unsafe(no_mangle)]
@@ -1098,7 +1022,7 @@ pub extern "C" fn df_show(
 ) -> DfShown
     ensures { result ≡ shown_c (showing form list.now store.now clock vehicle signal (kind_numbered kind)) }
 {
-    shown_c(gateway::show(
+    gateway::show(
         list,
         form,
         store,
@@ -1106,28 +1030,29 @@ pub extern "C" fn df_show(
         vehicle as usize,
         signal as usize,
         kind_of(kind),
-    ))
+    )
+    .into()
 }
 
 #[unsafe(no_mangle)]
 pub extern "C" fn df_resolve(marks: &[u8], address: u64) -> DfMembers
     ensures { result ≡ members_c (resolving (map vehicle_of marks.now) address) }
 {
-    members_c(gateway::resolve(marks, address))
+    gateway::resolve(marks, address).into()
 }
 
 #[unsafe(no_mangle)]
 pub extern "C" fn df_property(octets: &[u8; 56], row: u32) -> DfProperty
     ensures { result ≡ property_c (property_of octets.now row) }
 {
-    property_c(row, gateway::property_of(octets, row))
+    gateway::property_of(octets, row).into()
 }
 
 #[unsafe(no_mangle)]
 pub extern "C" fn df_christen(records: &[u8], pairs: &[u8], marks: &mut [u8; 63]) -> DfChristened
     ensures { ChristenedC (christening records.now (map pair_of pairs.now)) marks.old result marks.new }
 {
-    christened_c(gateway::christen(records, pairs, marks))
+    gateway::christen(records, pairs, marks).into()
 }
 
 #[unsafe(no_mangle)]
@@ -1157,35 +1082,35 @@ pub extern "C" fn df_doors(
 ) -> DfDoors
     ensures { result ≡ doors_c (doors form list.now store.now clock (map vehicle_of marks.now) address) }
 {
-    doors_c(doors::summary(list, form, store, clock, marks, address))
+    doors::summary(list, form, store, clock, marks, address).into()
 }
 
 #[unsafe(no_mangle)]
 pub extern "C" fn df_e_read(telegram: &[u8]) -> DfERead
     ensures { result ≡ e_read_c (e_reading telegram.now) }
 {
-    e_read_c(gateway::e_read(telegram))
+    gateway::e_read(telegram).into()
 }
 
 #[unsafe(no_mangle)]
 pub extern "C" fn df_e_answer(telegram: &[u8], head: &[u8], status: u8, out: &mut [u8]) -> DfOutcome
     ensures { WrittenC (answering telegram.now head.now status out.old) out.old result out.new }
 {
-    outcome_c(gateway::e_answer(telegram, head, status, out))
+    gateway::e_answer(telegram, head, status, out).into()
 }
 
 #[unsafe(no_mangle)]
 pub extern "C" fn df_read_remedies(telegram: &[u8]) -> DfRemedies
     ensures { result ≡ remedies_c (remedy_reading telegram.now) }
 {
-    remedies_c(gateway::read_remedies(telegram))
+    gateway::read_remedies(telegram).into()
 }
 
 #[unsafe(no_mangle)]
 pub extern "C" fn df_remedy_block(telegram: &[u8], block: usize) -> DfRemedy
     ensures { result ≡ remedy_c (remedy_block telegram.now block) }
 {
-    remedy_c(gateway::remedy_block(telegram, block))
+    gateway::remedy_block(telegram, block).into()
 }
 
 #[unsafe(no_mangle)]
@@ -1201,5 +1126,5 @@ pub extern "C" fn df_write_remedies(
 ) -> DfWrote
     ensures { WroteC (remedy_writing (handed_of head.now carried.now language ordered (area_blocks keys.now lengths.now texts.now)) out.old) out.old result out.new }
 {
-    wrote_c(gateway::write_area(head, carried, language, ordered, keys, lengths, texts, out))
+    gateway::write_area(head, carried, language, ordered, keys, lengths, texts, out).into()
 }

@@ -1,5 +1,0 @@
-use borrow.Author.Rules.{rules}
-use Rattle.dustferrule.proofs.change_refused.Goals as goal
-
-pub returns : goal.returns
-returns c = rw (c.number.ensures, c.carried.ensures)

@@ -1,5 +1,0 @@
-use borrow.Author.Rules.{rules}
-use Rattle.dustferrule.proofs.df_check_place.Goals as goal
-
-pub returns : goal.returns
-returns c = cc
