@@ -104,7 +104,7 @@ def calls(folder, machine):
 
 def red_zones(folder, machine):
     """The octets that each function uses below its frame, as one may on x86-64 that calls no other."""
-    found = re.findall(r'^"?([\w:]+)"?: +[#/]+ @.*?\n(.*?)^\.Lfunc_end', read(folder, machine, "dustferrule.s"), re.S | re.M)
+    found = re.findall(r'^"?([^"\n]+?)"?: +[#/]+ @.*?\n(.*?)^\.Lfunc_end', read(folder, machine, "dustferrule.s"), re.S | re.M)
     return {name: max(map(int, re.findall(r"-(\d+)\(%rsp", body)), default=0) for name, body in found}
 
 
