@@ -2,7 +2,7 @@
 #![tactic(auto)]
 
 use files::Host;
-use gateway::{ExtendsOutcome, LONGEST};
+use gateway::{LONGEST, ListRefused};
 use saying::STDOUT;
 
 fn help() {
@@ -23,29 +23,25 @@ The exit status is as of `diff`: 0 yes, 1 no, 2 refused or error.
     );
 }
 
-fn show(found: ExtendsOutcome) {
+fn show(found: Result<bool, ListRefused>) {
     match found {
-        ExtendsOutcome::Yes => saying::print(saying::say(saying::empty(), b"extends: yes")),
-        ExtendsOutcome::No => saying::print(saying::say(saying::empty(), b"extends: no")),
-        ExtendsOutcome::FirstRefused(f) => words::print_refused_of(f, b" (first list)"),
-        ExtendsOutcome::SecondRefused(f) => words::print_refused_of(f, b" (second list)"),
+        Ok(true) => saying::print(saying::say(saying::empty(), b"extends: yes")),
+        Ok(false) => saying::print(saying::say(saying::empty(), b"extends: no")),
+        Err(ListRefused::First(f)) => words::print_refused_of(f, b" (first list)"),
+        Err(ListRefused::Second(f)) => words::print_refused_of(f, b" (second list)"),
     }
 }
 
 // One octet more than the longest list: what follows cannot change the answer.
 fn compare(rt: &impl Host, first_form: u8, second_form: u8) {
     let mut a = [0u8; LONGEST + 1];
-    let first = files::read(rt, 1, b"FIRST", &mut a);
-    if !first.ok {
+    let Some(m) = files::read(rt, 1, b"FIRST", &mut a) else {
         return;
-    }
+    };
     let mut b = [0u8; LONGEST + 1];
-    let second = files::read(rt, 2, b"SECOND", &mut b);
-    if !second.ok {
+    let Some(n) = files::read(rt, 2, b"SECOND", &mut b) else {
         return;
-    }
-    let m = first.octets;
-    let n = second.octets;
+    };
     show(gateway::extends(&a[..m], first_form, &b[..n], second_form));
 }
 

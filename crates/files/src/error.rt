@@ -22,99 +22,70 @@ pub const ENAMETOOLONG: i32 = 36;
 
 pub const ELOOP: i32 = 40;
 
-// No numbers of the system: what these programs themselves have against a file.
-pub const UNWRITTEN: i32 = -1;
+// What is against a file: an error of the system, by its number, or what these programs themselves have against it.
+#[derive(Clone, Copy, Debug, PartialEq, Eq)]
+pub enum FileError {
+    System(i32),
+    // std has found it, without a number.
+    Unusable,
+    Unwritten,
+    Left,
+    NotPlain,
+    Given,
+    ReadOnly,
+    Several,
+    NotKept,
+    NotText,
+}
 
-pub const LEFT: i32 = -2;
-
-pub const NOT_PLAIN: i32 = -3;
-
-pub const GIVEN: i32 = -4;
-
-pub const READ_ONLY: i32 = -5;
-
-pub const SEVERAL: i32 = -6;
-
-pub const NOT_KEPT: i32 = -7;
-
-pub const NOT_TEXT: i32 = -8;
-
-const UNUSABLE: i32 = -9;
-
-// The system's number of an error that came through std; one that std found itself has none.
-pub fn number_of(e: std::io::Error) -> i32 {
-    match e.raw_os_error() {
-        Some(n) => n,
-        None => UNUSABLE,
+impl From<std::io::Error> for FileError {
+    fn from(e: std::io::Error) -> FileError {
+        match e.raw_os_error() {
+            Some(n) => FileError::System(n),
+            None => FileError::Unusable,
+        }
     }
 }
 
-fn say_own(line: Line, error: i32) -> Line {
-    if error == UNWRITTEN {
-        return say(line, b"cannot be written");
+fn say_number_of(line: Line, n: i32) -> Line {
+    match n {
+        ENOENT => say(line, b"no such file or folder"),
+        EACCES | EPERM => say(line, b"not permitted"),
+        EROFS => say(line, b"is read-only"),
+        EEXIST => say(line, b"exists already"),
+        EISDIR => say(line, b"is a folder"),
+        ENOTDIR => say(line, b"not in a folder"),
+        ENAMETOOLONG => say(line, b"the path is too long"),
+        ELOOP => say(line, b"too many links"),
+        _ => say(line, b"cannot be used"),
     }
-    if error == LEFT {
-        return say(line, b"exists; remove it if no program is at work");
-    }
-    if error == NOT_PLAIN {
-        return say(line, b"is no plain file");
-    }
-    if error == GIVEN {
-        return say(line, b"is given twice");
-    }
-    if error == READ_ONLY {
-        return say(line, b"is read-only");
-    }
-    if error == SEVERAL {
-        return say(
+}
+
+fn say_why(line: Line, error: FileError) -> Line {
+    match error {
+        FileError::System(n) => say_number_of(line, n),
+        FileError::Unusable => say(line, b"cannot be used"),
+        FileError::Unwritten => say(line, b"cannot be written"),
+        FileError::Left => say(line, b"exists; remove it if no program is at work"),
+        FileError::NotPlain => say(line, b"is no plain file"),
+        FileError::Given => say(line, b"is given twice"),
+        FileError::ReadOnly => say(line, b"is read-only"),
+        FileError::Several => say(
             line,
             b"has several names (hard links), and only one would be replaced",
-        );
+        ),
+        FileError::NotKept => say(line, b"its owner and mode cannot be kept"),
+        FileError::NotText => say(line, b"the path is no text in UTF-8"),
     }
-    if error == NOT_KEPT {
-        return say(line, b"its owner and mode cannot be kept");
-    }
-    if error == NOT_TEXT {
-        return say(line, b"the path is no text in UTF-8");
-    }
-    say(line, b"cannot be used")
-}
-
-fn say_why(line: Line, error: i32) -> Line {
-    if error == ENOENT {
-        return say(line, b"no such file or folder");
-    }
-    if (error == EACCES) | (error == EPERM) {
-        return say(line, b"not permitted");
-    }
-    if error == EROFS {
-        return say(line, b"is read-only");
-    }
-    if error == EEXIST {
-        return say(line, b"exists already");
-    }
-    if error == EISDIR {
-        return say(line, b"is a folder");
-    }
-    if error == ENOTDIR {
-        return say(line, b"not in a folder");
-    }
-    if error == ENAMETOOLONG {
-        return say(line, b"the path is too long");
-    }
-    if error == ELOOP {
-        return say(line, b"too many links");
-    }
-    say_own(line, error)
 }
 
 // The error line on the file of argument i.
-pub fn print_error(rt: &impl Host, i: usize, name: &[u8], error: i32) {
+pub fn print_error(rt: &impl Host, i: usize, name: &[u8], error: FileError) {
     print(say_why(say_error(rt, i, name, b""), error));
 }
 
 // The error line on a file beside it, whose path is given up to its ending.
-pub fn print_beside(name: &[u8], path: &[u8], ending: &[u8], error: i32) {
+pub fn print_beside(name: &[u8], path: &[u8], ending: &[u8], error: FileError) {
     print(say_why(say_beside(b"error: ", name, path, ending), error));
 }
 
@@ -124,12 +95,12 @@ fn say_beside(head: &[u8], name: &[u8], path: &[u8], ending: &[u8]) -> Line {
 }
 
 // The error line for a lock that was waited for in vain: whose it is, and what to do.
-pub fn print_busy(name: &[u8], path: &[u8], owner: Owner) {
+pub fn print_busy(name: &[u8], path: &[u8], owner: Option<Owner>) {
     let l = say_beside(b"error: busy: ", name, path, b".lock");
-    if owner.pid == 0 {
+    let Some(owner) = owner else {
         print(say(l, b"names no process; remove it if no program is at work"));
         return;
-    }
+    };
     let l = say_number(say(l, b"process "), owner.pid);
     if owner.is_gone {
         print(say(

@@ -10,12 +10,14 @@ mod host;
 mod lock;
 mod path;
 
+ghost use Rattle.std.specs.Prelude.{IfOk, IfSome};
 ghost use Rattle.io.specs.Counts.{IsPrefixLen};
 
 pub use error::print_long;
-use error::{print_beside, print_busy, print_error};
+use error::{EEXIST, EISDIR, ENOENT, FileError, print_beside, print_busy, print_error};
 use facts::{Found, look_at};
 pub use host::Host;
+use lock::NoLock;
 use path::{beside, text_of};
 pub use path::{put_at, target_of};
 use std::fs;
@@ -23,52 +25,34 @@ use std::fs::{File, OpenOptions, Permissions};
 use std::io::{Read, Write};
 use std::os::unix::fs::{PermissionsExt, fchown};
 
-// How many octets were read; not ok where the file could not be read, which an error line has said.
-#[derive(Clone, Copy)]
-pub struct Input {
-    pub octets: usize,
-    pub ok: bool,
-}
-
-// What a program may write over: a file that is there, or a name that is free, and not the files of the two arguments (0 is none).
-#[derive(Clone, Copy)]
+// What a program may write over: a file that is there, or a name that is free, and not the files of the two arguments.
+#[derive(Clone, Copy, Debug, PartialEq, Eq)]
 pub struct Rules {
     pub is_old: bool,
     pub is_new: bool,
-    pub first: usize,
-    pub second: usize,
+    pub first: Option<usize>,
+    pub second: Option<usize>,
 }
 
-// How many octets a file gave, and the number of the error that ended it; 0 where there was none.
-#[derive(Clone, Copy)]
-struct Filled {
-    octets: usize,
-    error: i32,
-}
-
-// Reads until buf is full, the file ends or a read fails.
-fn fill(file: &mut File, buf: &mut [u8]) -> Filled
-    ensures { IsPrefixLen result.octets buf.new }
+// Reads until buf is full, the file ends or a read fails, and answers how many octets were read.
+fn fill(file: &mut File, buf: &mut [u8]) -> Result<usize, FileError>
+    ensures { IfOk result (λ n. IsPrefixLen n buf.new) }
 {
     let mut octets = 0;
+    // While: the step is what was read.
     while octets < buf.len() {
-        match file.read(&mut buf[octets..]) {
-            Ok(0) => break,
-            Ok(n) => octets += n,
-            Err(e) => {
-                return Filled {
-                    octets,
-                    error: error::number_of(e),
-                };
-            }
+        match file.read(&mut buf[octets..])? {
+            0 => break,
+            n => octets += n,
         }
     }
-    Filled { octets, error: 0 }
+    Ok(octets)
 }
 
-// Reads the file of argument i into buf, up to its end or buf's. An octet more than the longest that can be shows a file too long.
-pub fn read(rt: &impl Host, i: usize, name: &[u8], buf: &mut [u8]) -> Input
-    ensures { IsPrefixLen result.octets buf.new }
+// Reads the file of argument i into buf, up to its end or buf's, and answers how many octets it has; None where it could not be read, which an
+// error line has said. An octet more than the longest that can be shows a file too long.
+pub fn read(rt: &impl Host, i: usize, name: &[u8], buf: &mut [u8]) -> Option<usize>
+    ensures { IfSome result (λ n. IsPrefixLen n buf.new) }
 {
     let mut path = io::buffer();
     let n = path::path_of(rt, i, &mut path);
@@ -76,31 +60,16 @@ pub fn read(rt: &impl Host, i: usize, name: &[u8], buf: &mut [u8]) -> Input
 }
 
 // The same of the path to which argument i leads.
-pub fn read_at(rt: &impl Host, i: usize, name: &[u8], path: &[u8], buf: &mut [u8]) -> Input
-    ensures { IsPrefixLen result.octets buf.new }
+pub fn read_at(rt: &impl Host, i: usize, name: &[u8], path: &[u8], buf: &mut [u8]) -> Option<usize>
+    ensures { IfSome result (λ n. IsPrefixLen n buf.new) }
 {
-    match open_at(rt, i, name, path) {
-        Some(file) => read_whole(rt, i, name, file, buf),
-        None => Input {
-            octets: 0,
-            ok: false,
-        },
-    }
-}
-
-fn read_whole(rt: &impl Host, i: usize, name: &[u8], file: File, buf: &mut [u8]) -> Input
-    ensures { IsPrefixLen result.octets buf.new }
-{
-    let mut file = file;
+    let mut file = open_at(rt, i, name, path)?;
     read_piece(rt, i, name, &mut file, buf)
 }
 
-// The file at the path, to be read, or the number of the error.
-fn opened(rt: &impl Host, path: &[u8]) -> Result<File, i32> {
-    match fs::open(rt, text_of(path)?) {
-        Ok(file) => Ok(file),
-        Err(e) => Err(error::number_of(e)),
-    }
+// The file at the path, to be read.
+fn opened(rt: &impl Host, path: &[u8]) -> Result<File, FileError> {
+    Ok(fs::open(rt, text_of(path)?)?)
 }
 
 fn open_at(rt: &impl Host, i: usize, name: &[u8], path: &[u8]) -> Option<File> {
@@ -121,89 +90,84 @@ pub fn open(rt: &impl Host, i: usize, name: &[u8]) -> Option<File> {
 }
 
 // Reads the next piece of the file of argument i, which is open, into buf: fewer octets than buf has where the file ends.
-pub fn read_piece(rt: &impl Host, i: usize, name: &[u8], file: &mut File, buf: &mut [u8]) -> Input
-    ensures { IsPrefixLen result.octets buf.new }
+pub fn read_piece(
+    rt: &impl Host,
+    i: usize,
+    name: &[u8],
+    file: &mut File,
+    buf: &mut [u8],
+) -> Option<usize>
+    ensures { IfSome result (λ n. IsPrefixLen n buf.new) }
 {
-    let f = fill(file, buf);
-    if f.error != 0 {
-        print_error(rt, i, name, f.error);
-    }
-    Input {
-        octets: f.octets,
-        ok: f.error == 0,
+    match fill(file, buf) {
+        Ok(octets) => Some(octets),
+        Err(error) => {
+            print_error(rt, i, name, error);
+            None
+        }
     }
 }
 
 pub fn is_there(rt: &impl Host, path: &[u8]) -> bool {
-    let f = look_at(rt, path);
-    f.error == 0
+    look_at(rt, path).is_ok()
 }
 
-// Why the system lets this process not write the file at the path, as an error's number; 0 where it does. The file is opened and left as it is.
-fn against_writing(rt: &impl Host, path: &[u8]) -> i32 {
-    let path = match text_of(path) {
-        Ok(path) => path,
-        Err(error) => return error,
-    };
-    match OpenOptions::new().write(true).open(rt, path) {
-        Ok(_) => 0,
-        Err(e) => error::number_of(e),
-    }
+// Whether the system lets this process write the file at the path, or why not. The file is opened and left as it is.
+fn test_writing(rt: &impl Host, path: &[u8]) -> Result<(), FileError> {
+    OpenOptions::new().write(true).open(rt, text_of(path)?)?;
+    Ok(())
 }
 
-// Why a file that is there is not to be replaced, as an error's number; 0 where it may be.
-fn against_old(rt: &impl Host, path: &[u8], f: Found, rules: Rules) -> i32 {
+fn is_among(rt: &impl Host, f: Found, i: Option<usize>) -> bool {
+    i.is_some_and(|i| facts::is_given(rt, f, i))
+}
+
+// Whether a file that is there may be replaced, or why not.
+fn test_old(rt: &impl Host, path: &[u8], f: Found, rules: Rules) -> Result<(), FileError> {
     if facts::is_folder(f) {
-        return error::EISDIR;
+        return Err(FileError::System(EISDIR));
     }
     if !facts::is_plain(f) {
-        return error::NOT_PLAIN;
+        return Err(FileError::NotPlain);
     }
-    if facts::is_given(rt, f, rules.first) | facts::is_given(rt, f, rules.second) {
-        return error::GIVEN;
+    if is_among(rt, f, rules.first) || is_among(rt, f, rules.second) {
+        return Err(FileError::Given);
     }
     if facts::is_read_only(f) {
-        return error::READ_ONLY;
+        return Err(FileError::ReadOnly);
     }
     if 1 < f.names {
-        return error::SEVERAL;
+        return Err(FileError::Several);
     }
-    against_writing(rt, path)
+    test_writing(rt, path)
 }
 
-fn against(rt: &impl Host, path: &[u8], f: Found, rules: Rules) -> i32 {
-    if (f.error == error::ENOENT) & rules.is_new & (path.len() != 0) {
-        return 0;
+fn test(rt: &impl Host, path: &[u8], rules: Rules) -> Result<(), FileError> {
+    match look_at(rt, path) {
+        Err(FileError::System(ENOENT)) if rules.is_new && !path.is_empty() => Ok(()),
+        Err(error) => Err(error),
+        Ok(_) if !rules.is_old => Err(FileError::System(EEXIST)),
+        Ok(f) => test_old(rt, path, f, rules),
     }
-    if f.error != 0 {
-        return f.error;
-    }
-    if !rules.is_old {
-        return error::EEXIST;
-    }
-    against_old(rt, path, f, rules)
 }
 
 fn may_go(rt: &impl Host, i: usize, name: &[u8], path: &[u8], rules: Rules) -> bool {
-    let f = look_at(rt, path);
-    let error = against(rt, path, f, rules);
-    if error != 0 {
+    let tested = test(rt, path, rules);
+    if let Err(error) = tested {
         print_error(rt, i, name, error);
     }
-    error == 0
+    tested.is_ok()
 }
 
-// Makes the file at the path, which is not there yet, to be written, or gives the number of the error.
-fn create(rt: &impl Host, path: &[u8]) -> Result<File, i32> {
+// Makes the file at the path, which is not there yet, to be written.
+fn create(rt: &impl Host, path: &[u8]) -> Result<File, FileError> {
     let path = text_of(path)?;
-    match OpenOptions::new()
-        .write(true)
-        .create_new(true)
-        .open(rt, path)
-    {
-        Ok(file) => Ok(file),
-        Err(e) => Err(error::number_of(e)),
-    }
+    Ok(
+        OpenOptions::new()
+            .write(true)
+            .create_new(true)
+            .open(rt, path)?,
+    )
 }
 
 // Whether the file at the path could be taken away.
@@ -214,11 +178,9 @@ fn unlink(rt: &impl Host, path: &[u8]) -> bool {
     fs::remove_file(rt, path).is_ok()
 }
 
-fn rename(rt: &impl Host, from: &[u8], to: &[u8]) -> Result<(), i32> {
-    match fs::rename(rt, text_of(from)?, text_of(to)?) {
-        Ok(()) => Ok(()),
-        Err(e) => Err(error::number_of(e)),
-    }
+fn rename(rt: &impl Host, from: &[u8], to: &[u8]) -> Result<(), FileError> {
+    fs::rename(rt, text_of(from)?, text_of(to)?)?;
+    Ok(())
 }
 
 fn remove_new(rt: &impl Host, path: &[u8]) {
@@ -227,13 +189,13 @@ fn remove_new(rt: &impl Host, path: &[u8]) {
     unlink(rt, &new[..n]);
 }
 
-fn create_new(rt: &impl Host, path: &[u8]) -> Result<File, i32> {
+fn create_new(rt: &impl Host, path: &[u8]) -> Result<File, FileError> {
     let mut new = io::buffer();
     let n = beside(path, b".new", &mut new);
     create(rt, &new[..n])
 }
 
-fn rename_new(rt: &impl Host, path: &[u8]) -> Result<(), i32> {
+fn rename_new(rt: &impl Host, path: &[u8]) -> Result<(), FileError> {
     let mut new = io::buffer();
     let n = beside(path, b".new", &mut new);
     rename(rt, &new[..n], path)
@@ -242,41 +204,35 @@ fn rename_new(rt: &impl Host, path: &[u8]) -> Result<(), i32> {
 // A rename lasts once its folder is flushed; a folder that can't be read can't be flushed either.
 fn flush_folder(rt: &impl Host, path: &[u8]) {
     let n = path::folder_of(path);
-    let folder = if n == 0 {
-        opened(rt, b".")
-    } else {
-        opened(rt, &path[..n])
-    };
-    if let Ok(folder) = folder {
+    let folder = if n == 0 { b"." } else { &path[..n] };
+    if let Ok(folder) = opened(rt, folder) {
         let _ = folder.sync_all();
     }
 }
 
-// Gives the new file the owner, group and mode of the old one, before an octet stands in it.
-fn is_kept(file: &File, f: Found) -> bool {
-    if f.error != 0 {
+// Gives the new file the owner, group and mode of the old one, if there is one, before an octet stands in it.
+fn is_kept(file: &File, old: Option<Found>) -> bool {
+    let Some(f) = old else {
         return true;
-    }
-    if fchown(file, Some(f.owner), Some(f.group)).is_err() {
-        return false;
-    }
-    file.set_permissions(Permissions::from_mode(f.mode & 0o7777))
-        .is_ok()
+    };
+    fchown(file, Some(f.owner), Some(f.group)).is_ok()
+        && file
+            .set_permissions(Permissions::from_mode(f.mode & 0o7777))
+            .is_ok()
 }
 
-fn left(error: i32) -> i32 {
-    if error == error::EEXIST {
-        error::LEFT
-    } else {
-        error
+fn left(error: FileError) -> FileError {
+    match error {
+        FileError::System(EEXIST) => FileError::Left,
+        _ => error,
     }
 }
 
 // Makes the new file, under the lock. A new file that is there is not this program's, and stays.
 fn begin_new(rt: &impl Host, i: usize, name: &[u8], path: &[u8]) -> Option<File> {
-    let f = look_at(rt, path);
+    let old = look_at(rt, path).ok();
     match create_new(rt, path) {
-        Ok(file) => keep_new(rt, i, name, path, file, f),
+        Ok(file) => keep_new(rt, i, name, path, file, old),
         Err(error) => {
             print_beside(name, path, b".new", left(error));
             None
@@ -290,37 +246,31 @@ fn keep_new(
     name: &[u8],
     path: &[u8],
     file: File,
-    f: Found,
+    old: Option<Found>,
 ) -> Option<File> {
-    if is_kept(&file, f) {
+    if is_kept(&file, old) {
         return Some(file);
     }
     remove_new(rt, path);
-    print_error(rt, i, name, error::NOT_KEPT);
+    print_error(rt, i, name, FileError::NotKept);
     None
 }
 
 fn is_locked(rt: &impl Host, name: &[u8], path: &[u8]) -> bool {
-    let w = lock::wait(rt, path);
-    if w.has {
-        return true;
+    let locked = lock::wait(rt, path);
+    match locked {
+        Ok(()) => {}
+        Err(NoLock::Busy(owner)) => print_busy(name, path, owner),
+        Err(NoLock::Unmade(error)) => print_beside(name, path, b".lock", error),
     }
-    if w.error == 0 {
-        print_busy(name, path, w.owner);
-    } else {
-        print_beside(name, path, b".lock", w.error);
-    }
-    false
+    locked.is_ok()
 }
 
 // Begins to replace the file to which argument i leads: waits for its lock, and makes the file with `.new` behind its name. None where
 // that is not to be or cannot be, which an error line has said. The guard stands before the lock, which is made beside no device, and
 // behind it, since the file may be another one by then.
 pub fn begin(rt: &impl Host, i: usize, name: &[u8], path: &[u8], rules: Rules) -> Option<File> {
-    if !may_go(rt, i, name, path, rules) {
-        return None;
-    }
-    if !is_locked(rt, name, path) {
+    if !may_go(rt, i, name, path, rules) || !is_locked(rt, name, path) {
         return None;
     }
     let file = if may_go(rt, i, name, path, rules) {
@@ -339,13 +289,13 @@ fn write_closed(file: File, octets: &[u8]) -> bool {
     let mut file = file;
     let is_written = file.write_all(octets).is_ok();
     let is_kept = file.sync_all().is_ok();
-    is_written & is_kept
+    is_written && is_kept
 }
 
 fn put(rt: &impl Host, i: usize, name: &[u8], path: &[u8], file: File, octets: &[u8]) -> bool {
     if !write_closed(file, octets) {
         remove_new(rt, path);
-        print_beside(name, path, b".new", error::UNWRITTEN);
+        print_beside(name, path, b".new", FileError::Unwritten);
         return false;
     }
     if let Err(error) = rename_new(rt, path) {
@@ -385,8 +335,8 @@ pub fn make(rt: &impl Host, i: usize, name: &[u8], octets: &[u8]) -> bool {
     let rules = Rules {
         is_old: false,
         is_new: true,
-        first: 0,
-        second: 0,
+        first: None,
+        second: None,
     };
     match begin(rt, i, name, &path[..n], rules) {
         Some(file) => commit(rt, i, name, &path[..n], file, octets),

@@ -1,10 +1,10 @@
 // One writer of a file at a time: FILE.lock names the process that is at work, and the next one waits for it.
 ghost use Rattle.io.specs.Counts.{IsPrefixLen};
 
+use crate::error::{EEXIST, FileError};
 use crate::host::Host;
 use crate::path::{beside, link_text, put_at, text_of};
-use crate::{create, error, fill, opened, unlink};
-use saying::Number;
+use crate::{create, fill, opened, unlink};
 use std::fs::{File, Permissions};
 use std::io::Write;
 use std::os::unix::fs::PermissionsExt;
@@ -20,21 +20,18 @@ const MOST: usize = 3000;
 
 const PIDS: u64 = 2147483647;
 
-// Which process a lock names, 0 where it names none, and whether that one is gone.
-#[derive(Clone, Copy)]
+// Which process a lock names, and whether that one is gone.
+#[derive(Clone, Copy, Debug, PartialEq, Eq)]
 pub struct Owner {
     pub pid: u64,
     pub is_gone: bool,
 }
 
-// How the waiting goes: not over while others are at work, and an error's number where the lock can't be had at all.
-#[derive(Clone, Copy)]
-pub struct Waiting {
-    pub is_over: bool,
-    pub has: bool,
-    pub error: i32,
-    pub owner: Owner,
-    same: usize,
+// Why there is no lock: others are at work all the while, the last one under that name if it has one, or it can't be made at all.
+#[derive(Clone, Copy, Debug, PartialEq, Eq)]
+pub enum NoLock {
+    Busy(Option<Owner>),
+    Unmade(FileError),
 }
 
 fn pause(rt: &impl Host) {
@@ -45,27 +42,17 @@ fn pause(rt: &impl Host) {
 fn before(text: &[u8], octet: u8) -> usize
     ensures { IsPrefixLen result text.now }
 {
-    let mut i = 0;
-    while i < text.len() {
-        if text[i] == octet {
-            break;
-        }
-        i += 1;
-    }
-    i
+    text.iter().position(|&x| x == octet).unwrap_or(text.len())
 }
 
 // What stands at the path, as far as there is room; nothing where it can't be read.
 fn read_into(rt: &impl Host, path: &[u8], text: &mut [u8]) -> usize
     ensures { IsPrefixLen result text.new }
 {
-    match opened(rt, path) {
-        Ok(file) => {
-            let mut file = file;
-            fill(&mut file, text).octets
-        }
-        Err(_) => 0,
-    }
+    let Ok(mut file) = opened(rt, path) else {
+        return 0;
+    };
+    fill(&mut file, text).unwrap_or(0)
 }
 
 fn put_host(rt: &impl Host, buf: &mut [u8], from: usize) -> usize
@@ -126,19 +113,16 @@ fn remove(rt: &impl Host, path: &[u8], ending: &[u8]) -> bool {
     unlink(rt, &name[..n])
 }
 
-// Makes the lock; 0, or the number of the error. A lock that could not be signed is taken away again.
-fn make(rt: &impl Host, path: &[u8]) -> i32 {
+// Makes the lock. One that could not be signed is taken away again.
+fn make(rt: &impl Host, path: &[u8]) -> Result<(), FileError> {
     let mut name = io::buffer();
     let n = beside(path, b".lock", &mut name);
-    let file = match create(rt, &name[..n]) {
-        Ok(file) => file,
-        Err(error) => return error,
-    };
-    if !sign(rt, file) {
-        unlink(rt, &name[..n]);
-        return error::UNWRITTEN;
+    let file = create(rt, &name[..n])?;
+    if sign(rt, file) {
+        return Ok(());
     }
-    0
+    unlink(rt, &name[..n]);
+    Err(FileError::Unwritten)
 }
 
 // What stands in the lock; nothing where it is gone by now.
@@ -155,10 +139,7 @@ fn is_listed(rt: &impl Host, pid: u64) -> Option<bool> {
     let mut name = [0u8; 40];
     let n = put_at(&mut name, 0, b"/proc/");
     let n = put_number(&mut name, n, pid);
-    let Ok(path) = text_of(&name[..n]) else {
-        return None;
-    };
-    fs::exists(rt, path).ok()
+    fs::exists(rt, text_of(&name[..n]).ok()?).ok()
 }
 
 // Whether that list tells of every process: it numbers this one as the system does, and does not hide those of others, of which 1 is one.
@@ -167,18 +148,12 @@ fn is_whole(rt: &impl Host) -> bool {
     let k = io::decimal(own_pid(rt), &mut digits);
     let mut own = [0u8; 20];
     let n = link_text(rt, b"/proc/self", &mut own);
-    check::same(&own[..n], &digits[..k]) & (is_listed(rt, 1) == Some(true))
+    check::same(&own[..n], &digits[..k]) && is_listed(rt, 1) == Some(true)
 }
 
 // Whether no process has the number. This one waits for the lock, so one that names it was left by another.
 fn is_gone(rt: &impl Host, pid: u64) -> bool {
-    if (pid == 0) | (PIDS < pid) {
-        return false;
-    }
-    if pid == own_pid(rt) {
-        return true;
-    }
-    is_whole(rt) & (is_listed(rt, pid) == Some(false))
+    pid == own_pid(rt) || is_whole(rt) && is_listed(rt, pid) == Some(false)
 }
 
 // Whether a lock was signed where this process runs: of another machine's processes it knows nothing.
@@ -188,21 +163,21 @@ fn is_here(rt: &impl Host, place: &[u8]) -> bool {
     check::same(place, &here[..n])
 }
 
-fn owner_of(rt: &impl Host, path: &[u8]) -> Owner {
+// The process that the lock names; there is none of the number 0.
+fn owner_of(rt: &impl Host, path: &[u8]) -> Option<Owner> {
     let mut text = [0u8; 160];
     let n = read(rt, path, &mut text);
     let t = &text[..n];
     let k = before(t, b' ');
-    let Number::Is(pid) = saying::parse(&t[..k], PIDS) else {
-        return Owner {
-            pid: 0,
-            is_gone: false,
-        };
-    };
-    Owner {
+    let pid = saying::parse(&t[..k], PIDS).filter(|&pid| pid != 0)?;
+    Some(Owner {
         pid,
-        is_gone: is_here(rt, &t[k..]) & is_gone(rt, pid),
-    }
+        is_gone: is_here(rt, &t[k..]) && is_gone(rt, pid),
+    })
+}
+
+fn has_gone(owner: Option<Owner>) -> bool {
+    owner.is_some_and(|o| o.is_gone)
 }
 
 // Whether what a process left that is gone could be taken away. FILE.unlock keeps two from doing so at once, where the slower one would
@@ -210,12 +185,11 @@ fn owner_of(rt: &impl Host, path: &[u8]) -> Owner {
 fn free(rt: &impl Host, path: &[u8]) -> bool {
     let mut name = io::buffer();
     let n = beside(path, b".unlock", &mut name);
-    match create(rt, &name[..n]) {
-        Ok(file) => drop(file),
-        Err(_) => return false,
-    }
-    let owner = owner_of(rt, path);
-    let ok = if owner.is_gone {
+    let Ok(mark) = create(rt, &name[..n]) else {
+        return false;
+    };
+    drop(mark);
+    let ok = if has_gone(owner_of(rt, path)) {
         remove(rt, path, b".new");
         remove(rt, path, b".lock")
     } else {
@@ -225,66 +199,33 @@ fn free(rt: &impl Host, path: &[u8]) -> bool {
     ok
 }
 
-fn over(w: Waiting, error: i32) -> Waiting {
-    let owner = w.owner;
-    Waiting {
-        is_over: true,
-        has: error == 0,
-        error,
-        owner,
-        same: 0,
-    }
-}
-
-// One turn more with that owner, after a pause.
-fn waited(rt: &impl Host, w: Waiting, owner: Owner) -> Waiting {
-    pause(rt);
-    let was = w.owner;
-    let same = if was.pid == owner.pid { w.same } else { 0 };
-    Waiting {
-        is_over: SAME <= same,
-        has: false,
-        error: 0,
-        owner,
-        same: std::num::wrapping_add_usize(same, 1),
-    }
-}
-
-fn turn(rt: &impl Host, path: &[u8], w: Waiting) -> Waiting {
-    let error = make(rt, path);
-    if error != error::EEXIST {
-        return over(w, error);
-    }
-    let owner = owner_of(rt, path);
-    if owner.is_gone {
-        if free(rt, path) {
-            return w;
-        }
-    }
-    waited(rt, w, owner)
+fn is_same(a: Option<Owner>, b: Option<Owner>) -> bool {
+    a.map(|o| o.pid) == b.map(|o| o.pid)
 }
 
 // Waits for the lock of a path, and makes it.
-pub fn wait(rt: &impl Host, path: &[u8]) -> Waiting {
-    let mut w = Waiting {
-        is_over: false,
-        has: false,
-        error: 0,
-        owner: Owner {
-            pid: 0,
-            is_gone: false,
-        },
-        same: 0,
-    };
-    let mut turns = 0;
-    while turns < MOST {
-        w = turn(rt, path, w);
-        if w.is_over {
+pub fn wait(rt: &impl Host, path: &[u8]) -> Result<(), NoLock> {
+    let mut owner = None;
+    let mut same = 0;
+    for _ in 0..MOST {
+        match make(rt, path) {
+            Ok(()) => return Ok(()),
+            Err(FileError::System(EEXIST)) => {}
+            Err(error) => return Err(NoLock::Unmade(error)),
+        }
+        let now = owner_of(rt, path);
+        if has_gone(now) && free(rt, path) {
+            continue;
+        }
+        pause(rt);
+        same = if is_same(owner, now) { same } else { 0 };
+        owner = now;
+        if SAME <= same {
             break;
         }
-        turns += 1;
+        same += 1;
     }
-    w
+    Err(NoLock::Busy(owner))
 }
 
 pub fn give_back(rt: &impl Host, path: &[u8]) {

@@ -1,7 +1,8 @@
 // Paths as octets: that of an argument, where links lead from there, the folder of one, and names beside one.
+ghost use Rattle.std.specs.Prelude.{IfSome};
 ghost use Rattle.io.specs.Counts.{IsPrefixLen};
 
-use crate::error;
+use crate::error::{ENAMETOOLONG, FileError};
 use crate::host::Host;
 use std::env::FillError;
 use std::fs;
@@ -15,13 +16,6 @@ const NO_TEXT: &[u8] = b"\xff";
 // As many links as the system itself follows.
 const LINKS: usize = 40;
 
-// A path of so many octets, and whether a link led there.
-#[derive(Clone, Copy)]
-struct Led {
-    octets: usize,
-    is_link: bool,
-}
-
 // The path of argument i; all of the buffer, which is no path, where it is longer.
 pub fn path_of(rt: &impl Host, i: usize, path: &mut [u8]) -> usize
     ensures { IsPrefixLen result path.new }
@@ -33,40 +27,31 @@ pub fn path_of(rt: &impl Host, i: usize, path: &mut [u8]) -> usize
     }
 }
 
-// The path as std takes it, or why that is none: the number of an error.
-pub fn text_of(path: &[u8]) -> Result<&str, i32> {
+// The path as std takes it, or why that is none.
+pub fn text_of(path: &[u8]) -> Result<&str, FileError> {
     if PATH_MAX <= path.len() {
-        return Err(error::ENAMETOOLONG);
+        return Err(FileError::System(ENAMETOOLONG));
     }
-    match std::str::from_utf8(path) {
-        Ok(text) => Ok(text),
-        Err(_) => Err(error::NOT_TEXT),
-    }
+    std::str::from_utf8(path).map_err(|_| FileError::NotText)
 }
 
 // Puts a text into the buffer, and answers where it ends: where there is no room, at the buffer's end, and nothing is put.
 pub fn put_at(buf: &mut [u8], from: usize, text: &[u8]) -> usize
     ensures { IsPrefixLen result buf.new }
 {
-    if buf.len() < from {
+    if buf.len() < from || buf.len() - from < text.len() {
         return buf.len();
     }
-    if buf.len() - from < text.len() {
-        return buf.len();
-    }
-    let mut i = 0;
-    while i < text.len() {
-        buf[from + i] = text[i];
-        i += 1;
-    }
-    from + i
+    let end = from + text.len();
+    buf[from..end].copy_from_slice(text);
+    end
 }
 
 // The path with an ending behind it; empty where it is empty, and all of the buffer, which is no path, where it is longer.
 pub fn beside(path: &[u8], ending: &[u8], buf: &mut [u8]) -> usize
     ensures { IsPrefixLen result buf.new }
 {
-    if path.len() == 0 {
+    if path.is_empty() {
         return 0;
     }
     let n = put_at(buf, 0, path);
@@ -77,14 +62,10 @@ pub fn beside(path: &[u8], ending: &[u8], buf: &mut [u8]) -> usize
 pub fn folder_of(path: &[u8]) -> usize
     ensures { IsPrefixLen result path.now }
 {
-    let mut n = path.len();
-    while 0 < n {
-        if path[n - 1] == b'/' {
-            break;
-        }
-        n -= 1;
+    match path.iter().rev().position(|&x| x == b'/') {
+        Some(behind) => path.len() - behind,
+        None => 0,
     }
-    n
 }
 
 // The text of a link; empty where the path names none, and no text where the link's is none.
@@ -101,28 +82,22 @@ pub fn link_text(rt: &impl Host, path: &[u8], text: &mut [u8]) -> usize
     }
 }
 
-// Where the link of that path leads, put in its place.
-fn follow(rt: &impl Host, path: &mut [u8], n: usize) -> Led
+// Where the link of that path leads, put in its place; None where it is no link.
+fn follow(rt: &impl Host, path: &mut [u8], n: usize) -> Option<usize>
     requires { IsPrefixLen n path.old }
-    ensures { IsPrefixLen result.octets path.new }
+    ensures { IfSome result (λ k. IsPrefixLen k path.new) }
 {
     let mut text = io::buffer();
     let k = link_text(rt, &path[..n], &mut text);
     if k == 0 {
-        return Led {
-            octets: n,
-            is_link: false,
-        };
+        return None;
     }
     let from = if text[0] == b'/' {
         0
     } else {
         folder_of(&path[..n])
     };
-    Led {
-        octets: put_at(path, from, &text[..k]),
-        is_link: true,
-    }
+    Some(put_at(path, from, &text[..k]))
 }
 
 // The path of the file that argument i names, by way of all links: what is replaced is the file, and the links stay.
@@ -130,14 +105,11 @@ pub fn target_of(rt: &impl Host, i: usize, path: &mut [u8]) -> usize
     ensures { IsPrefixLen result path.new }
 {
     let mut n = path_of(rt, i, path);
-    let mut links = 0;
-    while links < LINKS {
-        let l = follow(rt, path, n);
-        n = l.octets;
-        if !l.is_link {
+    for _ in 0..LINKS {
+        let Some(target) = follow(rt, path, n) else {
             break;
-        }
-        links += 1;
+        };
+        n = target;
     }
     n
 }

@@ -2,15 +2,8 @@
 #![tactic(auto)]
 
 use files::Host;
-use gateway::{Counts, Judged, LONGEST, Profile};
+use gateway::{Counts, LONGEST, Profile};
 use saying::{Line, STDOUT};
-
-// The rules that a list is judged by: the general ones, and those of a profile behind them.
-#[derive(Clone, Copy)]
-enum Rules {
-    General,
-    Of(Profile),
-}
 
 fn help() {
     io::write_all(
@@ -74,43 +67,36 @@ fn print_counts(line: Line, n: Counts) {
 }
 
 fn say(list: &[u8], form: u8) {
-    let judged = gateway::judge(list, form);
-    match judged {
-        Judged::Accepted(n) => print_counts(accepted(), n),
-        Judged::Refused(f) => words::print_refused_list(list, form, f),
+    match gateway::judge(list, form) {
+        Ok(n) => print_counts(accepted(), n),
+        Err(f) => words::print_refused_list(list, form, f),
     }
 }
 
 fn say_under(profile: Profile, list: &[u8], form: u8) {
-    let judged = gateway::judge_profile(profile, list, form);
-    match judged {
-        Judged::Accepted(n) => print_counts(accepted_under(profile), n),
-        Judged::Refused(f) => words::print_refused_profile(profile, list, form, f),
+    match gateway::judge_profile(profile, list, form) {
+        Ok(n) => print_counts(accepted_under(profile), n),
+        Err(f) => words::print_refused_profile(profile, list, form, f),
     }
 }
 
-// One octet more than the longest list: what follows cannot change the answer.
-fn judge(rt: &impl Host, form: u8, rules: Rules) {
+// By the general rules, and those of a profile behind them. One octet more than the longest list: what follows cannot change the answer.
+fn judge(rt: &impl Host, form: u8, profile: Option<Profile>) {
     let mut list = [0u8; LONGEST + 1];
-    let input = files::read(rt, 1, b"LIST", &mut list);
-    if !input.ok {
+    let Some(n) = files::read(rt, 1, b"LIST", &mut list) else {
         return;
-    }
-    let n = input.octets;
-    match rules {
-        Rules::General => say(&list[..n], form),
-        Rules::Of(profile) => say_under(profile, &list[..n], form),
+    };
+    match profile {
+        None => say(&list[..n], form),
+        Some(profile) => say_under(profile, &list[..n], form),
     }
 }
 
-fn rules_of(is_coach: bool, is_trailer: bool) -> Rules {
+fn profile_of(is_coach: bool, is_trailer: bool) -> Option<Profile> {
     if is_coach {
-        return Rules::Of(Profile::PlainCoach);
+        return Some(Profile::PlainCoach);
     }
-    if is_trailer {
-        return Rules::Of(Profile::DrivingTrailer);
-    }
-    Rules::General
+    is_trailer.then_some(Profile::DrivingTrailer)
 }
 
 fn main(rt: HostRuntime) {
@@ -123,12 +109,12 @@ fn main(rt: HostRuntime) {
     let is_coach = saying::has_option(&rt, 2, n, b"plain-coach");
     let is_trailer = saying::has_option(&rt, 2, n, b"driving-trailer");
     // A list has one profile: with both words one is left, and is taken for a word too many.
-    let options = saying::one_if(is_form_2) + saying::one_if(is_coach | is_trailer);
+    let options = saying::one_if(is_form_2) + saying::one_if(is_coach || is_trailer);
     if saying::words_before(n, options) == 1 {
         judge(
             &rt,
             words::form_of(is_form_2),
-            rules_of(is_coach, is_trailer),
+            profile_of(is_coach, is_trailer),
         );
         return;
     }

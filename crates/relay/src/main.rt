@@ -2,10 +2,10 @@
 #![tactic(auto)]
 
 use files::Host;
-use gateway::{EntryOutcome, HeldOutcome, Judged, LONGEST, Outcome, ReadOutcome, STORE};
-use saying::{Clock, Number, STDOUT};
+use gateway::{LONGEST, STORE};
+use saying::STDOUT;
 
-#[derive(Clone, Copy)]
+#[derive(Clone, Copy, Debug, PartialEq, Eq)]
 struct Asked {
     clock: u32,
     vehicle: usize,
@@ -13,7 +13,7 @@ struct Asked {
 }
 
 // The signals that the telegram carries, and how many of them were live.
-#[derive(Clone, Copy)]
+#[derive(Clone, Copy, Debug, PartialEq, Eq)]
 struct Count {
     carried: u64,
     live: u64,
@@ -51,24 +51,20 @@ number of document 01, or with `error`, and OUT is as it was. OUT is replaced as
     );
 }
 
-// One signal more, if the telegram carries it; live are the reasons 0 and 1.
+// One signal more, if the telegram carries it.
 fn counted(list: &[u8], store: &[u8], asked: Asked, kind: usize, k: usize, so_far: Count) -> Count {
-    let entry = gateway::signal_entry(list, asked.form, k);
-    let EntryOutcome::Entry(e) = entry else {
+    let Ok(e) = gateway::signal_entry(list, asked.form, k) else {
         return so_far;
     };
-    let s = e.signal;
-    if !words::is_carried(s, kind) {
+    if !words::is_carried(e.signal, kind) {
         return so_far;
     }
-    let read = gateway::read(list, asked.form, store, asked.clock, asked.vehicle, k);
-    let ReadOutcome::Read(r) = read else {
+    let Ok(r) = gateway::read(list, asked.form, store, asked.clock, asked.vehicle, k) else {
         return so_far;
     };
-    let live = saying::one_if(r.reason <= 1) as u64;
     Count {
-        carried: std::num::wrapping_add_u64(so_far.carried, 1),
-        live: std::num::wrapping_add_u64(so_far.live, live),
+        carried: so_far.carried.wrapping_add(1),
+        live: so_far.live.wrapping_add(r.reason.is_live() as u64),
     }
 }
 
@@ -77,17 +73,14 @@ fn count_all(list: &[u8], signals: usize, store: &[u8], asked: Asked, kind: usiz
         carried: 0,
         live: 0,
     };
-    let mut k = 0;
-    while k < signals {
+    for k in 0..signals {
         c = counted(list, store, asked, kind, k, c);
-        k += 1;
     }
     c
 }
 
 fn print_relayed(list: &[u8], store: &[u8], asked: Asked, kind: usize, octets: usize) {
-    let judged = gateway::judge(list, asked.form);
-    let Judged::Accepted(n) = judged else {
+    let Ok(n) = gateway::judge(list, asked.form) else {
         return;
     };
     let l = words::say_telegram(saying::say(saying::empty(), b"relayed "), kind);
@@ -100,10 +93,9 @@ fn print_relayed(list: &[u8], store: &[u8], asked: Asked, kind: usize, octets: u
 }
 
 fn relay_out(rt: &impl Host, list: &[u8], store: &[u8], asked: Asked, kind: usize, out: &mut [u8]) {
-    let outcome = gateway::relay(list, asked.form, store, asked.clock, asked.vehicle, out);
-    match outcome {
-        Outcome::Refused(f) => words::print_refused_store(f, store.len()),
-        Outcome::Done => {
+    match gateway::relay(list, asked.form, store, asked.clock, asked.vehicle, out) {
+        Err(f) => words::print_refused_store(f, store.len()),
+        Ok(()) => {
             if words::write_telegram(rt, 5, 1, 2, out) {
                 print_relayed(list, store, asked, kind, out.len());
             }
@@ -113,11 +105,10 @@ fn relay_out(rt: &impl Host, list: &[u8], store: &[u8], asked: Asked, kind: usiz
 
 // The type of what was heard, 0 for none: the length of what comes out goes by it.
 fn type_of(store: &[u8], asked: Asked) -> usize {
-    let held = gateway::holding(store, asked.clock, asked.vehicle);
-    let HeldOutcome::Held(h) = held else {
-        return 0;
-    };
-    h.kind
+    match gateway::holding(store, asked.clock, asked.vehicle) {
+        Ok(Some(h)) => h.kind,
+        _ => 0,
+    }
 }
 
 fn relay(rt: &impl Host, list: &[u8], store: &[u8], asked: Asked) {
@@ -133,25 +124,21 @@ fn relay(rt: &impl Host, list: &[u8], store: &[u8], asked: Asked) {
 
 fn read_files(rt: &impl Host, asked: Asked) {
     let mut list = [0u8; LONGEST + 1];
-    let l = files::read(rt, 1, b"LIST", &mut list);
-    if !l.ok {
+    let Some(n) = files::read(rt, 1, b"LIST", &mut list) else {
         return;
-    }
+    };
     let mut store = [0u8; STORE + 1];
-    let s = files::read(rt, 2, b"STORE", &mut store);
-    if !s.ok {
+    let Some(m) = files::read(rt, 2, b"STORE", &mut store) else {
         return;
-    }
-    let n = l.octets;
-    let m = s.octets;
+    };
     relay(rt, &list[..n], &store[..m], asked);
 }
 
 fn ask(rt: &impl Host, form: u8) {
-    let Clock::At(clock) = saying::clock_argument(rt, 3) else {
+    let Some(clock) = saying::clock_argument(rt, 3) else {
         return;
     };
-    let Number::Is(vehicle) = saying::number_argument(rt, 4, b"VEHICLE", 4294967295) else {
+    let Some(vehicle) = saying::number_argument(rt, 4, b"VEHICLE", 4294967295) else {
         return;
     };
     read_files(

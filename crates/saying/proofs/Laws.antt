@@ -1,31 +1,29 @@
 -- Numbers read digit by digit. Assumes nothing.
-use Rattle.std.proofs.Common.{◌≡◌, ℕ, ◌+◌, ◌-◌, ◌*◌, ◌/◌, ◌<◌, ◌≤◌, true, cond, leb, List, length, get_or, drop, sym, ◌∙◌, add-one, arith, drop-cons, le-leb, leb-true}
-use native.Mathlib.Decide.{dec_lt}
-use lib.Seq.{drop-length}
-use borrow.Author.Tests.{lt-leb}
-use Rattle.bools.proofs.Tests.{both}
-use Rattle.saying.specs.declared.argument.Number.TheVariants.{Is, Not}
+use Rattle.std.proofs.Common.{◌≡◌, ℕ, ◌+◌, ◌<◌, ◌≤◌, suc, Bool, true, false, cond, List, length, get_or, drop, Option, None, Some, refl, add-one, drop-cons}
+use Rattle.std.proofs.Math.ListN.{drop_of_length-le}
 use Rattle.saying.specs.Numbers.{and_digit, goes_on, number_from}
 
--- the test that the code makes, which can't overflow
-pub tenth : (n d most : ℕ) → d ≤ most → leb n ((most - d) / 10) ≡ leb (n * 10 + d) most
-tenth n d most h =
-    elim (dec_lt most (n * 10 + d)) [
-      | yes l ↦ lt-leb n ((most - d) / 10) (omega arith) ∙ sym (lt-leb _ _ l)
-      | no g ↦ le-leb n ((most - d) / 10) (omega arith) ∙ sym (le-leb (n * 10 + d) most (omega arith))
-    ]
+some_of : (b : Bool) (m k : ℕ) (f : ℕ → Option ℕ) → Some k ≡ cond b (Some m) None → cond b (f m) None ≡ f k
+some_of true m k f e = cc
+some_of false m k f e = cc
 
-pub goes_on_lem : (most n x : ℕ) → goes_on most n x ≡ true → (48 ≤ x) × (and_digit n x ≤ most)
-goes_on_lem most n x e =
-    let s = both _ _ e in
-    (leb-true _ _ (both _ _ s.0).0, leb-true _ _ s.1)
+none_of : (b : Bool) (m : ℕ) (r : Option ℕ) → None ≡ cond b (Some m) None → cond b r None ≡ None
+none_of true m r e = cc
+none_of false m r e = refl
 
 -- one digit more
-pub step : (most n i : ℕ) (xs : List ℕ) → i < length xs
-    → number_from most n (drop i xs) ≡ cond (goes_on most n (get_or xs i 0)) (number_from most (and_digit n (get_or xs i 0)) (drop (i + 1) xs)) Not
+pub goes : (most n i k : ℕ) (xs : List ℕ) → i < length xs
+    → Some k ≡ cond (goes_on most n (get_or xs i 0)) (Some (and_digit n (get_or xs i 0))) None
+    → number_from most n (drop i xs) ≡ number_from most k (drop (i + 1) xs)
 unfolding number_from
-step most n i xs h = rw (add-one, drop-cons xs i 0)
+goes most n i k xs h e = rw (add-one, drop-cons xs i 0) (some_of _ _ k (λ (m : ℕ). number_from most m (drop (suc i) xs)) e)
 
-pub done : (most n i : ℕ) (xs : List ℕ) → i ≡ length xs → number_from most n (drop i xs) ≡ Is n
+pub stops : (most n i : ℕ) (xs : List ℕ) → i < length xs
+    → None ≡ cond (goes_on most n (get_or xs i 0)) (Some (and_digit n (get_or xs i 0))) None
+    → number_from most n (drop i xs) ≡ None
 unfolding number_from
-done most n i xs e = rw (e, drop-length)
+stops most n i xs h e = rw (drop-cons xs i 0) (none_of _ _ _ e)
+
+pub done : (most n i : ℕ) (xs : List ℕ) → length xs ≤ i → number_from most n (drop i xs) ≡ Some n
+unfolding number_from
+done most n i xs h = rw (drop_of_length-le xs h)

@@ -1,7 +1,5 @@
 -- A decimal number in ASCII, read digit by digit.
-use Rattle.std.specs.Prelude.{ℕ, ◌+◌, ◌-◌, ◌*◌, Bool, cond, ◌&&◌, List, [], ◌∷◌, length, ◌==◌, nat_le}
-use Rattle.saying.specs.declared.argument.Number.{Number}
-use Rattle.saying.specs.declared.argument.Number.TheVariants.{Is, Not}
+use Rattle.std.specs.Prelude.{ℕ, ◌+◌, ◌-◌, ◌*◌, Bool, cond, ◌&&◌, List, [], ◌∷◌, length, ◌==◌, nat_le, Option, None, Some}
 
 -- n with one digit more
 abbrev pub and_digit : ℕ → ℕ → ℕ
@@ -11,10 +9,10 @@ abbrev pub goes_on : ℕ → ℕ → ℕ → Bool
 goes_on most n x = nat_le 48 x && nat_le x 57 && nat_le (and_digit n x) most
 
 -- the number n, with the digits that follow
-unfoldable pub number_from : ℕ → ℕ → List ℕ → Number
-number_from most n [] = Is n
-number_from most n (x ∷ xs) = cond (goes_on most n x) (number_from most (and_digit n x) xs) Not
+unfoldable pub number_from : ℕ → ℕ → List ℕ → Option ℕ
+number_from most n [] = Some n
+number_from most n (x ∷ xs) = cond (goes_on most n x) (number_from most (and_digit n x) xs) None
 
 -- at least one digit
-abbrev pub number_in : ℕ → List ℕ → Number
-number_in most xs = cond (length xs == 0) Not (number_from most 0 xs)
+abbrev pub number_in : ℕ → List ℕ → Option ℕ
+number_in most xs = cond (length xs == 0) None (number_from most 0 xs)

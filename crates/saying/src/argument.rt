@@ -1,90 +1,60 @@
 // The words that a program was started with.
-ghost use Rattle.std.specs.Prelude.{◌≡◌, ◌≤◌};
+ghost use Rattle.std.specs.Prelude.{◌≡◌, ◌≤◌, cond, None, Some, IfSome};
 ghost use Rattle.io.specs.Counts.{IsPrefixLen};
-ghost use Rattle.saying.specs.Numbers.{goes_on, number_in};
+ghost use Rattle.saying.specs.Numbers.{goes_on, and_digit, number_in};
 
 use crate::line::{Line, empty, print, put, say, say_number};
 use std::env::{Env, FillError};
 
-#[derive(Clone, Copy)]
-pub enum Number {
-    Is(u64),
-    Not,
-}
-
-#[derive(Clone, Copy)]
-pub enum Clock {
-    At(u32),
-    Not,
-}
-
-// Whether the octet is a digit behind n that leaves the number at most `most`.
-fn goes_on(n: u64, x: u8, most: u64) -> bool
-    ensures { result ≡ goes_on most n x }
+// n with one digit more, if the octet is one and the number is at most `most`.
+fn and_digit(n: u64, x: u8, most: u64) -> Option<u64>
+    ensures value { result ≡ cond (goes_on most n x) (Some (and_digit n x)) None }
+    ensures at_most { IfSome result (λ m. m ≤ most) }
 {
-    if x < 48 {
-        return false;
+    if !x.is_ascii_digit() {
+        return None;
     }
-    if 57 < x {
-        return false;
-    }
-    let d = (x - 48) as u64;
-    if most < d {
-        return false;
-    }
-    n <= (most - d) / 10
+    let n = n.checked_mul(10)?.checked_add((x - b'0') as u64)?;
+    (n <= most).then_some(n)
 }
 
 // A decimal number of at least one digit, at most `most`.
-pub fn parse(text: &[u8], most: u64) -> Number
-    ensures { result ≡ number_in most text.now }
+#[tactic(auto, using(crate::proofs::Laws::goes, crate::proofs::Laws::stops, crate::proofs::Laws::done))]
+pub fn parse(text: &[u8], most: u64) -> Option<u64>
+    ensures value { result ≡ number_in most text.now }
+    ensures at_most { IfSome result (λ n. n ≤ most) }
 {
-    if text.len() == 0 {
-        return Number::Not;
+    if text.is_empty() {
+        return None;
     }
     let mut n = 0;
-    let mut i = 0;
-    while i < text.len() {
-        let x = text[i];
-        if !goes_on(n, x, most) {
-            return Number::Not;
-        }
-        n = n * 10 + (x - 48) as u64;
-        i += 1;
+    for &x in text {
+        n = and_digit(n, x, most)?;
     }
-    Number::Is(n)
+    Some(n)
 }
 
 // Argument i at the start of `word`, and how many octets it has; 0 where there is none, or where it is longer, and then its first octets fill `word`.
 fn argument(rt: &impl Env, i: usize, word: &mut [u8]) -> usize
     ensures { IsPrefixLen result word.new }
 {
-    match rt.arg(i, word) {
-        Ok(n) => n,
-        Err(_) => 0,
-    }
+    rt.arg(i, word).unwrap_or(0)
 }
 
 fn is_given(rt: &impl Env, i: usize) -> bool {
     let mut one = [0u8; 1];
-    match rt.arg(i, &mut one) {
-        Ok(_) | Err(FillError::TooLong) => true,
-        Err(FillError::NotPresent) => false,
-    }
+    !matches!(rt.arg(i, &mut one), Err(FillError::NotPresent))
 }
 
 // With how many words a program was started, its own name among them.
 pub fn argument_count(rt: &impl Env) -> usize {
-    for i in 0..usize::MAX {
-        if !is_given(rt, i) {
-            return i;
-        }
-    }
-    usize::MAX
+    (0..usize::MAX)
+        .find(|&i| !is_given(rt, i))
+        .unwrap_or(usize::MAX)
 }
 
 // Argument i as a number. A word of more than 40 octets is taken for none, leading zeros or not.
-pub fn number_of(rt: &impl Env, i: usize, most: u64) -> Number {
+pub fn number_of(rt: &impl Env, i: usize, most: u64) -> Option<u64> {
     let mut word = [0u8; 40];
     let n = argument(rt, i, &mut word);
     parse(&word[..n], most)
@@ -99,39 +69,29 @@ pub fn is_word(rt: &impl Env, i: usize, expected: &[u8]) -> bool {
 
 // Whether a program of n words, its own name among them, was given this one as an option: as argument `from` or behind it.
 pub fn has_option(rt: &impl Env, from: usize, n: usize, word: &[u8]) -> bool {
-    let mut i = from;
-    while i < n {
-        if is_word(rt, i, word) {
-            return true;
-        }
-        i += 1;
-    }
-    false
+    (from..n).any(|i| is_word(rt, i, word))
 }
 
 pub fn one_if(is_there: bool) -> usize
     ensures { result ≤ 1 }
 {
-    if is_there { 1 } else { 0 }
+    usize::from(is_there)
 }
 
 // How many words of n, the program's own name among them, stand before so many options: an option that is given twice, or before another word,
 // is taken for that word.
 pub fn words_before(n: usize, options: usize) -> usize {
-    if n <= options {
-        return 0;
-    }
-    n - 1 - options
+    n.saturating_sub(1).saturating_sub(options)
 }
 
 // Whether a program of n words, its own name among them, is asked what it takes.
 pub fn asks_help(rt: &impl Env, n: usize) -> bool {
-    (n == 2) & (is_word(rt, 1, b"help") | is_word(rt, 1, b"--help") | is_word(rt, 1, b"-h"))
+    n == 2 && (is_word(rt, 1, b"help") || is_word(rt, 1, b"--help") || is_word(rt, 1, b"-h"))
 }
 
 // What would break the line is shown as a question mark.
 fn shown(octet: u8) -> u8 {
-    if (octet < 32) | (octet == 127) {
+    if octet.is_ascii_control() {
         b'?'
     } else {
         octet
@@ -140,10 +100,8 @@ fn shown(octet: u8) -> u8 {
 
 fn say_shown(line: Line, text: &[u8]) -> Line {
     let mut l = line;
-    let mut i = 0;
-    while i < text.len() {
-        l = put(l, shown(text[i]));
-        i += 1;
+    for &octet in text {
+        l = put(l, shown(octet));
     }
     l
 }
@@ -162,7 +120,7 @@ pub fn say_argument(rt: &impl Env, line: Line, i: usize, behind: &[u8]) -> Line 
 
 // A path in quotes, cut and ended in the same way.
 pub fn say_quoted(line: Line, text: &[u8], behind: &[u8]) -> Line {
-    let n = io::count(100, text);
+    let n = text.len().min(100);
     let l = say_shown(put(line, b'\''), &text[..n]);
     let l = if n < text.len() { say(l, b"..") } else { l };
     put(say(l, behind), b'\'')
@@ -180,9 +138,9 @@ pub fn print_word(rt: &impl Env, i: usize, name: &[u8], what: &[u8]) {
 }
 
 // Argument i as a number; where it is none, an error line names it.
-pub fn number_argument(rt: &impl Env, i: usize, name: &[u8], most: u64) -> Number {
+pub fn number_argument(rt: &impl Env, i: usize, name: &[u8], most: u64) -> Option<u64> {
     let n = number_of(rt, i, most);
-    if let Number::Not = n {
+    if n.is_none() {
         let l = say_error(rt, i, name, b"");
         print(say_number(say(l, b"not a whole number from 0 to "), most));
     }
@@ -190,21 +148,16 @@ pub fn number_argument(rt: &impl Env, i: usize, name: &[u8], most: u64) -> Numbe
 }
 
 // The same where it may be left out: `other` stands for it where fewer words were given.
-pub fn number_or(rt: &impl Env, words: usize, i: usize, name: &[u8], other: u64) -> Number {
+pub fn number_or(rt: &impl Env, words: usize, i: usize, name: &[u8], other: u64) -> Option<u64> {
     if words < i {
-        return Number::Is(other);
+        return Some(other);
     }
-    number_argument(rt, i, name, 4294967295)
+    number_argument(rt, i, name, u32::MAX as u64)
 }
 
-pub fn clock_argument(rt: &impl Env, i: usize) -> Clock {
-    let Number::Is(n) = number_argument(rt, i, b"CLOCK", 4294967295) else {
-        return Clock::Not;
-    };
-    if 4294967295 < n {
-        return Clock::Not;
-    }
-    Clock::At(n as u32)
+pub fn clock_argument(rt: &impl Env, i: usize) -> Option<u32> {
+    let n = number_argument(rt, i, b"CLOCK", u32::MAX as u64)?;
+    u32::try_from(n).ok()
 }
 
 // The error line for words that are too few, too many or unknown.

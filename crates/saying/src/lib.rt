@@ -11,10 +11,10 @@ mod split;
 pub const STDOUT: i32 = 1;
 
 pub use argument::{
-    Clock, Number, argument_count, asks_help, clock_argument, has_option, is_word, number_argument,
-    number_of, number_or, one_if, parse, print_usage, print_word, say_argument, say_error,
-    say_quoted, words_before,
+    argument_count, asks_help, clock_argument, has_option, is_word, number_argument, number_of,
+    number_or, one_if, parse, print_usage, print_word, say_argument, say_error, say_quoted,
+    words_before,
 };
 pub use line::{Line, empty, pad, print, put, say, say_number, say_right, say_tab};
 pub use page::{Page, add, flush, new_page};
-pub use split::{find, word, word_count};
+pub use split::{parted, word, word_count};

@@ -1,11 +1,14 @@
 // A line of output, put together in memory and written at once. What does not fit is left out.
+ghost use Rattle.std.specs.Prelude.{◌≤◌};
+
 const ROOM: usize = 240;
 
 // One octet more than there is room for: the line's end.
-#[derive(Clone, Copy)]
+#[derive(Clone, Copy, Debug, PartialEq, Eq)]
 pub struct Line {
     pub at: usize,
     pub text: [u8; 241],
+    ghost in_room: { at ≤ 240 },
 }
 
 pub fn empty() -> Line {
@@ -27,10 +30,8 @@ pub fn put(line: Line, octet: u8) -> Line {
 
 pub fn say(line: Line, text: &[u8]) -> Line {
     let mut l = line;
-    let mut i = 0;
-    while i < text.len() {
-        l = put(l, text[i]);
-        i += 1;
+    for &octet in text {
+        l = put(l, octet);
     }
     l
 }
@@ -38,10 +39,8 @@ pub fn say(line: Line, text: &[u8]) -> Line {
 // Spaces up to a column, counted from 0.
 pub fn pad(line: Line, column: usize) -> Line {
     let mut l = line;
-    let mut i = l.at;
-    while i < column {
+    for _ in line.at..column {
         l = put(l, b' ');
-        i += 1;
     }
     l
 }
@@ -66,23 +65,16 @@ pub fn say_right(line: Line, column: usize, n: u64) -> Line {
 
 // Where so many digits begin that end at a column, at least a space behind `at`.
 fn begin(at: usize, column: usize, digits: usize) -> usize {
-    if digits < column {
-        if at < column - digits {
-            return column - digits;
-        }
+    match column.checked_sub(digits) {
+        Some(begin) if at < begin => begin,
+        _ if at == 0 => 0,
+        _ => at.wrapping_add(1),
     }
-    if at == 0 {
-        return 0;
-    }
-    std::num::wrapping_add_usize(at, 1)
 }
 
 // The line with its end, at once.
 pub fn print(line: Line) {
     let mut text = line.text;
-    let at = line.at;
-    if at <= ROOM {
-        text[at] = b'\n';
-        io::write_all(crate::STDOUT, &text[..at + 1]);
-    }
+    text[line.at] = b'\n';
+    io::write_all(crate::STDOUT, &text[..line.at + 1]);
 }

@@ -4,8 +4,8 @@
 ghost use Rattle.std.specs.Prelude.{◌≤◌, ◌<◌};
 
 use files::{Host, Rules};
-use gateway::{Outcome, STORE, VEHICLES};
-use saying::{Clock, STDOUT};
+use gateway::{STORE, VEHICLES};
+use saying::STDOUT;
 use std::fs::File;
 use words::Vehicles;
 
@@ -43,24 +43,16 @@ fn is_marked(old: &[u8], new: &[u8], vehicle: usize) -> bool
     requires { (1 ≤ vehicle) × (vehicle < 64) }
 {
     let at = SLOT * (vehicle - 1);
-    if old.len() <= at {
-        return false;
-    }
-    if new.len() <= at {
-        return false;
-    }
-    old[at] != new[at]
+    at < old.len() && at < new.len() && old[at] != new[at]
 }
 
 // The vehicles that the sweep has marked.
 fn marked(old: &[u8], new: &[u8]) -> Vehicles {
     let mut s = words::no_vehicles();
-    let mut v = 1;
-    while v <= VEHICLES {
+    for v in 1..=VEHICLES {
         if is_marked(old, new, v) {
             s = words::with_vehicle(s, v);
         }
-        v += 1;
     }
     s
 }
@@ -76,29 +68,23 @@ fn print_swept(clock: u32, vehicles: Vehicles) {
 }
 
 fn sweep_store(rt: &impl Host, file: File, path: &[u8], clock: u32, old: &[u8], store: &mut [u8]) {
-    let outcome = gateway::sweep(store, clock);
-    match outcome {
-        Outcome::Refused(f) => {
-            files::drop_new(rt, path, file);
-            words::print_refused_store(f, store.len());
-        }
-        Outcome::Done => {
-            if files::commit(rt, 1, b"STORE", path, file, store) {
-                print_swept(clock, marked(old, store));
-            }
-        }
+    if let Err(f) = gateway::sweep(store, clock) {
+        files::drop_new(rt, path, file);
+        words::print_refused_store(f, store.len());
+        return;
+    }
+    if files::commit(rt, 1, b"STORE", path, file, store) {
+        print_swept(clock, marked(old, store));
     }
 }
 
 // The store is read and replaced while its lock keeps other programs waiting; the new one is open as `file`.
 fn sweep_into(rt: &impl Host, file: File, path: &[u8], clock: u32) {
     let mut store = [0u8; STORE + 1];
-    let s = files::read_at(rt, 1, b"STORE", path, &mut store);
-    if !s.ok {
+    let Some(n) = files::read_at(rt, 1, b"STORE", path, &mut store) else {
         files::drop_new(rt, path, file);
         return;
-    }
-    let n = s.octets;
+    };
     let old = store;
     sweep_store(rt, file, path, clock, &old, &mut store[..n]);
 }
@@ -107,8 +93,8 @@ fn sweep_at(rt: &impl Host, path: &[u8], clock: u32) {
     let rules = Rules {
         is_old: true,
         is_new: false,
-        first: 0,
-        second: 0,
+        first: None,
+        second: None,
     };
     if let Some(file) = files::begin(rt, 1, b"STORE", path, rules) {
         sweep_into(rt, file, path, clock);
@@ -125,7 +111,7 @@ fn main(rt: HostRuntime) {
         saying::print_usage(b"sweep STORE CLOCK");
         return;
     }
-    let Clock::At(clock) = saying::clock_argument(&rt, 2) else {
+    let Some(clock) = saying::clock_argument(&rt, 2) else {
         return;
     };
     let mut path = io::buffer();

@@ -2,8 +2,8 @@
 #![tactic(auto)]
 
 use files::{Host, Rules};
-use gateway::{HeldOutcome, Outcome, Refusal, STORE, TELEGRAM};
-use saying::{Clock, Line, Number, STDOUT};
+use gateway::{Refusal, STORE, TELEGRAM};
+use saying::{Line, STDOUT};
 use std::fs::File;
 
 fn help() {
@@ -36,8 +36,7 @@ fn make_store(rt: &impl Host) {
 }
 
 fn print_taken(store: &[u8], vehicle: usize, clock: u32) {
-    let held = gateway::holding(store, clock, vehicle);
-    let HeldOutcome::Held(h) = held else {
+    let Ok(Some(h)) = gateway::holding(store, clock, vehicle) else {
         return;
     };
     let l = saying::say(saying::empty(), b"taken ");
@@ -49,10 +48,10 @@ fn print_taken(store: &[u8], vehicle: usize, clock: u32) {
 
 // The type that octet 1 says; a telegram that is refused for its length has one.
 fn kind_of(telegram: &[u8]) -> usize {
-    if telegram.len() == 0 {
-        return 0;
+    match telegram {
+        [head, ..] => (*head % 16) as usize,
+        [] => 0,
     }
-    (telegram[0] % 16) as usize
 }
 
 // A length that is not the type's: how long the telegram is, and how long it has to be.
@@ -73,11 +72,10 @@ fn say_lengths(line: Line, telegram: &[u8]) -> Line {
 
 fn print_refused(f: Refusal, octets: usize, telegram: &[u8]) {
     let l = words::say_refused_store(f, octets);
-    if gateway::number(f) == 10 {
-        saying::print(say_lengths(l, telegram));
-        return;
-    }
-    saying::print(l);
+    saying::print(match f {
+        Refusal::TelegramLength => say_lengths(l, telegram),
+        _ => l,
+    });
 }
 
 fn take_store(
@@ -89,29 +87,23 @@ fn take_store(
     telegram: &[u8],
     store: &mut [u8],
 ) {
-    let outcome = gateway::take(store, vehicle, clock, telegram);
-    match outcome {
-        Outcome::Refused(f) => {
-            files::drop_new(rt, path, file);
-            print_refused(f, store.len(), telegram);
-        }
-        Outcome::Done => {
-            if files::commit(rt, 1, b"STORE", path, file, store) {
-                print_taken(store, vehicle, clock);
-            }
-        }
+    if let Err(f) = gateway::take(store, vehicle, clock, telegram) {
+        files::drop_new(rt, path, file);
+        print_refused(f, store.len(), telegram);
+        return;
+    }
+    if files::commit(rt, 1, b"STORE", path, file, store) {
+        print_taken(store, vehicle, clock);
     }
 }
 
 // The store is read and replaced while its lock keeps other takes waiting; the new one is open as `file`.
 fn take_into(rt: &impl Host, file: File, path: &[u8], vehicle: usize, clock: u32, telegram: &[u8]) {
     let mut store = [0u8; STORE + 1];
-    let s = files::read_at(rt, 1, b"STORE", path, &mut store);
-    if !s.ok {
+    let Some(n) = files::read_at(rt, 1, b"STORE", path, &mut store) else {
         files::drop_new(rt, path, file);
         return;
-    }
-    let n = s.octets;
+    };
     take_store(rt, file, path, vehicle, clock, telegram, &mut store[..n]);
 }
 
@@ -119,8 +111,8 @@ fn take_at(rt: &impl Host, path: &[u8], vehicle: usize, clock: u32, telegram: &[
     let rules = Rules {
         is_old: true,
         is_new: false,
-        first: 4,
-        second: 0,
+        first: Some(4),
+        second: None,
     };
     if let Some(file) = files::begin(rt, 1, b"STORE", path, rules) {
         take_into(rt, file, path, vehicle, clock, telegram);
@@ -128,18 +120,16 @@ fn take_at(rt: &impl Host, path: &[u8], vehicle: usize, clock: u32, telegram: &[
 }
 
 fn take_words(rt: &impl Host) {
-    let Number::Is(vehicle) = saying::number_argument(rt, 2, b"VEHICLE", 4294967295) else {
+    let Some(vehicle) = saying::number_argument(rt, 2, b"VEHICLE", 4294967295) else {
         return;
     };
-    let Clock::At(clock) = saying::clock_argument(rt, 3) else {
+    let Some(clock) = saying::clock_argument(rt, 3) else {
         return;
     };
     let mut telegram = [0u8; TELEGRAM + 1];
-    let t = files::read(rt, 4, b"TELEGRAM", &mut telegram);
-    if !t.ok {
+    let Some(n) = files::read(rt, 4, b"TELEGRAM", &mut telegram) else {
         return;
-    }
-    let n = t.octets;
+    };
     let mut path = io::buffer();
     let k = files::target_of(rt, 1, &mut path);
     take_at(rt, &path[..k], vehicle as usize, clock, &telegram[..n]);
@@ -151,7 +141,7 @@ fn main(rt: HostRuntime) {
         help();
         return;
     }
-    if (n == 3) & saying::is_word(&rt, 1, b"new") {
+    if n == 3 && saying::is_word(&rt, 1, b"new") {
         make_store(&rt);
         return;
     }

@@ -1,31 +1,17 @@
 // What stands in a store, and what is read out of it, in words.
-use crate::said::{say_reason, say_telegram};
+use crate::said::{REASONS, say_reason, say_telegram};
 use crate::vehicles::{Vehicles, no_vehicles, say_vehicles, with_vehicle};
-use gateway::{GapOutcome, Held, HeldOutcome, VEHICLES};
+use gateway::{Held, Reason, VEHICLES};
 use saying::{Line, Page, add, empty, put, say, say_number, say_right, say_tab};
 
 // What is held of a vehicle: nothing in what is no store.
-fn held_of(store: &[u8], clock: u32, vehicle: usize) -> Held {
-    let held = gateway::holding(store, clock, vehicle);
-    match held {
-        HeldOutcome::Held(h) => h,
-        HeldOutcome::Refused(_) => Held {
-            heard: false,
-            expired: false,
-            kind: 0,
-            version: 0,
-            age: 0,
-        },
-    }
+fn held_of(store: &[u8], clock: u32, vehicle: usize) -> Option<Held> {
+    gateway::holding(store, clock, vehicle).unwrap_or(None)
 }
 
 // From the previous telegram of a vehicle to its last, after the first its stamp; 0 in what is no store.
 fn gap_of(store: &[u8], vehicle: usize) -> u64 {
-    let found = gateway::gap(store, vehicle);
-    match found {
-        GapOutcome::Gap(g) => g as u64,
-        GapOutcome::Refused(_) => 0,
-    }
+    gateway::gap(store, vehicle).unwrap_or(0) as u64
 }
 
 fn say_gap(line: Line, store: &[u8], vehicle: usize) -> Line {
@@ -46,10 +32,9 @@ fn say_age(line: Line, age: u64) -> Line {
 
 // What is held of a vehicle: type, version, age and gap of its telegram.
 fn say_held(line: Line, store: &[u8], clock: u32, vehicle: usize) -> Line {
-    let h = held_of(store, clock, vehicle);
-    if !h.heard {
+    let Some(h) = held_of(store, clock, vehicle) else {
         return say(line, b"never heard");
-    }
+    };
     let l = say_telegram(line, h.kind);
     let l = say_number(say(l, b" version "), h.version as u64);
     let l = if h.expired {
@@ -87,10 +72,9 @@ pub fn print_heads(
 
 // The same as the next columns of a table: telegram, version and age, or `expired` for the age; a dash each where it was never heard.
 pub fn say_held_tabs(line: Line, store: &[u8], clock: u32, vehicle: usize) -> Line {
-    let h = held_of(store, clock, vehicle);
-    if !h.heard {
+    let Some(h) = held_of(store, clock, vehicle) else {
         return say(line, b"\t-\t-\t-");
-    }
+    };
     let l = say_tab(say_telegram(put(line, b'\t'), h.kind), h.version as u64);
     if h.expired {
         return say(l, b"\texpired");
@@ -112,23 +96,20 @@ pub fn say_gap_tab(line: Line, store: &[u8], vehicle: usize) -> Line {
 }
 
 pub fn is_heard(store: &[u8], vehicle: usize) -> bool {
-    let h = held_of(store, 0, vehicle);
-    h.heard
+    held_of(store, 0, vehicle).is_some()
 }
 
 // By either of two gateways, each with a store of its own.
 pub fn is_heard_by(first: &[u8], second: &[u8], vehicle: usize) -> bool {
-    is_heard(first, vehicle) | is_heard(second, vehicle)
+    is_heard(first, vehicle) || is_heard(second, vehicle)
 }
 
 fn never_heard(first: &[u8], second: &[u8]) -> Vehicles {
     let mut s = no_vehicles();
-    let mut v = 1;
-    while v <= VEHICLES {
+    for v in 1..=VEHICLES {
         if !is_heard_by(first, second, v) {
             s = with_vehicle(s, v);
         }
-        v += 1;
     }
     s
 }
@@ -149,8 +130,8 @@ pub fn print_never(page: &mut Page, store: &[u8]) {
     print_never_by(page, store, store);
 }
 
-// How often each reason was given.
-#[derive(Clone, Copy)]
+// How often each reason was given, by its number.
+#[derive(Clone, Copy, Debug, PartialEq, Eq)]
 pub struct Totals {
     pub of: [u64; 9],
 }
@@ -159,16 +140,14 @@ pub fn no_totals() -> Totals {
     Totals { of: [0u64; 9] }
 }
 
-pub fn count_reason(totals: Totals, reason: u8) -> Totals {
+pub fn count_reason(totals: Totals, reason: Reason) -> Totals {
     let mut t = totals;
-    let i = reason as usize;
-    if i < 9 {
-        t.of[i] = std::num::wrapping_add_u64(t.of[i], 1);
-    }
+    let i = reason.number() as usize;
+    t.of[i] = t.of[i].wrapping_add(1);
     t
 }
 
-fn print_total(page: &mut Page, reason: u8, n: u64) {
+fn print_total(page: &mut Page, reason: Reason, n: u64) {
     if 0 < n {
         let l = say_right(say(empty(), b"total"), 12, n);
         add(page, say_reason(say(l, b"  "), reason));
@@ -177,9 +156,7 @@ fn print_total(page: &mut Page, reason: u8, n: u64) {
 
 // A line for each reason that was given.
 pub fn print_totals(page: &mut Page, totals: Totals) {
-    let mut r: u8 = 0;
-    while r < 9 {
-        print_total(page, r, totals.of[r as usize]);
-        r += 1;
+    for (&reason, &n) in REASONS.iter().zip(&totals.of) {
+        print_total(page, reason, n);
     }
 }

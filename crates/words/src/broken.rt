@@ -3,7 +3,7 @@ ghost use Rattle.std.specs.Prelude.{◌<◌};
 
 use crate::said::{say_field, say_refused, say_telegram};
 use crate::serial::say_beside;
-use gateway::{Fault, FaultOutcome, Profile, Refusal};
+use gateway::{Fault, Profile, Refusal};
 use saying::{Line, print, put, say, say_number};
 
 // The octets of a signal's entry in form 2, and where in it the serial number stands.
@@ -106,9 +106,8 @@ fn say_profile_rule(line: Line, profile: Profile, section: usize, rule: usize) -
 // The entry's number: checks count from 1, as a signal names them, all others from 0.
 fn say_entry(line: Line, f: Fault) -> Line {
     let n = f.index as u64;
-    let section = f.section;
-    match section {
-        1 => say_number(say(line, b"check "), std::num::wrapping_add_u64(n, 1)),
+    match f.section {
+        1 => say_number(say(line, b"check "), n.wrapping_add(1)),
         2 => say_number(say(line, b"signal "), n),
         3 => {
             let l = say_number(say(line, b"code entry "), n);
@@ -128,47 +127,39 @@ fn say_type(line: Line, kind: usize) -> Line {
     say_telegram(line, kind)
 }
 
-fn wide(octet: u8) -> usize
-    ensures { result < 256 }
-{
-    octet as usize
-}
-
 // Two octets of a list as a number; 0 where it has not so many.
 fn read(list: &[u8], at: usize) -> usize
     ensures { result < 65536 }
 {
-    if list.len() < 2 {
-        return 0;
+    match list.get(at..) {
+        Some([high, low, ..]) => *high as usize * 256 + *low as usize,
+        _ => 0,
     }
-    if list.len() - 2 < at {
-        return 0;
-    }
-    wide(list[at]) * 256 + wide(list[at + 1])
 }
 
 // The serial number of the signal that the entry is or names, in form 2. It is read where it stands: of a refused list no call tells it.
 fn serial_in(list: &[u8], f: Fault) -> usize {
-    let signal = f.signal;
-    if 65535 < signal {
+    if 65535 < f.signal {
         return 0;
     }
     let signals = 2 + 2 * read(list, 0) + 2;
-    read(list, signals + SIGNAL_SIZE * signal + SERIAL)
+    read(list, signals + SIGNAL_SIZE * f.signal + SERIAL)
 }
 
 // Where the signal lies: a field of no bits, where it starts; a signal that does not exist, nowhere.
 fn say_where(line: Line, list: &[u8], form: u8, f: Fault) -> Line {
-    let section = f.section;
-    if section == 1 {
+    if f.section == 1 {
         return say_field(say(line, b", "), f.start, f.width);
     }
-    if (f.width == 0) & (section != 2) {
+    if f.width == 0 && f.section != 2 {
         return line;
     }
     let l = put(say_type(say(line, b", "), f.kind), b' ');
-    let width = if f.width == 0 { 1 } else { f.width };
-    say_beside(say_field(l, f.start, width), form, serial_in(list, f))
+    say_beside(
+        say_field(l, f.start, f.width.max(1)),
+        form,
+        serial_in(list, f),
+    )
 }
 
 // The entry at fault, up to what its rule says: `rule` tells the paper's numbers from a profile's.
@@ -190,10 +181,9 @@ fn say_breach(line: Line, profile: Profile, list: &[u8], form: u8, f: Fault) -> 
 // The refusal of a list, with the entry at fault where there is one; `of` says which list of two it is.
 pub fn print_refused_list_of(list: &[u8], form: u8, f: Refusal, of: &[u8]) {
     let l = say_refused(f, of);
-    let found = gateway::find_fault(list, form);
-    match found {
-        FaultOutcome::Entry(x) => print(say_fault(l, list, form, x)),
-        FaultOutcome::NoEntry => print(l),
+    match gateway::find_fault(list, form) {
+        Some(x) => print(say_fault(l, list, form, x)),
+        None => print(l),
     }
 }
 
@@ -203,11 +193,8 @@ pub fn print_refused_list(list: &[u8], form: u8, f: Refusal) {
 
 // The same of a list that was judged under a profile. What the general rules refuse has no entry that breaks the profile.
 pub fn print_refused_profile(profile: Profile, list: &[u8], form: u8, f: Refusal) {
-    let found = gateway::find_breach(profile, list, form);
-    match found {
-        FaultOutcome::Entry(x) => {
-            print(say_breach(say_refused(f, b""), profile, list, form, x));
-        }
-        FaultOutcome::NoEntry => print_refused_list(list, form, f),
+    match gateway::find_breach(profile, list, form) {
+        Some(x) => print(say_breach(say_refused(f, b""), profile, list, form, x)),
+        None => print_refused_list(list, form, f),
     }
 }

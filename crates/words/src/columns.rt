@@ -2,7 +2,6 @@
 ghost use Rattle.std.specs.Prelude.{◌≤◌};
 
 use crate::serial::{say_signal, serial_at};
-use gateway::EntryOutcome;
 use saying::{Line, empty, pad};
 
 // The digits of the greatest value of a field.
@@ -12,18 +11,13 @@ fn digits(width: usize) -> usize
     if 64 < width { 20 } else { width * 3 / 10 + 1 }
 }
 
-pub fn greater(a: usize, b: usize) -> usize {
-    if a < b { b } else { a }
-}
-
 // The column at which a value of so many bits ends behind the line and a space.
 pub fn end_of_value(line: Line, width: usize) -> usize {
-    std::num::wrapping_add_usize(line.at, 1 + digits(width))
+    line.at + 1 + digits(width)
 }
 
 fn end_of(list: &[u8], form: u8, k: usize, from: usize, is_placed: bool) -> usize {
-    let entry = gateway::signal_entry(list, form, k);
-    let EntryOutcome::Entry(e) = entry else {
+    let Ok(e) = gateway::signal_entry(list, form, k) else {
         return 0;
     };
     let s = e.signal;
@@ -45,10 +39,8 @@ pub fn value_column(
     least: usize,
 ) -> usize {
     let mut column = least;
-    let mut k = 0;
-    while k < signals {
-        column = greater(column, end_of(list, form, k, from, is_placed));
-        k += 1;
+    for k in 0..signals {
+        column = column.max(end_of(list, form, k, from, is_placed));
     }
     column
 }

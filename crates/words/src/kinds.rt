@@ -37,8 +37,7 @@ pub fn kind_of(s: Signal) -> Kind {
     if s.width != 16 {
         return Kind::Code;
     }
-    let telegram = s.kind;
-    match telegram {
+    match s.kind {
         0 => kind_in_r3(s.start),
         1 => kind_in_r1(s.start),
         2 => kind_in_r2(s.start),

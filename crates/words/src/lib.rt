@@ -18,7 +18,7 @@ pub use believed::{
     print_never_by, print_totals, say_gap_tab, say_head, say_held_tabs,
 };
 pub use broken::{print_refused_list, print_refused_list_of, print_refused_profile};
-pub use columns::{end_of_value, greater, value_column};
+pub use columns::{end_of_value, value_column};
 pub use replaced::{Written, may_replace};
 pub use said::{
     print_refused, print_refused_of, print_refused_store, print_refused_store_of, say_field,
@@ -29,6 +29,7 @@ pub use scaled::{
 };
 pub use sent::{REMEDIES, is_carried, write_remedies, write_telegram};
 pub use serial::{
-    form_of, say_beside, say_serial, say_serial_name, say_serial_tab, say_signal, serial_at,
+    form_of, say_beside, say_both_beside, say_serial, say_serial_name, say_serial_tab, say_signal,
+    serial_at,
 };
 pub use vehicles::{Vehicles, no_vehicles, say_vehicles, with_vehicle};

@@ -1,22 +1,34 @@
 // Document 01's reasons, refusals and places in words.
-use gateway::{Refusal, STORE};
+use gateway::{Reason, Refusal, STORE};
 use saying::{Line, empty, print, put, say, say_number};
 
 // A store's octets before a slot had a previous stamp.
 const OLDER_STORE: usize = 8379;
 
-pub fn say_reason(line: Line, reason: u8) -> Line {
+// In the order of their numbers.
+pub const REASONS: [Reason; 9] = [
+    Reason::Live,
+    Reason::Forced,
+    Reason::NeverHeard,
+    Reason::TooOld,
+    Reason::NotCarried,
+    Reason::NewerThanTelegram,
+    Reason::MarkError,
+    Reason::MarkUndefined,
+    Reason::CodeUnknown,
+];
+
+pub fn say_reason(line: Line, reason: Reason) -> Line {
     match reason {
-        0 => say(line, b"0 live ok"),
-        1 => say(line, b"1 live forced"),
-        2 => say(line, b"2 never heard"),
-        3 => say(line, b"3 too old"),
-        4 => say(line, b"4 type does not carry it"),
-        5 => say(line, b"5 newer than the telegram"),
-        6 => say(line, b"6 mark error"),
-        7 => say(line, b"7 mark undefined"),
-        8 => say(line, b"8 code not known"),
-        _ => line,
+        Reason::Live => say(line, b"0 live ok"),
+        Reason::Forced => say(line, b"1 live forced"),
+        Reason::NeverHeard => say(line, b"2 never heard"),
+        Reason::TooOld => say(line, b"3 too old"),
+        Reason::NotCarried => say(line, b"4 type does not carry it"),
+        Reason::NewerThanTelegram => say(line, b"5 newer than the telegram"),
+        Reason::MarkError => say(line, b"6 mark error"),
+        Reason::MarkUndefined => say(line, b"7 mark undefined"),
+        Reason::CodeUnknown => say(line, b"8 code not known"),
     }
 }
 
@@ -58,27 +70,18 @@ fn say_run(line: Line, first: usize, last: usize) -> Line {
     if first == last {
         return say_bit(line, first);
     }
-    if (first % 8 == 0) & (last % 8 == 7) {
-        if first / 8 == last / 8 {
-            return say_octet(line, first);
-        }
-        return say_octets(line, first, last);
+    let is_whole = first % 8 == 0 && last % 8 == 7;
+    match (first / 8 == last / 8, is_whole) {
+        (true, true) => say_octet(line, first),
+        (true, false) => say_bits(line, first, last),
+        (false, true) => say_octets(line, first, last),
+        (false, false) => say_span(line, first, last),
     }
-    if first / 8 == last / 8 {
-        return say_bits(line, first, last);
-    }
-    say_span(line, first, last)
 }
 
 // A field by its start and width. No field of a list lies past bit 2048 or has no bit.
 pub fn say_field(line: Line, start: usize, width: usize) -> Line {
-    if 65535 < start {
-        return say(line, b"nowhere");
-    }
-    if 255 < width {
-        return say(line, b"nowhere");
-    }
-    if width == 0 {
+    if 65535 < start || 255 < width || width == 0 {
         return say(line, b"nowhere");
     }
     say_run(line, start, start + width - 1)
@@ -86,15 +89,6 @@ pub fn say_field(line: Line, start: usize, width: usize) -> Line {
 
 pub fn say_place(line: Line, kind: usize, start: usize, width: usize) -> Line {
     say_field(put(say_telegram(line, kind), b' '), start, width)
-}
-
-fn say_list_refusal(line: Line, number: u8) -> Line {
-    match number {
-        1 => say(line, b"list ends inside a count or a section"),
-        2 => say(line, b"count above its limit"),
-        3 => say(line, b"entry breaks its rule"),
-        _ => say(line, b"octets after the routes"),
-    }
 }
 
 // A number below a million, its thousands set off by a comma.
@@ -107,106 +101,102 @@ fn say_grouped(line: Line, n: u64) -> Line {
     say_number(say_number(l, n / 10 % 10), n % 10)
 }
 
-fn say_taking_refusal(line: Line, number: u8) -> Line {
-    match number {
-        5 => say(
-            say_grouped(say(line, b"store not "), STORE as u64),
-            b" octets",
-        ),
-        6 => say(line, b"vehicle not 1-63"),
-        7 => say(line, b"R-telegram under 2 octets"),
-        8 => say(line, b"application type not 1"),
-        9 => say(line, b"telegram type not 1-3"),
-        _ => say(line, b"length not the type's"),
-    }
-}
-
-// Of a step of a recording.
-fn say_step_refusal(line: Line, number: u8) -> Line {
-    match number {
-        36 => say(line, b"data areas differ in length"),
-        37 => say(line, b"step does not follow on"),
-        38 => say(line, b"more than 1,000 steps"),
+// Of a step of a recording. No program here meets the others that are left.
+fn say_step_refusal(line: Line, f: Refusal) -> Line {
+    match f {
+        Refusal::DataLengths => say(line, b"data areas differ in length"),
+        Refusal::StepBroken => say(line, b"step does not follow on"),
+        Refusal::StepsTooMany => say(line, b"more than 1,000 steps"),
         _ => say(line, b"see the table of refusals"),
     }
 }
 
 // Of a train: its consist, an address in it, the records that describe it, and its doors.
-fn say_train_refusal(line: Line, number: u8) -> Line {
-    match number {
-        17 => say(line, b"consist empty or above 63"),
-        18 => say(line, b"consist rule broken"),
-        19 => say(line, b"address not listed"),
-        20 => say(line, b"nobody meets it"),
-        31 => say(line, b"records not whole, or not as many pairs as records"),
-        35 => say(line, b"door signal missing from the list"),
-        _ => say_step_refusal(line, number),
+fn say_train_refusal(line: Line, f: Refusal) -> Line {
+    match f {
+        Refusal::ConsistLength => say(line, b"consist empty or above 63"),
+        Refusal::ConsistRule => say(line, b"consist rule broken"),
+        Refusal::AddressUnlisted => say(line, b"address not listed"),
+        Refusal::NobodyMeets => say(line, b"nobody meets it"),
+        Refusal::RecordsMisfit => say(line, b"records not whole, or not as many pairs as records"),
+        Refusal::DoorMissing => say(line, b"door signal missing from the list"),
+        _ => say_step_refusal(line, f),
     }
 }
 
 // Of telegram 8.8A, with remedy texts.
-fn say_remedy_refusal(line: Line, number: u8) -> Line {
-    match number {
-        21 => say(line, b"E-telegram length"),
-        28 => say(line, b"block runs past the end, or octets after the last"),
-        29 => say(line, b"field out of its range or length that disagrees"),
-        30 => say(line, b"key twice"),
-        _ => say_train_refusal(line, number),
+fn say_remedy_refusal(line: Line, f: Refusal) -> Line {
+    match f {
+        Refusal::ELength => say(line, b"E-telegram length"),
+        Refusal::BlockPast => say(line, b"block runs past the end, or octets after the last"),
+        Refusal::RemedyField => say(line, b"field out of its range or length that disagrees"),
+        Refusal::KeyTwice => say(line, b"key twice"),
+        _ => say_train_refusal(line, f),
     }
 }
 
-// No program here meets 22 to 27.
-fn say_other_refusal(line: Line, number: u8) -> Line {
-    match number {
-        11 => say(line, b"no such signal"),
-        12 => say(line, b"data shorter than a route's end"),
-        13 => say(line, b"values or marks not one per entry"),
-        14 => say(line, b"a written mark above 3"),
-        15 => say(
+// Of what is written: data, a telegram, a list in the other form, or a list under a profile.
+fn say_written_refusal(line: Line, f: Refusal) -> Line {
+    match f {
+        Refusal::NoSuchSignal => say(line, b"no such signal"),
+        Refusal::DataShort => say(line, b"data shorter than a route's end"),
+        Refusal::ValuesOrMarks => say(line, b"values or marks not one per entry"),
+        Refusal::MarkAbove => say(line, b"a written mark above 3"),
+        Refusal::ValueUnfit(_) => say(
             line,
             b"a written value at or above 2^width, or its code not known",
         ),
-        16 => say(line, b"output length not the type's"),
-        32 => say(line, b"serial number set"),
-        33 => say(line, b"output not of the needed length"),
-        34 => say(line, b"profile rule broken"),
-        _ => say_remedy_refusal(line, number),
+        Refusal::OutputLength => say(line, b"output length not the type's"),
+        Refusal::SerialSet => say(line, b"serial number set"),
+        Refusal::FormOutput => say(line, b"output not of the needed length"),
+        Refusal::Profile(_) => say(line, b"profile rule broken"),
+        _ => say_remedy_refusal(line, f),
     }
 }
 
-fn say_refusal(line: Line, number: u8) -> Line {
-    if number <= 4 {
-        return say_list_refusal(line, number);
+// Of a list, or of a telegram that is taken into a store.
+fn say_refusal(line: Line, f: Refusal) -> Line {
+    match f {
+        Refusal::ListEnds(_) => say(line, b"list ends inside a count or a section"),
+        Refusal::CountAbove(_) => say(line, b"count above its limit"),
+        Refusal::EntryBroken(_) => say(line, b"entry breaks its rule"),
+        Refusal::OctetsAfter(_) => say(line, b"octets after the routes"),
+        Refusal::StoreLength => say(
+            say_grouped(say(line, b"store not "), STORE as u64),
+            b" octets",
+        ),
+        Refusal::Vehicle => say(line, b"vehicle not 1-63"),
+        Refusal::TelegramShort => say(line, b"R-telegram under 2 octets"),
+        Refusal::ApplicationType => say(line, b"application type not 1"),
+        Refusal::TelegramType => say(line, b"telegram type not 1-3"),
+        Refusal::TelegramLength => say(line, b"length not the type's"),
+        _ => say_written_refusal(line, f),
     }
-    if number <= 10 {
-        return say_taking_refusal(line, number);
-    }
-    say_other_refusal(line, number)
 }
 
-// What a refusal carries: 1-4 and 34 an offset, 15 a signal.
-fn say_carried(line: Line, number: u8, carried: usize) -> Line {
-    if (number <= 4) | (number == 34) {
-        return say_number(say(line, b" at "), carried as u64);
+// What a refusal carries: an offset, or a signal.
+fn say_carried(line: Line, f: Refusal) -> Line {
+    match f {
+        Refusal::ListEnds(at)
+        | Refusal::CountAbove(at)
+        | Refusal::EntryBroken(at)
+        | Refusal::OctetsAfter(at)
+        | Refusal::Profile(at) => say_number(say(line, b" at "), at as u64),
+        Refusal::ValueUnfit(signal) => say_number(say(line, b" signal "), signal as u64),
+        _ => line,
     }
-    if number == 15 {
-        return say_number(say(line, b" signal "), carried as u64);
-    }
-    line
 }
 
 // `of` says which file of several was refused.
 pub fn say_refused(f: Refusal, of: &[u8]) -> Line {
-    let number = gateway::number(f);
-    let l = say_number(say(empty(), b"refused "), number as u64);
-    let l = say(say_carried(l, number, gateway::carried(f)), of);
-    say_refusal(say(l, b": "), number)
+    let l = say_number(say(empty(), b"refused "), f.number() as u64);
+    say_refusal(say(say(say_carried(l, f), of), b": "), f)
 }
 
 // The same of a call that is given a store of so many octets, with what can be said of one of the older layout.
 fn say_refused_store_of(f: Refusal, octets: usize, of: &[u8]) -> Line {
     let l = say_refused(f, of);
-    if (gateway::number(f) == 5) & (octets == OLDER_STORE) {
+    if f == Refusal::StoreLength && octets == OLDER_STORE {
         return say(
             l,
             b": it has the 8,379 of the older layout; `take new` makes a new one",

@@ -2,7 +2,7 @@
 ghost use Rattle.std.specs.Prelude.{◌<◌};
 
 use crate::kinds::kind_of;
-use gateway::{Kind, Showing, Shown, Signal};
+use gateway::{Kind, Shown, Signal};
 use saying::{Line, put, say, say_number};
 
 // What stands for a signal that is not shown in a unit.
@@ -21,21 +21,17 @@ pub fn shown_at(
     s: Signal,
 ) -> Shown {
     let kind = kind_of(s);
-    if let Kind::Code = kind {
+    if kind == Kind::Code {
         return not_scaled();
     }
-    let showing = gateway::show(list, form, store, clock, vehicle, k, kind);
-    match showing {
-        Showing::Shown(r) => r.shown,
-        Showing::Refused(_) => not_scaled(),
+    match gateway::show(list, form, store, clock, vehicle, k, kind) {
+        Ok(r) => r.shown,
+        Err(_) => not_scaled(),
     }
 }
 
 fn is_scaled(shown: Shown) -> bool {
-    match shown {
-        Shown::Code(_) => false,
-        _ => true,
-    }
+    !matches!(shown, Shown::Code(_))
 }
 
 // How many 4096ths: the product is exact, and whole.
@@ -63,11 +59,9 @@ fn say_decimal(line: Line, left: u64) -> Line
 fn say_decimals(line: Line, parts: u64) -> Line {
     let mut l = line;
     let mut left = parts % 4096;
-    let mut k: usize = 0;
-    while k < 12 {
+    for _ in 0..12 {
         l = say_decimal(l, left);
         left = left * 10 % 4096;
-        k += 1;
     }
     l
 }
@@ -91,9 +85,7 @@ fn say_float(line: Line, x: f32) -> Line {
 fn say_value(line: Line, shown: Shown) -> Line {
     match shown {
         Shown::Code(_) => put(line, b'-'),
-        Shown::Speed(x) => say_float(line, x),
-        Shown::Percentage(x) => say_float(line, x),
-        Shown::Current(x) => say_float(line, x),
+        Shown::Speed(x) | Shown::Percentage(x) | Shown::Current(x) => say_float(line, x),
     }
 }
 
@@ -125,7 +117,7 @@ pub fn say_shown(line: Line, shown: Shown) -> Line {
 
 // The same of two lists' readings of a signal, where either has a unit.
 pub fn say_both_shown(line: Line, a: Shown, b: Shown) -> Line {
-    if is_scaled(a) | is_scaled(b) {
+    if is_scaled(a) || is_scaled(b) {
         let l = say_scaled(say(line, b" ("), a);
         return put(say_scaled(say(l, b" | "), b), b')');
     }

@@ -8,7 +8,7 @@ pub const REMEDIES: usize = 2110;
 
 // Whether a telegram of the type carries the signal: its own, and those that are common.
 pub fn is_carried(s: Signal, kind: usize) -> bool {
-    (s.kind == 0) | (s.kind == kind)
+    s.kind == 0 || s.kind == kind
 }
 
 // Whether the file is not there yet, or holds a telegram of the same kind: a store or a list that is given for it by mistake is not lost.
@@ -17,11 +17,9 @@ fn is_free(rt: &impl Host, i: usize, name: &[u8], path: &[u8], written: Written)
         return true;
     }
     let mut old = [0u8; REMEDIES + 1];
-    let o = files::read_at(rt, i, name, path, &mut old);
-    if !o.ok {
+    let Some(n) = files::read_at(rt, i, name, path, &mut old) else {
         return false;
-    }
-    let n = o.octets;
+    };
     may_replace(rt, i, name, &old[..n], written)
 }
 
@@ -48,8 +46,8 @@ fn write(
     rt: &impl Host,
     i: usize,
     name: &[u8],
-    first: usize,
-    second: usize,
+    first: Option<usize>,
+    second: Option<usize>,
     written: Written,
     out: &[u8],
 ) -> bool {
@@ -66,10 +64,19 @@ fn write(
 
 // Writes a telegram to OUT, which is argument i; it takes that name once all of it is written. It may be no file of the arguments `first` and `second`.
 pub fn write_telegram(rt: &impl Host, i: usize, first: usize, second: usize, out: &[u8]) -> bool {
+    let (first, second) = (Some(first), Some(second));
     write(rt, i, b"OUT", first, second, Written::Telegram, out)
 }
 
 // The same of one with remedy texts, to TELEGRAM, which may not be the file of the argument `first`.
 pub fn write_remedies(rt: &impl Host, i: usize, first: usize, out: &[u8]) -> bool {
-    write(rt, i, b"TELEGRAM", first, 0, Written::Remedies, out)
+    write(
+        rt,
+        i,
+        b"TELEGRAM",
+        Some(first),
+        None,
+        Written::Remedies,
+        out,
+    )
 }

@@ -1,6 +1,6 @@
 // The serial numbers of Appendix A that a list in form 2 has beside its signals, in words; packed and printed as `paper/specs/Serials.antt` says.
 use crate::said::say_place;
-use gateway::{FORM_1, FORM_2, SerialOutcome, Signal};
+use gateway::{FORM_1, FORM_2, Signal};
 use saying::{Line, put, say, say_number};
 
 // A list's form, as the library takes it.
@@ -13,11 +13,7 @@ pub fn serial_at(list: &[u8], form: u8, signal: usize) -> usize {
     if form != FORM_2 {
         return 0;
     }
-    let found = gateway::serial_of(list, form, signal);
-    match found {
-        SerialOutcome::Serial(n) => n,
-        SerialOutcome::Refused(_) => 0,
-    }
+    gateway::serial_of(list, form, signal).unwrap_or(0)
 }
 
 // Behind the number.
@@ -61,7 +57,7 @@ pub fn say_serial(line: Line, serial: usize) -> Line {
     }
     let number = serial / 64 % 64;
     let letters = serial / 8 % 8;
-    if (number == 0) | (letters == 7) {
+    if number == 0 || letters == 7 {
         return say_hex(line, serial);
     }
     let l = put(say_number(line, (serial / 4096) as u64), b'.');
@@ -80,6 +76,18 @@ pub fn say_beside(line: Line, form: u8, serial: usize) -> Line {
 // The place of a signal, with its serial number in form 2.
 pub fn say_signal(line: Line, form: u8, s: Signal, serial: usize) -> Line {
     say_beside(say_place(line, s.kind, s.start, s.width), form, serial)
+}
+
+// The same of a signal that two lists may have, by the serial numbers of those in form 2; one that both have, once.
+pub fn say_both_beside(line: Line, first: Option<usize>, second: Option<usize>) -> Line {
+    match (first, second) {
+        (Some(x), Some(y)) if x != y => {
+            let l = say_serial(say(line, b" ("), x);
+            put(say_serial(say(l, b", "), y), b')')
+        }
+        (Some(x), _) | (None, Some(x)) => say_beside(line, FORM_2, x),
+        (None, None) => line,
+    }
 }
 
 // The serial number as the next column of a table in form 2, a dash where there is none.

@@ -1,8 +1,5 @@
-use Rattle.std.proofs.Common.{◌-◌}
+use Rattle.std.proofs.Common.{◌≤◌}
 use Rattle.files.proofs.lock.wait.Given as goal
 
-abbrev pub invariant-loop-turns : goal.invariant-loop-turns
-invariant-loop-turns g l = Unit {0}
-
-abbrev pub decreases-loop-turns : goal.decreases-loop-turns
-decreases-loop-turns g l = 3000 - l.turns
+abbrev pub invariant-loop : goal.invariant-loop
+invariant-loop g l = l.same ≤ 250

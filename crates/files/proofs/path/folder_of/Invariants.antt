@@ -1,9 +1,0 @@
--- `files::path::folder_of` meets its contract. Assumes nothing.
-use Rattle.std.proofs.Common.{◌≤◌, length}
-use Rattle.files.proofs.path.folder_of.Given as goal
-
-abbrev pub invariant-loop-n : goal.invariant-loop-n
-invariant-loop-n l = l.n ≤ length l.path
-
-abbrev pub decreases-loop-n : goal.decreases-loop-n
-decreases-loop-n l = l.n
