@@ -20,49 +20,40 @@ loop-v-init c = (search rules, sofar_none _ _)
 
 pub vehicle_says-state-requires : goal.vehicle_says-state-requires
 vehicle_says-state-requires c =
-    let l = c in
-    let p = l.requires in
+    let p = c.requires in
     (p.0, p.1, omega arith, omega arith, p.3)
 
 pub overflow_add-kept : goal.overflow_add-kept
 overflow_add-kept c =
-    let i = c in
-    let l = i.loop-v in
-    record { fits = rw (bit (l.v + 1) ((let the_low : c.loop-v.v + 1 ≤ 63 = omega (arith, c.requires.2) in the_low))) (sofar_fits _ _ l.v l.kept l.any l.invariant.1 ((let the_low : c.loop-v.v + 1 ≤ 63 = omega (arith, c.requires.2) in the_low))) }
+    let l = c.loop-v in
+    record { fits = rw (bit (l.v + 1) (omega (arith, c.requires.2))) (sofar_fits _ _ l.v l.kept l.any l.invariant.1 (omega (arith, c.requires.2))) }
 
 pub overflow_add-kept-in-Unknown : goal.overflow_add-kept-in-Unknown
 overflow_add-kept-in-Unknown c =
-    let i = c in
-    let l = i.loop-v in
-    record { fits = rw (bit (l.v + 1) ((let the_low : c.loop-v.v + 1 ≤ 63 = omega (arith, c.requires.2) in the_low))) (sofar_fits _ _ l.v l.kept l.any l.invariant.1 ((let the_low : c.loop-v.v + 1 ≤ 63 = omega (arith, c.requires.2) in the_low))) }
+    let l = c.loop-v in
+    record { fits = rw (bit (l.v + 1) (omega (arith, c.requires.2))) (sofar_fits _ _ l.v l.kept l.any l.invariant.1 (omega (arith, c.requires.2))) }
 
 pub loop-v-preserved-in-Locked : goal.loop-v-preserved-in-Locked
 loop-v-preserved-in-Locked c =
-    let s = c in
-    let i = s in
-    let l = i.loop-v in (
-      omega (arith, i.loop-v-test.true),
-      sofar_locked _ _ l.v l.kept l.any l.invariant.1 (eq-eqb _ 1 s.if-set-v-eq1.true) (sym (ap state_as c.in-Locked.is) ∙ s.vehicle_says-state.ensures),
+    let l = c.loop-v in (
+      omega (arith, c.loop-v-test.true),
+      sofar_locked _ _ l.v l.kept l.any l.invariant.1 (eq-eqb _ 1 c.if-set-v-eq1.true) (sym (ap state_as c.in-Locked.is) ∙ c.vehicle_says-state.ensures),
     )
 
 pub loop-v-preserved-in-Open : goal.loop-v-preserved-in-Open
 loop-v-preserved-in-Open c =
-    let s = c in
-    let i = s in
-    let l = i.loop-v in (
-      omega (arith, i.loop-v-test.true),
-      rw (bit (l.v + 1) ((let the_low : c.loop-v.v + 1 ≤ 63 = omega (arith, c.requires.2) in the_low)))
-          (sofar_open _ _ l.v l.kept l.any l.invariant.1 (eq-eqb _ 1 s.if-set-v-eq1.true) (sym (ap state_as c.in-Open.is) ∙ s.vehicle_says-state.ensures)),
+    let l = c.loop-v in (
+      omega (arith, c.loop-v-test.true),
+      rw (bit (l.v + 1) (omega (arith, c.requires.2)))
+          (sofar_open _ _ l.v l.kept l.any l.invariant.1 (eq-eqb _ 1 c.if-set-v-eq1.true) (sym (ap state_as c.in-Open.is) ∙ c.vehicle_says-state.ensures)),
     )
 
 pub loop-v-preserved-in-Unknown : goal.loop-v-preserved-in-Unknown
 loop-v-preserved-in-Unknown c =
-    let s = c in
-    let i = s in
-    let l = i.loop-v in (
-      omega (arith, i.loop-v-test.true),
-      rw (bit (l.v + 1) ((let the_low : c.loop-v.v + 1 ≤ 63 = omega (arith, c.requires.2) in the_low)))
-          (sofar_unknown _ _ l.v l.kept l.any l.invariant.1 (eq-eqb _ 1 s.if-set-v-eq1.true) (sym (ap state_as c.in-Unknown.is) ∙ s.vehicle_says-state.ensures)),
+    let l = c.loop-v in (
+      omega (arith, c.loop-v-test.true),
+      rw (bit (l.v + 1) (omega (arith, c.requires.2)))
+          (sofar_unknown _ _ l.v l.kept l.any l.invariant.1 (eq-eqb _ 1 c.if-set-v-eq1.true) (sym (ap state_as c.in-Unknown.is) ∙ c.vehicle_says-state.ensures)),
     )
 
 pub loop-v-preserved : goal.loop-v-preserved
