@@ -2,15 +2,12 @@
 #![tactic(auto)]
 
 use files::Host;
-use gateway::{
-    Entry, EntryOutcome, HeldOutcome, Judged, LONGEST, ReadOutcome, Reading, STORE, Signal,
-    VEHICLES,
-};
-use saying::{Clock, Line, Number, Page, STDOUT};
+use gateway::{Entry, LONGEST, Reading, STORE, Signal, VEHICLES};
+use saying::{Line, Page, STDOUT};
 use words::Totals;
 
 // How much is asked: with 3 words every vehicle, with 4 one, with 5 one signal of it; as lines for people, or as a table.
-#[derive(Clone, Copy)]
+#[derive(Clone, Copy, Debug, PartialEq, Eq)]
 struct Asked {
     words: usize,
     clock: u32,
@@ -68,7 +65,7 @@ fn row_of(store: &[u8], asked: Asked, k: usize, s: Signal, serial: usize, r: Rea
     let l = saying::put(saying::say_tab(l, k as u64), b'\t');
     let l = saying::say_tab(words::say_telegram(l, s.kind), s.start as u64);
     let l = saying::say_tab(saying::say_tab(l, s.width as u64), r.value);
-    let l = saying::say_tab(l, r.reason as u64);
+    let l = saying::say_tab(l, r.reason.number() as u64);
     let l = words::say_gap_tab(l, store, asked.vehicle);
     words::say_serial_tab(l, asked.form, serial)
 }
@@ -90,8 +87,7 @@ fn one_signal(
     e: Entry,
     totals: Totals,
 ) -> Totals {
-    let read = gateway::read(list, asked.form, store, asked.clock, asked.vehicle, k);
-    let ReadOutcome::Read(r) = read else {
+    let Ok(r) = gateway::read(list, asked.form, store, asked.clock, asked.vehicle, k) else {
         return totals;
     };
     let s = e.signal;
@@ -123,39 +119,20 @@ fn one_vehicle(
 ) -> Totals {
     print_head(page, store, asked);
     let mut t = totals;
-    let mut k = 0;
-    while k < signals {
-        let entry = gateway::signal_entry(list, asked.form, k);
-        if let EntryOutcome::Entry(e) = entry {
+    for k in 0..signals {
+        if let Ok(e) = gateway::signal_entry(list, asked.form, k) {
             t = one_signal(page, list, store, asked, k, e, t);
         }
-        k += 1;
     }
     t
 }
 
 fn of_vehicle(asked: Asked, vehicle: usize) -> Asked {
-    Asked {
-        words: asked.words,
-        clock: asked.clock,
-        vehicle,
-        signal: asked.signal,
-        table: asked.table,
-        form: asked.form,
-        column: asked.column,
-    }
+    Asked { vehicle, ..asked }
 }
 
 fn in_column(asked: Asked, column: usize) -> Asked {
-    Asked {
-        words: asked.words,
-        clock: asked.clock,
-        vehicle: asked.vehicle,
-        signal: asked.signal,
-        table: asked.table,
-        form: asked.form,
-        column,
-    }
+    Asked { column, ..asked }
 }
 
 fn all_vehicles(
@@ -166,12 +143,10 @@ fn all_vehicles(
     asked: Asked,
 ) -> Totals {
     let mut t = words::no_totals();
-    let mut v = 1;
-    while v <= VEHICLES {
+    for v in 1..=VEHICLES {
         if words::is_heard(store, v) {
             t = one_vehicle(page, list, signals, store, of_vehicle(asked, v), t);
         }
-        v += 1;
     }
     if !asked.table {
         words::print_never(page, store);
@@ -197,10 +172,9 @@ fn print_names(page: &mut Page, asked: Asked) {
 }
 
 fn print_one(list: &[u8], store: &[u8], asked: Asked) {
-    let entry = gateway::signal_entry(list, asked.form, asked.signal);
-    match entry {
-        EntryOutcome::Refused(f) => words::print_refused(f),
-        EntryOutcome::Entry(e) => {
+    match gateway::signal_entry(list, asked.form, asked.signal) {
+        Err(f) => words::print_refused(f),
+        Ok(e) => {
             let mut page = saying::new_page();
             print_names(&mut page, asked);
             print_head(&mut page, store, asked);
@@ -227,49 +201,42 @@ fn print_all(list: &[u8], signals: usize, store: &[u8], asked: Asked) {
 
 // Refused as a reading is: 1 to 4, then 5, 6 and 11.
 fn judge(list: &[u8], store: &[u8], asked: Asked) {
-    let judged = gateway::judge(list, asked.form);
-    match judged {
-        Judged::Refused(f) => words::print_refused(f),
-        Judged::Accepted(n) => {
-            let held = gateway::holding(store, asked.clock, asked.vehicle);
-            if let HeldOutcome::Refused(f) = held {
-                words::print_refused_store(f, store.len());
-                return;
-            }
-            let column = words::value_column(list, asked.form, n.signals, 9, true, 48);
-            if asked.words == 5 {
-                print_one(list, store, in_column(asked, column));
-            } else {
-                print_all(list, n.signals, store, in_column(asked, column));
-            }
-        }
+    let n = match gateway::judge(list, asked.form) {
+        Ok(n) => n,
+        Err(f) => return words::print_refused(f),
+    };
+    if let Err(f) = gateway::holding(store, asked.clock, asked.vehicle) {
+        words::print_refused_store(f, store.len());
+        return;
+    }
+    let column = words::value_column(list, asked.form, n.signals, 9, true, 48);
+    if asked.words == 5 {
+        print_one(list, store, in_column(asked, column));
+    } else {
+        print_all(list, n.signals, store, in_column(asked, column));
     }
 }
 
 fn read_files(rt: &impl Host, asked: Asked) {
     let mut list = [0u8; LONGEST + 1];
-    let l = files::read(rt, 1, b"LIST", &mut list);
-    if !l.ok {
+    let Some(n) = files::read(rt, 1, b"LIST", &mut list) else {
         return;
-    }
+    };
     let mut store = [0u8; STORE + 1];
-    let s = files::read(rt, 2, b"STORE", &mut store);
-    if !s.ok {
+    let Some(m) = files::read(rt, 2, b"STORE", &mut store) else {
         return;
-    }
-    let n = l.octets;
-    let m = s.octets;
+    };
     judge(&list[..n], &store[..m], asked);
 }
 
 fn ask(rt: &impl Host, words: usize, table: bool, form: u8) {
-    let Clock::At(clock) = saying::clock_argument(rt, 3) else {
+    let Some(clock) = saying::clock_argument(rt, 3) else {
         return;
     };
-    let Number::Is(vehicle) = saying::number_or(rt, words, 4, b"VEHICLE", 1) else {
+    let Some(vehicle) = saying::number_or(rt, words, 4, b"VEHICLE", 1) else {
         return;
     };
-    let Number::Is(signal) = saying::number_or(rt, words, 5, b"SIGNAL", 0) else {
+    let Some(signal) = saying::number_or(rt, words, 5, b"SIGNAL", 0) else {
         return;
     };
     read_files(
@@ -296,7 +263,7 @@ fn main(rt: HostRuntime) {
     let is_form_2 = saying::has_option(&rt, 4, n, b"form2");
     let options = saying::one_if(table) + saying::one_if(is_form_2);
     let words = saying::words_before(n, options);
-    if (3 <= words) & (words <= 5) {
+    if (3..=5).contains(&words) {
         ask(&rt, words, table, words::form_of(is_form_2));
         return;
     }

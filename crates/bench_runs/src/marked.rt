@@ -1,7 +1,5 @@
 // The marked cases (a) to (l) of document 01, run on the compiled calls. The table that is proved stands in crates/tables/specs/Marked.antt.
-use gateway::{
-    FORM_1, HeldOutcome, Kind, Marshalled, ReadOutcome, Refusal, STORE, Showing, Shown, TELEGRAM,
-};
+use gateway::{FORM_1, Kind, Refusal, STORE, Shown, TELEGRAM};
 use saying::Line;
 
 // The list L, for voltage selection (4.3): octet 54 bits 0-3, check 41 2/3.
@@ -16,7 +14,7 @@ fn say_count(line: Line, name: &[u8], n: u64) -> Line {
 }
 
 fn say_refused(line: Line, f: Refusal) -> Line {
-    say_count(line, b" refused ", gateway::number(f) as u64)
+    say_count(line, b" refused ", f.number() as u64)
 }
 
 // A list of one speed: R1 octets 51-52, no check.
@@ -34,27 +32,26 @@ fn heard_at(store: &mut [u8; STORE], o41: u8, o54: u8, raw: u64, stamp: u32) {
     telegram[50] = (raw / 256 % 256) as u8;
     telegram[51] = (raw % 256) as u8;
     telegram[53] = o54;
-    gateway::take(store, 1, stamp, &telegram);
+    let _ = gateway::take(store, 1, stamp, &telegram);
 }
 
 // One reading: the value and the reason.
 fn say_read(line: Line, store: &[u8; STORE], clock: u32) -> Line {
-    let read = gateway::read(&L, FORM_1, store, clock, 1, 0);
-    match read {
-        ReadOutcome::Read(r) => say_count(
+    match gateway::read(&L, FORM_1, store, clock, 1, 0) {
+        Ok(r) => say_count(
             say_count(line, b" value ", r.value),
             b" reason ",
-            r.reason as u64,
+            r.reason.number() as u64,
         ),
-        ReadOutcome::Refused(f) => say_refused(line, f),
+        Err(f) => say_refused(line, f),
     }
 }
 
 fn say_age(line: Line, store: &[u8; STORE], clock: u32) -> Line {
-    let held = gateway::holding(store, clock, 1);
-    match held {
-        HeldOutcome::Held(h) => say_count(line, b" age ", h.age as u64),
-        HeldOutcome::Refused(f) => say_refused(line, f),
+    match gateway::holding(store, clock, 1) {
+        Ok(Some(h)) => say_count(line, b" age ", h.age as u64),
+        Ok(None) => say_count(line, b" age ", 0),
+        Err(f) => say_refused(line, f),
     }
 }
 
@@ -65,41 +62,34 @@ fn reads(name: &[u8], o41: u8, o54: u8, stamp: u32, clock: u32) {
     saying::print(say_age(l, &store, clock));
 }
 
-fn wide(x: u8) -> u64 {
-    x as u64
-}
-
 fn say_octet(line: Line, bus: &[u8; 1]) -> Line {
-    say_count(line, b" octet ", wide(bus[0]))
+    say_count(line, b" octet ", bus[0] as u64)
 }
 
 // One octet of data, marshalled: what it is afterwards, and the live count.
 fn marshals(name: &[u8], store: &[u8; STORE], clock: u32) {
     let mut bus = [0xABu8; 1];
     let l = saying::say(saying::empty(), name);
-    let done = gateway::marshal(&L, FORM_1, store, clock, &mut bus);
-    let l = match done {
-        Marshalled::Live(n) => say_count(l, b" live ", n as u64),
-        Marshalled::Refused(f) => say_refused(l, f),
+    let l = match gateway::marshal(&L, FORM_1, store, clock, &mut bus) {
+        Ok(n) => say_count(l, b" live ", n as u64),
+        Err(f) => say_refused(l, f),
     };
     saying::print(say_octet(l, &bus));
 }
 
 // The speed of vehicle 1, in whole km/h, and the reason.
 fn say_shown(line: Line, store: &[u8; STORE]) -> Line {
-    let seen = gateway::show(&V, FORM_1, store, 5000, 1, 0, Kind::Speed);
-    let Showing::Shown(s) = seen else {
+    let Ok(s) = gateway::show(&V, FORM_1, store, 5000, 1, 0, Kind::Speed) else {
         return saying::say(line, b" refused");
     };
-    let x = s.shown;
-    let Shown::Speed(v) = x else {
+    let Shown::Speed(v) = s.shown else {
         return saying::say(line, b" no speed");
     };
     if v == 256.0 {
         return say_count(
             saying::say(line, b" speed 256"),
             b" reason ",
-            s.reason as u64,
+            s.reason.number() as u64,
         );
     }
     saying::say(line, b" another speed")

@@ -1,5 +1,4 @@
 // What the program is given: the words behind RECORDS, and the records of the file.
-use saying::Number;
 use std::rt::Env;
 
 // As many records as are read; a train has 63 at most.
@@ -12,35 +11,29 @@ const LEADING: u8 = 1;
 
 const LED: u8 = 8;
 
-#[derive(Clone, Copy)]
+#[derive(Clone, Copy, Debug, PartialEq, Eq)]
 pub struct Given {
     pub ok: bool,
     pub table: bool,
-    // the mark whose vehicle is the next word, or 0
-    due: u8,
+    // the mark whose vehicle is the next word
+    due: Option<u8>,
     // the highest vehicle, and the word that names it
     vehicle: usize,
     at: usize,
 }
 
 fn not_ok(g: Given) -> Given {
-    let mut g = g;
-    g.ok = false;
-    g
+    Given { ok: false, ..g }
 }
 
 // The first n octets; all where there are fewer.
 pub fn first(octets: &[u8], n: usize) -> &[u8] {
-    let a = 0;
-    if octets.len() <= n {
-        return octets;
-    }
-    &octets[a..n]
+    &octets[..n.min(octets.len())]
 }
 
 // Octet i, or 0 where there is none.
 pub fn octet_at(octets: &[u8], i: usize) -> u8 {
-    if i < octets.len() { octets[i] } else { 0 }
+    octets.get(i).copied().unwrap_or(0)
 }
 
 // Record v, from 0; zeros where the octets end.
@@ -49,21 +42,16 @@ pub fn record_of(records: &[u8], v: usize) -> [u8; 56] {
     if RECORDS < v {
         return record;
     }
-    let mut i = 0;
-    while i < 56 {
+    for i in 0..56 {
         record[i] = octet_at(records, v * 56 + i);
-        i += 1;
     }
     record
 }
 
 // A mark more for vehicle v, from 1.
 fn add_mark(pairs: &mut [u8; RECORDS], v: usize, mark: u8) {
-    if v == 0 {
-        return;
-    }
-    if v <= RECORDS {
-        pairs[v - 1] = pairs[v - 1] | mark;
+    if 1 <= v && v <= RECORDS {
+        pairs[v - 1] |= mark;
     }
 }
 
@@ -78,30 +66,29 @@ fn no_vehicle(rt: &impl Env, i: usize, g: Given) -> Given {
 }
 
 // Word i as the vehicle of the mark that is due.
-fn take_vehicle(rt: &impl Env, i: usize, pairs: &mut [u8; RECORDS], g: Given) -> Given {
-    let mut g = g;
-    let Number::Is(n) = saying::number_of(rt, i, 4294967295) else {
-        return no_vehicle(rt, i, g);
+fn take_vehicle(rt: &impl Env, i: usize, pairs: &mut [u8; RECORDS], mark: u8, g: Given) -> Given {
+    let v = match saying::number_of(rt, i, 4294967295) {
+        None | Some(0) => return no_vehicle(rt, i, g),
+        Some(n) => n as usize,
     };
-    let v = n as usize;
-    if v == 0 {
-        return no_vehicle(rt, i, g);
+    add_mark(pairs, v, mark);
+    let g = Given { due: None, ..g };
+    if v <= g.vehicle {
+        return g;
     }
-    add_mark(pairs, v, g.due);
-    g.due = 0;
-    if g.vehicle < v {
-        g.vehicle = v;
-        g.at = i;
+    Given {
+        vehicle: v,
+        at: i,
+        ..g
     }
-    g
 }
 
 fn take_name(rt: &impl Env, i: usize, g: Given) -> Given {
     let mut g = g;
     if saying::is_word(rt, i, b"leading") {
-        g.due = LEADING;
+        g.due = Some(LEADING);
     } else if saying::is_word(rt, i, b"led") {
-        g.due = LED;
+        g.due = Some(LED);
     } else if saying::is_word(rt, i, b"table") {
         g.table = true;
     } else {
@@ -112,18 +99,18 @@ fn take_name(rt: &impl Env, i: usize, g: Given) -> Given {
 }
 
 fn take_word(rt: &impl Env, i: usize, pairs: &mut [u8; RECORDS], g: Given) -> Given {
-    if g.due == 0 {
-        return take_name(rt, i, g);
+    match g.due {
+        None => take_name(rt, i, g),
+        Some(mark) => take_vehicle(rt, i, pairs, mark, g),
     }
-    take_vehicle(rt, i, pairs, g)
 }
 
 // Where the last word wants a vehicle behind it.
 fn ended(rt: &impl Env, n: usize, g: Given) -> Given {
-    if g.due == 0 {
+    if g.due.is_none() {
         return g;
     }
-    let last = std::num::wrapping_sub_usize(n, 1);
+    let last = n.wrapping_sub(1);
     saying::print_word(rt, last, b"word", b"no vehicle behind it");
     not_ok(g)
 }
@@ -133,17 +120,15 @@ pub fn read_words(rt: &impl Env, n: usize, pairs: &mut [u8; RECORDS]) -> Given {
     let mut g = Given {
         ok: true,
         table: false,
-        due: 0,
+        due: None,
         vehicle: 0,
         at: 0,
     };
-    let mut i = 2;
-    while i < n {
+    for i in 2..n {
         g = take_word(rt, i, pairs, g);
         if !g.ok {
             return g;
         }
-        i += 1;
     }
     ended(rt, n, g)
 }

@@ -5,7 +5,7 @@ mod given;
 mod names;
 
 use files::Host;
-use gateway::{Christened, Level, Property, PropertyRead};
+use gateway::{Level, Property};
 use given::{Given, OCTETS, RECORDS};
 use saying::{Line, Page, STDOUT};
 use std::rt::Env;
@@ -68,16 +68,8 @@ fn train_line(vehicle: usize, mark: u8) -> Line {
 }
 
 fn print_train(page: &mut Page, marks: &[u8; 63], n: usize) {
-    let mut v = 0;
-    while v < n {
-        saying::add(
-            page,
-            train_line(
-                std::num::wrapping_add_usize(v, 1),
-                given::octet_at(marks, v),
-            ),
-        );
-        v += 1;
+    for v in 0..n {
+        saying::add(page, train_line(v + 1, given::octet_at(marks, v)));
     }
 }
 
@@ -96,9 +88,8 @@ fn say_level(line: Line, level: Level) -> Line {
 }
 
 fn property_row(vehicle: usize, row: u32, p: Property) -> Line {
-    let level = p.level;
     let l = saying::say_number(saying::empty(), vehicle as u64);
-    let l = say_level(saying::say_tab(l, row as u64), level);
+    let l = say_level(saying::say_tab(l, row as u64), p.level);
     let l = saying::say_tab(saying::say_tab(l, p.octet as u64), p.bit as u64);
     names::say_name(saying::put(l, b'\t'), row)
 }
@@ -116,19 +107,17 @@ fn print_property(page: &mut Page, vehicle: usize, row: u32, p: Property, table:
 
 // The properties that hold in a record, in the order of the rows.
 fn print_properties(page: &mut Page, vehicle: usize, record: &[u8; 56], table: bool) {
-    let mut row = 1;
-    while row <= 152 {
-        let read = gateway::property_of(record, row);
-        if let PropertyRead::Row(p) = read {
+    for row in 1..=152 {
+        if let Some(p) = gateway::property_of(record, row) {
             print_property(page, vehicle, row, p, table);
         }
-        row += 1;
     }
 }
 
+// Of vehicle v, counted from 0.
 fn print_vehicle(page: &mut Page, records: &[u8], v: usize, table: bool) {
     let record = given::record_of(records, v);
-    let vehicle = std::num::wrapping_add_usize(v, 1);
+    let vehicle = v.wrapping_add(1);
     if !table {
         saying::add(page, say_vehicle(vehicle));
     }
@@ -136,10 +125,8 @@ fn print_vehicle(page: &mut Page, records: &[u8], v: usize, table: bool) {
 }
 
 fn print_vehicles(page: &mut Page, records: &[u8], n: usize, table: bool) {
-    let mut v = 0;
-    while v < n {
+    for v in 0..n {
         print_vehicle(page, records, v, table);
-        v += 1;
     }
 }
 
@@ -157,20 +144,17 @@ fn print_all(records: &[u8], marks: &[u8; 63], n: usize, table: bool) {
 
 fn answer(records: &[u8], pairs: &[u8], table: bool) {
     let mut marks = [0u8; 63];
-    let christened = gateway::christen(records, pairs, &mut marks);
-    match christened {
-        Christened::Refused(f) => words::print_refused(f),
-        Christened::Vehicles(n) => print_all(records, &marks, n, table),
+    match gateway::christen(records, pairs, &mut marks) {
+        Err(f) => words::print_refused(f),
+        Ok(n) => print_all(records, &marks, n, table),
     }
 }
 
 // As many pairs as records, so that 31 tells of the file alone; it comes before a vehicle that the file does not have.
 fn judge(rt: &impl Env, records: &[u8], pairs: &[u8; RECORDS], g: Given) {
     let n = records.len() / 56;
-    if records.len() % 56 == 0 {
-        if !given::has_vehicles(rt, g, n) {
-            return;
-        }
+    if records.len() % 56 == 0 && !given::has_vehicles(rt, g, n) {
+        return;
     }
     answer(records, given::first(pairs, n), g.table);
 }
@@ -182,11 +166,9 @@ fn ask(rt: &impl Host, n: usize) {
         return;
     }
     let mut records = [0u8; OCTETS + 1];
-    let r = files::read(rt, 1, b"RECORDS", &mut records);
-    if !r.ok {
+    let Some(n) = files::read(rt, 1, b"RECORDS", &mut records) else {
         return;
-    }
-    let n = r.octets;
+    };
     if n == OCTETS + 1 {
         files::print_long(rt, 1, b"RECORDS", OCTETS as u64);
         return;

@@ -1,6 +1,4 @@
 // The names of table E.1's rows, as source document 004, table C.3, has them in English; `data/properties.csv` has the same, and the gate compares.
-ghost use Rattle.std.specs.Prelude.{◌≤◌, length};
-
 use saying::Line;
 
 // A line for each row in their order, 1 to 132 and 141 to 152, in UTF-8.
@@ -150,36 +148,14 @@ Vehicle supports diagnostics: tests
 Vehicle supports safe data transmission
 ";
 
-// Where line k, counted from 0, starts, or the end.
-fn start_of(text: &[u8], k: usize) -> usize
-    ensures { result ≤ length text.now }
-{
-    let mut left = k;
-    let mut i = 0;
-    while i < text.len() {
-        if left == 0 {
-            return i;
-        }
-        if text[i] == b'\n' {
-            left -= 1;
-        }
-        i += 1;
-    }
-    i
-}
-
+// Line k, counted from 0; empty where there are fewer.
 fn line_of(text: &[u8], k: usize) -> &[u8] {
-    let a = start_of(text, k);
-    let e = saying::find(text, a, b'\n');
-    &text[a..e]
+    text.split(|&x| x == b'\n').nth(k).unwrap_or(b"")
 }
 
 // Rows 133 to 140 have no bit, and no name here.
 fn place_of(row: u32) -> usize {
-    if row <= 132 {
-        return std::num::wrapping_sub_usize(row as usize, 1);
-    }
-    std::num::wrapping_sub_usize(row as usize, 9)
+    (row as usize).wrapping_sub(if row <= 132 { 1 } else { 9 })
 }
 
 // The name of a row of the table.

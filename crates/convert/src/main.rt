@@ -2,11 +2,11 @@
 #![tactic(auto)]
 
 use files::Host;
-use gateway::{Counts, EntryOutcome, FORM_1, FORM_2, Judged, LONGEST, Outcome, Refusal};
+use gateway::{Counts, FORM_1, FORM_2, LONGEST, Refusal};
 use saying::{Line, STDOUT};
 
 // The serial numbers of a list that are set: the first one's signal, and how many.
-#[derive(Clone, Copy)]
+#[derive(Clone, Copy, Debug, PartialEq, Eq)]
 struct Serials {
     first: usize,
     count: usize,
@@ -55,23 +55,20 @@ fn with_signal(found: Serials, list: &[u8], signal: usize) -> Serials {
         } else {
             found.first
         },
-        count: std::num::wrapping_add_usize(found.count, 1),
+        count: found.count.wrapping_add(1),
     }
 }
 
 fn serials_of(list: &[u8], signals: usize) -> Serials {
     let mut found = Serials { first: 0, count: 0 };
-    let mut k = 0;
-    while k < signals {
+    for k in 0..signals {
         found = with_signal(found, list, k);
-        k += 1;
     }
     found
 }
 
 fn say_signal(line: Line, list: &[u8], k: usize) -> Line {
-    let entry = gateway::signal_entry(list, FORM_2, k);
-    let EntryOutcome::Entry(e) = entry else {
+    let Ok(e) = gateway::signal_entry(list, FORM_2, k) else {
         return line;
     };
     let l = saying::say_number(saying::say(line, b"signal "), k as u64);
@@ -82,7 +79,7 @@ fn say_signal(line: Line, list: &[u8], k: usize) -> Line {
 // Serial numbers that are set: which is the first, and how many.
 fn print_refused(f: Refusal, list: &[u8], n: Counts) {
     let l = words::say_refused(f, b"");
-    if gateway::number(f) != 32 {
+    if f != Refusal::SerialSet {
         saying::print(l);
         return;
     }
@@ -98,71 +95,56 @@ fn print_moved(form: u8, n: Counts, octets: usize) {
     saying::print(saying::say(l, b" octets"));
 }
 
-fn end(rt: &impl Host, outcome: Outcome, list: &[u8], n: Counts, form: u8, out: &[u8]) {
-    match outcome {
-        Outcome::Refused(f) => print_refused(f, list, n),
-        Outcome::Done => {
-            if files::make(rt, 3, b"OUT", out) {
-                print_moved(form, n, out.len());
-            }
-        }
-    }
-}
-
 fn move_into(rt: &impl Host, list: &[u8], n: Counts, form: u8, out: &mut [u8]) {
-    if form == FORM_2 {
-        let outcome = gateway::to_form_2(list, out);
-        end(rt, outcome, list, n, form, out);
+    let moved = if form == FORM_2 {
+        gateway::to_form_2(list, out)
     } else {
-        let outcome = gateway::to_form_1(list, out);
-        end(rt, outcome, list, n, form, out);
+        gateway::to_form_1(list, out)
+    };
+    if let Err(f) = moved {
+        print_refused(f, list, n);
+    } else if files::make(rt, 3, b"OUT", out) {
+        print_moved(form, n, out.len());
     }
 }
 
 // The octets of a list of so many that is moved to the form: two more or less for each signal. None has more than the longest.
-fn needed(octets: usize, signals: usize, form: u8) -> isize {
-    let serials = std::num::wrapping_add_usize(signals, signals);
-    let n = if form == FORM_2 {
-        std::num::wrapping_add_usize(octets, serials)
+fn needed(octets: usize, signals: usize, form: u8) -> usize {
+    let serials = signals.wrapping_add(signals);
+    if form == FORM_2 {
+        octets.wrapping_add(serials)
     } else {
-        std::num::wrapping_sub_usize(octets, serials)
-    };
-    if LONGEST < n {
-        return 0;
+        octets.wrapping_sub(serials)
     }
-    n as isize
 }
 
 fn move_list(rt: &impl Host, list: &[u8], n: Counts, form: u8) {
     let mut out = [0u8; LONGEST];
-    let k = io::count(needed(list.len(), n.signals, form), &out);
+    let k = needed(list.len(), n.signals, form).min(LONGEST);
     move_into(rt, list, n, form, &mut out[..k]);
 }
 
 // The list is in the form that it is not moved to.
 fn judge(rt: &impl Host, list: &[u8], form: u8) {
     let from = words::form_of(form == FORM_1);
-    let judged = gateway::judge(list, from);
-    match judged {
-        Judged::Refused(f) => words::print_refused_list(list, from, f),
-        Judged::Accepted(n) => move_list(rt, list, n, form),
+    match gateway::judge(list, from) {
+        Err(f) => words::print_refused_list(list, from, f),
+        Ok(n) => move_list(rt, list, n, form),
     }
 }
 
 fn read_list(rt: &impl Host, form: u8) {
     let mut list = [0u8; LONGEST + 1];
-    let l = files::read(rt, 1, b"LIST", &mut list);
-    if !l.ok {
+    let Some(n) = files::read(rt, 1, b"LIST", &mut list) else {
         return;
-    }
-    let n = l.octets;
+    };
     judge(rt, &list[..n], form);
 }
 
 fn ask(rt: &impl Host) {
     let to_1 = saying::is_word(rt, 2, b"form1");
     let to_2 = saying::is_word(rt, 2, b"form2");
-    if to_1 | to_2 {
+    if to_1 || to_2 {
         read_list(rt, words::form_of(to_2));
         return;
     }

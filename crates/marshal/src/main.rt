@@ -2,18 +2,15 @@
 #![tactic(auto)]
 
 use files::{Host, Rules};
-use gateway::{
-    Counts, EntryOutcome, Judged, LONGEST, Marshalled, ReadOutcome, Reading, Refusal, Route,
-    RouteOutcome, STORE, Signal,
-};
-use saying::{Clock, Line, Page, STDOUT};
+use gateway::{Counts, LONGEST, Reading, Refusal, Route, STORE, Signal};
+use saying::{Line, Page, STDOUT};
 use std::fs::File;
 use words::Written;
 
 const MOST: usize = 4096;
 
 // What is asked beside the files: the clock, lines for the routes or a table of them, bus data of a telegram's length, and the list's form.
-#[derive(Clone, Copy)]
+#[derive(Clone, Copy, Debug, PartialEq, Eq)]
 struct Order {
     clock: u32,
     routes: bool,
@@ -72,7 +69,7 @@ fn row_of(order: Order, r: usize, t: Route, s: Signal, serial: usize, x: Reading
     let l = saying::say_tab(saying::say_tab(l, t.vehicle as u64), t.signal as u64);
     let l = words::say_telegram(saying::put(l, b'\t'), s.kind);
     let l = saying::say_tab(saying::say_tab(l, s.start as u64), s.width as u64);
-    let l = saying::say_tab(saying::say_tab(l, x.value), x.reason as u64);
+    let l = saying::say_tab(saying::say_tab(l, x.value), x.reason.number() as u64);
     words::say_serial_tab(l, order.form, serial)
 }
 
@@ -85,17 +82,15 @@ fn line_of(order: Order, r: usize, t: Route, s: Signal, serial: usize, x: Readin
 }
 
 fn one_route(page: &mut Page, list: &[u8], store: &[u8], order: Order, r: usize, t: Route) {
-    let entry = gateway::signal_entry(list, order.form, t.signal);
-    let EntryOutcome::Entry(e) = entry else {
+    let form = order.form;
+    let Ok(e) = gateway::signal_entry(list, form, t.signal) else {
         return;
     };
-    let read = gateway::read(list, order.form, store, order.clock, t.vehicle, t.signal);
-    let ReadOutcome::Read(x) = read else {
+    let Ok(x) = gateway::read(list, form, store, order.clock, t.vehicle, t.signal) else {
         return;
     };
     let s = e.signal;
-    let serial = words::serial_at(list, order.form, t.signal);
-    let form = order.form;
+    let serial = words::serial_at(list, form, t.signal);
     let shown = words::shown_at(list, form, store, order.clock, t.vehicle, t.signal, s);
     if order.table {
         let l = row_of(order, r, t, s, serial, x);
@@ -107,26 +102,16 @@ fn one_route(page: &mut Page, list: &[u8], store: &[u8], order: Order, r: usize,
 }
 
 fn in_column(order: Order, column: usize) -> Order {
-    Order {
-        clock: order.clock,
-        routes: order.routes,
-        table: order.table,
-        anyway: order.anyway,
-        form: order.form,
-        column,
-    }
+    Order { column, ..order }
 }
 
 fn print_routes(page: &mut Page, list: &[u8], n: Counts, store: &[u8], order: Order) {
     let column = words::value_column(list, order.form, n.signals, 38, true, 77);
     let placed = in_column(order, column);
-    let mut r = 0;
-    while r < n.routes {
-        let route = gateway::route_entry(list, order.form, r);
-        if let RouteOutcome::Route(t) = route {
+    for r in 0..n.routes {
+        if let Ok(Some(t)) = gateway::route_entry(list, order.form, r) {
             one_route(page, list, store, placed, r, t);
         }
-        r += 1;
     }
 }
 
@@ -151,7 +136,7 @@ fn print_done(list: &[u8], n: Counts, store: &[u8], order: Order, live: usize) {
     if order.table {
         print_names(&mut page, order.form);
     }
-    if order.routes | order.table {
+    if order.routes || order.table {
         print_routes(&mut page, list, n, store, order);
     }
     if !order.table {
@@ -165,22 +150,19 @@ fn needed(list: &[u8], form: u8, routes: usize) -> usize {
     if routes == 0 {
         return 0;
     }
-    let route = gateway::route_entry(list, form, routes - 1);
-    let RouteOutcome::Route(t) = route else {
+    let Ok(Some(t)) = gateway::route_entry(list, form, routes - 1) else {
         return 0;
     };
-    let entry = gateway::signal_entry(list, form, t.signal);
-    let EntryOutcome::Entry(e) = entry else {
+    let Ok(e) = gateway::signal_entry(list, form, t.signal) else {
         return 0;
     };
-    let s = e.signal;
-    std::num::wrapping_add_usize(std::num::wrapping_add_usize(t.start, s.width), 7) / 8
+    t.start.wrapping_add(e.signal.width).wrapping_add(7) / 8
 }
 
 // Data that are too short: how long they are, and how long they have to be.
 fn print_refused(f: Refusal, list: &[u8], form: u8, n: Counts, store: usize, octets: usize) {
     let l = words::say_refused_store(f, store);
-    if gateway::number(f) != 12 {
+    if f != Refusal::DataShort {
         saying::print(l);
         return;
     }
@@ -200,13 +182,12 @@ fn marshal_bus(
     order: Order,
     bus: &mut [u8],
 ) {
-    let outcome = gateway::marshal(list, order.form, store, order.clock, bus);
-    match outcome {
-        Marshalled::Refused(f) => {
+    match gateway::marshal(list, order.form, store, order.clock, bus) {
+        Err(f) => {
             files::drop_new(rt, path, file);
             print_refused(f, list, order.form, n, store.len(), bus.len());
         }
-        Marshalled::Live(live) => {
+        Ok(live) => {
             if files::commit(rt, 4, b"DATA", path, file, bus) {
                 print_done(list, n, store, order, live);
             }
@@ -239,12 +220,10 @@ fn marshal_into(
     order: Order,
 ) {
     let mut bus = [0u8; MOST + 1];
-    let d = files::read_at(rt, 4, b"DATA", path, &mut bus);
-    let k = d.octets;
-    if !d.ok {
+    let Some(k) = files::read_at(rt, 4, b"DATA", path, &mut bus) else {
         files::drop_new(rt, path, file);
         return;
-    }
+    };
     if !is_data(rt, &bus[..k], order.anyway) {
         files::drop_new(rt, path, file);
         return;
@@ -256,8 +235,8 @@ fn marshal_at(rt: &impl Host, path: &[u8], list: &[u8], n: Counts, store: &[u8],
     let rules = Rules {
         is_old: true,
         is_new: false,
-        first: 1,
-        second: 2,
+        first: Some(1),
+        second: Some(2),
     };
     if let Some(file) = files::begin(rt, 4, b"DATA", path, rules) {
         marshal_into(rt, file, path, list, n, store, order);
@@ -271,31 +250,26 @@ fn marshal_under(rt: &impl Host, list: &[u8], n: Counts, store: &[u8], order: Or
 }
 
 fn judge(rt: &impl Host, list: &[u8], store: &[u8], order: Order) {
-    let judged = gateway::judge(list, order.form);
-    match judged {
-        Judged::Refused(f) => words::print_refused(f),
-        Judged::Accepted(n) => marshal_under(rt, list, n, store, order),
+    match gateway::judge(list, order.form) {
+        Err(f) => words::print_refused(f),
+        Ok(n) => marshal_under(rt, list, n, store, order),
     }
 }
 
 fn read_files(rt: &impl Host, order: Order) {
     let mut list = [0u8; LONGEST + 1];
-    let l = files::read(rt, 1, b"LIST", &mut list);
-    if !l.ok {
+    let Some(n) = files::read(rt, 1, b"LIST", &mut list) else {
         return;
-    }
+    };
     let mut store = [0u8; STORE + 1];
-    let s = files::read(rt, 2, b"STORE", &mut store);
-    if !s.ok {
+    let Some(m) = files::read(rt, 2, b"STORE", &mut store) else {
         return;
-    }
-    let n = l.octets;
-    let m = s.octets;
+    };
     judge(rt, &list[..n], &store[..m], order);
 }
 
 fn ask(rt: &impl Host, routes: bool, table: bool, anyway: bool, form: u8) {
-    let Clock::At(clock) = saying::clock_argument(rt, 3) else {
+    let Some(clock) = saying::clock_argument(rt, 3) else {
         return;
     };
     read_files(

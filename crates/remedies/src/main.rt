@@ -6,7 +6,7 @@ ghost use Rattle.io.specs.Counts.{IsPrefixLen};
 mod sheet;
 
 use files::Host;
-use gateway::{Remedies, RemediesRead, RemedyRead};
+use gateway::Remedies;
 use saying::STDOUT;
 use sheet::{Sheet, put, put_key, put_language, put_octets, put_text};
 use words::REMEDIES;
@@ -45,9 +45,8 @@ A file that cannot be read gets one line that begins with `error`.
 // The key of block k; 0 where there is none.
 fn key_of(telegram: &[u8], k: usize) -> u8 {
     match gateway::remedy_block(telegram, k) {
-        RemedyRead::Found(b) => b.key,
-        RemedyRead::Nothing => 0,
-        RemedyRead::Refused(_) => 0,
+        Ok(Some(b)) => b.key,
+        _ => 0,
     }
 }
 
@@ -65,10 +64,8 @@ fn put_blocks(sheet: &mut Sheet, from: usize, telegram: &[u8], n: u8, gap: &[u8]
     ensures { IsPrefixLen result sheet.new }
 {
     let mut at = put(sheet, from, b"");
-    let mut k = 0;
-    while k < n {
+    for k in 0..n {
         at = put_block(sheet, at, telegram, k as usize, gap);
-        k += 1;
     }
     at
 }
@@ -117,25 +114,18 @@ fn print_file(telegram: &[u8], m: Remedies) {
 
 fn answer(telegram: &[u8], as_file: bool) {
     match gateway::read_remedies(telegram) {
-        RemediesRead::Refused(f) => words::print_refused(f),
-        RemediesRead::Read(m) => {
-            if as_file {
-                print_file(telegram, m);
-            } else {
-                print_shown(telegram, m);
-            }
-        }
+        Err(f) => words::print_refused(f),
+        Ok(m) if as_file => print_file(telegram, m),
+        Ok(m) => print_shown(telegram, m),
     }
 }
 
 // An octet more than the longest shows a telegram too long.
 fn ask(rt: &impl Host, as_file: bool) {
     let mut telegram = [0u8; REMEDIES + 1];
-    let t = files::read(rt, 1, b"TELEGRAM", &mut telegram);
-    if !t.ok {
+    let Some(n) = files::read(rt, 1, b"TELEGRAM", &mut telegram) else {
         return;
-    }
-    let n = t.octets;
+    };
     answer(&telegram[..n], as_file);
 }
 

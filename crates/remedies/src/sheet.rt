@@ -42,7 +42,7 @@ pub fn put_text(sheet: &mut Sheet, from: usize, text: &[u8]) -> usize
 fn put_octet(sheet: &mut Sheet, from: usize, octets: &[u8], i: usize) -> usize
     ensures { IsPrefixLen result sheet.new }
 {
-    let x = if i < octets.len() { octets[i] } else { 0 };
+    let x = octets.get(i).copied().unwrap_or(0);
     let text = [b' ', digit(x / 16), digit(x)];
     put(sheet, from, &text)
 }
@@ -59,10 +59,8 @@ pub fn put_octets(
     ensures { IsPrefixLen result sheet.new }
 {
     let mut at = put(sheet, from, name);
-    let mut k = 0;
-    while k < n {
-        at = put_octet(sheet, at, octets, std::num::wrapping_add_usize(first, k));
-        k += 1;
+    for k in 0..n {
+        at = put_octet(sheet, at, octets, first.wrapping_add(k));
     }
     put(sheet, at, b"\n")
 }
