@@ -2,7 +2,7 @@
 """Holds what is written once a language at the boundary to each other: the C header, the Rust wrappers, and the proved code.
 
 Refusals and reasons have the same numbers, names and words in the header's lists and in the wrappers' enums; the refusals' names are the
-constants of `crates/refusals`, and the words are those of docs/PROMISES.md. The calls of the header and of `raw.rs` are those that
+cases of the enum of `crates/refusals`, and the words are those of docs/PROMISES.md. The calls of the header and of `raw.rs` are those that
 `crates/dustferrule` exports, with the same parameters and the same fields in what they return."""
 import os
 import re
@@ -27,15 +27,19 @@ def of_header(list_name):
     return {int(n): (name, words) for name, n, words in re.findall(r'X\((\w+), (\d+), "([^"]*)"\)', text)}
 
 
+def upper(name):
+    return re.sub(r"(?<!^)(?=[A-Z])", "_", name).upper()
+
+
 def of_rust(enum):
     text = re.search(rf"^    {enum} \{{\n(.*?)^    \}}", read(RUST), re.S | re.M)[1]
     found = re.findall(r'(\w+) = (\d+), "([^"]*)";', text)
-    return {int(n): (re.sub(r"(?<!^)(?=[A-Z])", "_", name).upper(), words) for name, n, words in found}
+    return {int(n): (upper(name), words) for name, n, words in found}
 
 
 def constants():
-    found = re.findall(r"pub const (\w+): (?:u8 = |Refusal = Refusal\()(\d+)", read(REFUSALS))
-    return {int(n): name for name, n in found}
+    found = re.findall(r"Refusal::(\w+)(?:\(_\))? => (\d+)", read(REFUSALS))
+    return {int(n): upper(name) for name, n in found}
 
 
 def numbered():

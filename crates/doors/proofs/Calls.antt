@@ -2,19 +2,20 @@
 use Prim.Native.Nat.{ℕ}
 use mathlib.Core.Path.{◌≡◌, refl, sym, ap, ◌∙◌}
 use mathlib.Core.List.{List}
-use Rattle.std.specs.Prelude.{Result, Ok}
-use Rattle.paper.specs.Answer.{Answer}
+use Rattle.std.specs.Prelude.{Result, Ok, Err}
+use Rattle.paper.specs.Answer.{Answer, gives, refused}
+use Rattle.paper.proofs.AnswerLaws.{one_answer}
 use lib.ListN.{length}
 use Rattle.paper.specs.Store.{is_store, slot_of}
 use Rattle.paper.specs.Train.{Vehicle, member}
 use Rattle.paper.specs.Doors as paper
 use Rattle.paper.proofs.DoorsLaws.{DoorsExactly, doors_exactly, others_unasked}
 use Rattle.refusals.specs.declared.Refusal.{Refusal}
-use Rattle.refusals.proofs.WrittenLaws.{one_result}
 use Rattle.doors.specs.declared.State.{State}
 use Rattle.doors.specs.declared.State.TheVariants as S
 use Rattle.doors.specs.declared.Side.{Side}
 use Rattle.doors.specs.declared.Doors.{Doors}
+use Rattle.doors.proofs.Refused.{numbered, numbered_of}
 use Rattle.doors.specs.Doors.{state_as, side_as, doors_as, summary_answer}
 
 -- ---- the answer is settled
@@ -44,8 +45,17 @@ doors_of : (d : Doors) → doors_told (doors_as d) ≡ d
 unfolding doors_told
 doors_of d = λ i. record { left = side_of_lem d.left i; right = side_of_lem d.right i }
 
+summary_told : Answer paper.Doors → Result Doors Refusal
+summary_told (gives d) = Ok (doors_told d)
+summary_told (refused n at) = Err (numbered n at)
+
+summary_of : (q : Result Doors Refusal) → summary_told (summary_answer q) ≡ q
+unfolding summary_told
+summary_of (Ok d) = ap Ok (doors_of d)
+summary_of (Err f) = ap Err (numbered_of f)
+
 pub one_summary : (a : Answer paper.Doors) (q r : Result Doors Refusal) → summary_answer q ≡ a → summary_answer r ≡ a → q ≡ r
-one_summary = one_result doors_as doors_told doors_of
+one_summary = one_answer summary_answer summary_told summary_of
 
 -- ---- what a summary says
 

@@ -3,7 +3,7 @@ use borrow.Author.Tests.{eqb-true}
 use Rattle.std.specs.Prelude.{map}
 use Rattle.paper.specs.SignalList.{list_of}
 use Rattle.train.specs.Marks.{vehicle_of}
-use Rattle.refusals.proofs.WrittenLaws.{handed_on}
+use Rattle.doors.proofs.Refused.{handed_on}
 use Rattle.lists.specs.Judged.{counts_of}
 use Rattle.doors.proofs.Laws.{gap_refused, gap_given, door_low, left_missing, right_missing, both_there}
 use Rattle.doors.proofs.by_list.Goals as goal

@@ -2,7 +2,7 @@
 use mathlib.Core.Path.{sym}
 use lib.ListN.{length-map}
 use Rattle.train.specs.Marks.{vehicle_of}
-use Rattle.refusals.proofs.WrittenLaws.{handed_on}
+use Rattle.doors.proofs.Refused.{handed_on}
 use Rattle.doors.proofs.Laws.{few, by_nobody, by_members}
 use Rattle.doors.proofs.by_train.Goals as goal
 

@@ -1,6 +1,6 @@
 -- `doors::summary` meets its contract. Assumes nothing.
 use mathlib.Core.Path.{sym}
-use Rattle.refusals.proofs.WrittenLaws.{handed_on}
+use Rattle.doors.proofs.Refused.{handed_on}
 use Rattle.doors.proofs.Laws.{summary_refused, summary_given}
 use Rattle.doors.proofs.summary.Goals as goal
 
