@@ -1,22 +1,17 @@
 // Compares two signal lists: what the second adds, removes and changes, a line each, and whether it extends the first.
 #![tactic(auto)]
 
+mod changes;
 mod route;
 mod signal;
 mod telling;
 
+use crate::changes::{changed_routes, changed_signals};
 use crate::telling::Asked;
 use files::Host;
-use gateway::{Counts, ExtendsOutcome, FORM_2, Judged, LONGEST};
+use gateway::{Counts, FORM_2, LONGEST};
 use saying::{Page, STDOUT};
 use std::rt::Env;
-
-// What judging a list gives the program to go on with.
-#[derive(Clone, Copy)]
-enum Accepted {
-    With(Counts),
-    Not,
-}
 
 fn help() {
     io::write_all(
@@ -65,7 +60,7 @@ SECOND extends FIRST or not, 2 refused or error.
 }
 
 fn is_any(a: &[u8], b: &[u8], asked: Asked) -> bool {
-    signal::is_any(a, b, asked) | route::is_any(a, b, asked)
+    changed_signals(a, b, asked).next().is_some() || changed_routes(a, b, asked).next().is_some()
 }
 
 fn print_names(page: &mut Page, asked: Asked) {
@@ -75,27 +70,26 @@ fn print_names(page: &mut Page, asked: Asked) {
 }
 
 fn print_verdict(page: &mut Page, a: &[u8], b: &[u8], asked: Asked) {
-    let found = gateway::extends(a, asked.first_form, b, asked.second_form);
     let l = saying::say(saying::empty(), b"extends: ");
-    match found {
-        ExtendsOutcome::Yes => saying::add(page, saying::say(l, b"yes")),
+    match gateway::extends(a, asked.first_form, b, asked.second_form) {
+        Ok(true) => saying::add(page, saying::say(l, b"yes")),
         _ => saying::add(page, saying::say(l, b"no")),
     }
 }
 
 // With the version of the first list, and the column behind the places of both.
 fn placed(a: &[u8], m: Counts, b: &[u8], asked: Asked) -> Asked {
-    let mut placed = asked;
-    placed.version = m.version;
-    let signals = signal::column(a, b, asked);
-    placed.column = words::greater(signals, route::column(a, b, asked));
-    placed
+    Asked {
+        version: m.version,
+        column: signal::column(a, b, asked).max(route::column(a, b, asked)),
+        ..asked
+    }
 }
 
 fn print_all(a: &[u8], m: Counts, b: &[u8], asked: Asked) {
     let mut page = saying::new_page();
     let p = placed(a, m, b, asked);
-    if asked.is_table & is_any(a, b, asked) {
+    if asked.is_table && is_any(a, b, asked) {
         print_names(&mut page, asked);
     }
     signal::print_all(&mut page, a, b, p);
@@ -105,41 +99,35 @@ fn print_all(a: &[u8], m: Counts, b: &[u8], asked: Asked) {
 }
 
 // The counts of a list; a list that is not accepted is said to be refused.
-fn judge(list: &[u8], form: u8, of: &[u8]) -> Accepted {
-    let judged = gateway::judge(list, form);
-    match judged {
-        Judged::Refused(f) => {
+fn judge(list: &[u8], form: u8, of: &[u8]) -> Option<Counts> {
+    match gateway::judge(list, form) {
+        Ok(n) => Some(n),
+        Err(f) => {
             words::print_refused_list_of(list, form, f, of);
-            Accepted::Not
+            None
         }
-        Judged::Accepted(n) => Accepted::With(n),
     }
 }
 
 fn compare(a: &[u8], b: &[u8], asked: Asked) {
-    let Accepted::With(m) = judge(a, asked.first_form, b" (first list)") else {
+    let Some(m) = judge(a, asked.first_form, b" (first list)") else {
         return;
     };
-    let Accepted::With(_) = judge(b, asked.second_form, b" (second list)") else {
-        return;
-    };
-    print_all(a, m, b, asked);
+    if judge(b, asked.second_form, b" (second list)").is_some() {
+        print_all(a, m, b, asked);
+    }
 }
 
 // One octet more than the longest list: what follows cannot change the answer.
 fn read_lists(rt: &impl Host, asked: Asked) {
     let mut a = [0u8; LONGEST + 1];
-    let first = files::read(rt, 1, b"FIRST", &mut a);
-    if !first.ok {
+    let Some(m) = files::read(rt, 1, b"FIRST", &mut a) else {
         return;
-    }
+    };
     let mut b = [0u8; LONGEST + 1];
-    let second = files::read(rt, 2, b"SECOND", &mut b);
-    if !second.ok {
+    let Some(n) = files::read(rt, 2, b"SECOND", &mut b) else {
         return;
-    }
-    let m = first.octets;
-    let n = second.octets;
+    };
     compare(&a[..m], &b[..n], asked);
 }
 

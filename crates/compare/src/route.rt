@@ -1,19 +1,15 @@
 // The routes that were added, removed or changed. No rule of extending is about them.
-use crate::signal::{Side, missing, side_at};
+use crate::changes::changed_routes;
+use crate::signal::{Side, side_at};
 use crate::telling::{
-    Asked, Change, Field, change_of, form_of_table, say_arrow, say_change, say_marked, say_name,
-    tell,
+    Asked, Field, change_of, form_of_table, say_arrow, say_change, say_marked, say_name, tell,
 };
-use gateway::{Changed, Changes, RouteOutcome};
-use saying::{Line, Page, empty, put, say, say_tab};
+use gateway::Changed;
+use saying::{Line, Page, empty, say, say_tab};
 
-// Above the destination of every route.
-const PAST_ROUTES: usize = 2048;
-
-// A route as one list has it, if it does, with its signal there.
-#[derive(Clone, Copy)]
+// A route as one list has it, with its signal there.
+#[derive(Clone, Copy, Debug, PartialEq, Eq)]
 struct Routed {
-    there: bool,
     start: usize,
     vehicle: usize,
     // of the list
@@ -21,46 +17,36 @@ struct Routed {
     side: Side,
 }
 
-fn routed_at(list: &[u8], form: u8, k: usize) -> Routed {
-    let entry = gateway::route_entry(list, form, k);
-    match entry {
-        RouteOutcome::Route(r) => Routed {
-            there: true,
-            start: r.start,
-            vehicle: r.vehicle,
-            form,
-            side: side_at(list, form, r.signal),
-        },
-        _ => Routed {
-            there: false,
-            start: 0,
-            vehicle: 0,
-            form,
-            side: missing(),
-        },
-    }
+fn routed_at(list: &[u8], form: u8, k: usize) -> Option<Routed> {
+    let r = gateway::route_entry(list, form, k).ok()??;
+    Some(Routed {
+        start: r.start,
+        vehicle: r.vehicle,
+        form,
+        side: side_at(list, form, r.signal)?,
+    })
 }
 
 // The destination, as wide as the first list's signal, where it has the route.
-fn say_head(x: Routed, y: Routed) -> Line {
-    let r = if x.there { x } else { y };
-    let side = r.side;
-    let s = side.signal;
-    let l = say_marked(0, change_of(x.there, y.there));
-    words::say_field(say(l, b"route to "), r.start, s.width)
+fn say_head(x: Option<Routed>, y: Option<Routed>) -> Line {
+    let l = say_marked(0, change_of(x, y));
+    let Some(r) = x.or(y) else {
+        return l;
+    };
+    words::say_field(say(l, b"route to "), r.start, r.side.signal.width)
 }
 
 // The columns that are alike in all rows of a route, which has no serial numbers.
-fn say_columns(asked: Asked, x: Routed, y: Routed) -> Line {
-    let r = if x.there { x } else { y };
-    let l = say_change(say(empty(), b"route\t"), change_of(x.there, y.there));
-    let l = say_tab(say(l, b"\t-"), r.start as u64);
+fn say_columns(asked: Asked, x: Option<Routed>, y: Option<Routed>) -> Line {
+    let l = say_change(say(empty(), b"route\t"), change_of(x, y));
+    let start = x.or(y).map_or(0, |r| r.start);
+    let l = say_tab(say(l, b"\t-"), start as u64);
     let form = form_of_table(asked);
     let l = words::say_serial_tab(words::say_serial_tab(l, form, 0), form, 0);
     say_tab(l, 0)
 }
 
-fn begun(asked: Asked, x: Routed, y: Routed) -> Line {
+fn begun(asked: Asked, x: Option<Routed>, y: Option<Routed>) -> Line {
     if asked.is_table {
         return say_columns(asked, x, y);
     }
@@ -68,58 +54,72 @@ fn begun(asked: Asked, x: Routed, y: Routed) -> Line {
 }
 
 fn say_signal(line: Line, r: Routed) -> Line {
-    let side = r.side;
-    words::say_signal(line, r.form, side.signal, side.serial)
+    words::say_signal(line, r.form, r.side.signal, r.side.serial)
 }
 
-fn say_signals(line: Line, change: Change, x: Routed, y: Routed) -> Line {
-    match change {
-        Change::Added => say_signal(line, y),
-        Change::Removed => say_signal(line, x),
-        Change::Changed => say_signal(say_arrow(say_signal(line, x)), y),
+fn say_signals(line: Line, x: Option<Routed>, y: Option<Routed>) -> Line {
+    match (x, y) {
+        (Some(x), Some(y)) => say_signal(say_arrow(say_signal(line, x)), y),
+        (Some(r), None) | (None, Some(r)) => say_signal(line, r),
+        (None, None) => line,
     }
 }
 
-// Signals are the same where type and start are.
-fn is_same(x: Side, y: Side) -> bool {
-    let s = x.signal;
-    let t = y.signal;
-    (x.there & y.there) & (s.kind == t.kind) & (s.start == t.start)
-}
-
-fn place_of(side: Side) -> [u64; 2] {
-    let s = side.signal;
+// By type and start.
+fn place_of(r: Routed) -> [u64; 2] {
+    let s = r.side.signal;
     [s.kind as u64, s.start as u64]
 }
 
+// Whether both lists have the route, and the same signal in it.
+fn is_same(x: Option<Routed>, y: Option<Routed>) -> bool {
+    x.zip(y).is_some_and(|(x, y)| place_of(x) == place_of(y))
+}
+
 // In the table by type and start, a row each.
-fn tell_places(page: &mut Page, asked: Asked, line: Line, c: Change, a: Side, b: Side) -> Line {
-    let x = place_of(a);
-    let y = place_of(b);
+fn tell_places(
+    page: &mut Page,
+    asked: Asked,
+    line: Line,
+    a: Option<Routed>,
+    b: Option<Routed>,
+) -> Line {
+    let c = change_of(a, b);
+    let x = a.map_or([0; 2], |r| place_of(r));
+    let y = b.map_or([0; 2], |r| place_of(r));
     let t = Field::Telegram;
     let n = Field::Number;
     let l = tell(page, asked, line, c, b"signal_type", t, x[0], y[0]);
     tell(page, asked, l, c, b"signal_start", n, x[1], y[1])
 }
 
-fn tell_signal(page: &mut Page, asked: Asked, line: Line, x: Routed, y: Routed) -> Line {
-    let change = change_of(x.there, y.there);
+fn tell_signal(
+    page: &mut Page,
+    asked: Asked,
+    line: Line,
+    x: Option<Routed>,
+    y: Option<Routed>,
+) -> Line {
     if asked.is_table {
-        return tell_places(page, asked, line, change, x.side, y.side);
+        return tell_places(page, asked, line, x, y);
     }
-    if is_same(x.side, y.side) {
+    if is_same(x, y) {
         return line;
     }
-    say_signals(say_name(page, line, b"signal"), change, x, y)
+    say_signals(say_name(page, line, b"signal"), x, y)
+}
+
+fn vehicle_of(r: Option<Routed>) -> u64 {
+    r.map_or(0, |r| r.vehicle as u64)
 }
 
 fn print_one(page: &mut Page, a: &[u8], b: &[u8], asked: Asked, c: Changed) {
     let x = routed_at(a, asked.first_form, c.first);
     let y = routed_at(b, asked.second_form, c.second);
-    let change = change_of(x.there, y.there);
+    let change = change_of(x, y);
     let l = begun(asked, x, y);
-    let v = x.vehicle as u64;
-    let w = y.vehicle as u64;
+    let v = vehicle_of(x);
+    let w = vehicle_of(y);
     let l = tell(page, asked, l, change, b"vehicle", Field::Number, v, w);
     let l = tell_signal(page, asked, l, x, y);
     if !asked.is_table {
@@ -128,43 +128,22 @@ fn print_one(page: &mut Page, a: &[u8], b: &[u8], asked: Asked, c: Changed) {
 }
 
 pub fn print_all(page: &mut Page, a: &[u8], b: &[u8], asked: Asked) {
-    let mut key = 0;
-    while key < PAST_ROUTES {
-        let next = gateway::route_change(a, asked.first_form, b, asked.second_form, key);
-        let Changes::Changed(c) = next else {
-            return;
-        };
+    for c in changed_routes(a, b, asked) {
         print_one(page, a, b, asked, c);
-        key = c.key + 1;
     }
 }
 
 fn end_of(a: &[u8], b: &[u8], asked: Asked, c: Changed) -> usize {
     let x = routed_at(a, asked.first_form, c.first);
     let y = routed_at(b, asked.second_form, c.second);
-    let l = say_head(x, y);
-    l.at
+    say_head(x, y).at
 }
 
 // The column behind the longest destination.
 pub fn column(a: &[u8], b: &[u8], asked: Asked) -> usize {
     let mut column = 0;
-    let mut key = 0;
-    while key < PAST_ROUTES {
-        let next = gateway::route_change(a, asked.first_form, b, asked.second_form, key);
-        let Changes::Changed(c) = next else {
-            return column;
-        };
-        column = words::greater(column, end_of(a, b, asked, c));
-        key = c.key + 1;
+    for c in changed_routes(a, b, asked) {
+        column = column.max(end_of(a, b, asked, c));
     }
     column
-}
-
-pub fn is_any(a: &[u8], b: &[u8], asked: Asked) -> bool {
-    let next = gateway::route_change(a, asked.first_form, b, asked.second_form, 0);
-    match next {
-        Changes::Changed(_) => true,
-        _ => false,
-    }
 }

@@ -1,18 +1,15 @@
 // The signals that were added, removed or changed.
+use crate::changes::{changed_signals, codes_gained};
 use crate::telling::{
     Asked, Change, Field, change_of, form_of_table, print_row, say_change, say_marked, tell,
     with_room,
 };
-use gateway::{Changed, Changes, EntryOutcome, FORM_2, Gained, PAST_KEYS, Range, Signal};
+use gateway::{Changed, FORM_2, Range, Signal};
 use saying::{Line, Page, empty, put, say, say_number, say_tab};
 
-// Above every code of a signal whose codes are compared.
-const PAST_CODES: usize = 65536;
-
-// A signal as one list has it, if it does.
-#[derive(Clone, Copy)]
+// A signal as one list has it.
+#[derive(Clone, Copy, Debug, PartialEq, Eq)]
 pub struct Side {
-    pub there: bool,
     pub signal: Signal,
     // of its check, 0 for none
     pub place: usize,
@@ -20,84 +17,59 @@ pub struct Side {
     pub serial: usize,
 }
 
-pub fn missing() -> Side {
-    Side {
-        there: false,
-        signal: Signal {
-            start: 0,
-            width: 0,
-            kind: 0,
-            check: 0,
-            since: 0,
-            limit: 0,
-            replacement: 0,
-        },
-        place: 0,
-        serial: 0,
-    }
-}
-
-// A list's signal k; one that it has not is refused.
-pub fn side_at(list: &[u8], form: u8, k: usize) -> Side {
-    let entry = gateway::signal_entry(list, form, k);
-    let EntryOutcome::Entry(e) = entry else {
-        return missing();
-    };
-    let signal = e.signal;
-    Side {
-        there: true,
-        signal,
+// A list's signal k, if it has it.
+pub fn side_at(list: &[u8], form: u8, k: usize) -> Option<Side> {
+    let e = gateway::signal_entry(list, form, k).ok()?;
+    Some(Side {
+        signal: e.signal,
         place: e.place,
         serial: words::serial_at(list, form, k),
-    }
+    })
 }
 
-// The serial numbers that the lists in form 2 have for the signal; one that both have, once.
-fn say_serials(line: Line, asked: Asked, x: Side, y: Side) -> Line {
-    let first = x.there & (asked.first_form == FORM_2);
-    let second = y.there & (asked.second_form == FORM_2);
-    if first & second & (x.serial != y.serial) {
-        let l = words::say_serial(say(line, b" ("), x.serial);
-        return put(words::say_serial(say(l, b", "), y.serial), b')');
-    }
-    if first {
-        return words::say_beside(line, FORM_2, x.serial);
-    }
-    if second {
-        return words::say_beside(line, FORM_2, y.serial);
-    }
-    line
+// The serial number that a list in form 2 has for the signal.
+fn serial_in(side: Option<Side>, form: u8) -> Option<usize> {
+    side.filter(|_| form == FORM_2).map(|s| s.serial)
+}
+
+fn serial_of(side: Option<Side>) -> usize {
+    side.map_or(0, |s| s.serial)
 }
 
 // The first list's place, where it has the signal.
-fn say_placed(line: Line, asked: Asked, x: Side, y: Side) -> Line {
-    let s = if x.there { x.signal } else { y.signal };
-    say_serials(
+fn say_placed(line: Line, asked: Asked, x: Option<Side>, y: Option<Side>) -> Line {
+    let Some(side) = x.or(y) else {
+        return line;
+    };
+    let s = side.signal;
+    words::say_both_beside(
         words::say_place(line, s.kind, s.start, s.width),
-        asked,
-        x,
-        y,
+        serial_in(x, asked.first_form),
+        serial_in(y, asked.second_form),
     )
 }
 
-fn say_head(asked: Asked, breaks: usize, x: Side, y: Side) -> Line {
-    let change = change_of(x.there, y.there);
+fn say_head(asked: Asked, breaks: usize, x: Option<Side>, y: Option<Side>) -> Line {
+    let change = change_of(x, y);
     say_placed(say_marked(breaks, change), asked, x, y)
 }
 
 // The columns that are alike in all rows of a signal.
-fn say_columns(asked: Asked, breaks: usize, x: Side, y: Side) -> Line {
-    let s = if x.there { x.signal } else { y.signal };
-    let l = say_change(say(empty(), b"signal\t"), change_of(x.there, y.there));
+fn say_columns(asked: Asked, breaks: usize, x: Option<Side>, y: Option<Side>) -> Line {
+    let l = say_change(say(empty(), b"signal\t"), change_of(x, y));
+    let Some(side) = x.or(y) else {
+        return l;
+    };
+    let s = side.signal;
     let l = say_tab(words::say_telegram(put(l, b'\t'), s.kind), s.start as u64);
     let form = form_of_table(asked);
-    let l = words::say_serial_tab(l, form, x.serial);
-    let l = words::say_serial_tab(l, form, y.serial);
+    let l = words::say_serial_tab(l, form, serial_of(x));
+    let l = words::say_serial_tab(l, form, serial_of(y));
     say_tab(l, breaks as u64)
 }
 
 // What all that is told of a signal begins with.
-fn begun(asked: Asked, breaks: usize, x: Side, y: Side) -> Line {
+fn begun(asked: Asked, breaks: usize, x: Option<Side>, y: Option<Side>) -> Line {
     if asked.is_table {
         return say_columns(asked, breaks, x, y);
     }
@@ -105,7 +77,10 @@ fn begun(asked: Asked, breaks: usize, x: Side, y: Side) -> Line {
 }
 
 // The numbers that are compared, in the paper's order: width, place of the check, since-version, time limit, replacement.
-fn fields_of(side: Side) -> [u64; 5] {
+fn fields_of(side: Option<Side>) -> [u64; 5] {
+    let Some(side) = side else {
+        return [0; 5];
+    };
     let s = side.signal;
     [
         s.width as u64,
@@ -116,11 +91,17 @@ fn fields_of(side: Side) -> [u64; 5] {
     ]
 }
 
-fn tell_fields(page: &mut Page, asked: Asked, line: Line, a: Side, b: Side) -> Line {
+fn tell_fields(
+    page: &mut Page,
+    asked: Asked,
+    line: Line,
+    a: Option<Side>,
+    b: Option<Side>,
+) -> Line {
     let x = fields_of(a);
     let y = fields_of(b);
     let n = Field::Number;
-    let c = change_of(a.there, b.there);
+    let c = change_of(a, b);
     let l = tell(page, asked, line, c, b"width", n, x[0], y[0]);
     let l = tell(page, asked, l, c, b"check", Field::Check, x[1], y[1]);
     let l = tell(page, asked, l, c, b"since", n, x[2], y[2]);
@@ -178,14 +159,10 @@ fn tell_gained(
     key: usize,
 ) -> Line {
     let mut l = line;
-    let mut from = 0;
-    while from < PAST_CODES {
-        let gained = gateway::codes_gained(a, form, b, other, key, from);
-        let Gained::Codes(r) = gained else {
-            return l;
-        };
-        l = tell_range(page, asked, l, name, from == 0, r);
-        from = r.high + 1;
+    let mut is_first = true;
+    for r in codes_gained(a, form, b, other, key) {
+        l = tell_range(page, asked, l, name, is_first, r);
+        is_first = false;
     }
     l
 }
@@ -222,11 +199,11 @@ fn close(page: &mut Page, asked: Asked, line: Line, breaks: usize) {
     saying::add(page, say_rule(l, breaks, asked.version));
 }
 
-fn first_side(a: &[u8], asked: Asked, c: Changed) -> Side {
+fn first_side(a: &[u8], asked: Asked, c: Changed) -> Option<Side> {
     side_at(a, asked.first_form, c.first)
 }
 
-fn second_side(b: &[u8], asked: Asked, c: Changed) -> Side {
+fn second_side(b: &[u8], asked: Asked, c: Changed) -> Option<Side> {
     side_at(b, asked.second_form, c.second)
 }
 
@@ -240,46 +217,22 @@ fn print_one(page: &mut Page, a: &[u8], b: &[u8], asked: Asked, c: Changed) {
 }
 
 pub fn print_all(page: &mut Page, a: &[u8], b: &[u8], asked: Asked) {
-    let mut key = 0;
-    while key < PAST_KEYS {
-        let next = gateway::signal_change(a, asked.first_form, b, asked.second_form, key);
-        let Changes::Changed(c) = next else {
-            return;
-        };
+    for c in changed_signals(a, b, asked) {
         print_one(page, a, b, asked, c);
-        key = c.key + 1;
     }
 }
 
 fn end_of(a: &[u8], b: &[u8], asked: Asked, c: Changed) -> usize {
-    let l = say_head(
-        asked,
-        c.breaks,
-        first_side(a, asked, c),
-        second_side(b, asked, c),
-    );
-    l.at
+    let x = first_side(a, asked, c);
+    let y = second_side(b, asked, c);
+    say_head(asked, c.breaks, x, y).at
 }
 
 // The column behind the longest place.
 pub fn column(a: &[u8], b: &[u8], asked: Asked) -> usize {
     let mut column = 0;
-    let mut key = 0;
-    while key < PAST_KEYS {
-        let next = gateway::signal_change(a, asked.first_form, b, asked.second_form, key);
-        let Changes::Changed(c) = next else {
-            return column;
-        };
-        column = words::greater(column, end_of(a, b, asked, c));
-        key = c.key + 1;
+    for c in changed_signals(a, b, asked) {
+        column = column.max(end_of(a, b, asked, c));
     }
     column
-}
-
-pub fn is_any(a: &[u8], b: &[u8], asked: Asked) -> bool {
-    let next = gateway::signal_change(a, asked.first_form, b, asked.second_form, 0);
-    match next {
-        Changes::Changed(_) => true,
-        _ => false,
-    }
 }

@@ -3,7 +3,7 @@ use gateway::FORM_2;
 use saying::{Line, Page, STDOUT, empty, put, say, say_number};
 
 // What is compared, and how it is told.
-#[derive(Clone, Copy)]
+#[derive(Clone, Copy, Debug, PartialEq, Eq)]
 pub struct Asked {
     pub first_form: u8,
     pub second_form: u8,
@@ -14,7 +14,7 @@ pub struct Asked {
     pub column: usize,
 }
 
-#[derive(Clone, Copy)]
+#[derive(Clone, Copy, Debug, PartialEq, Eq)]
 pub enum Change {
     Added,
     Removed,
@@ -22,7 +22,7 @@ pub enum Change {
 }
 
 // What a number is, which says how it is shown.
-#[derive(Clone, Copy)]
+#[derive(Clone, Copy, Debug, PartialEq, Eq)]
 pub enum Field {
     Number,
     Check,
@@ -30,14 +30,11 @@ pub enum Field {
 }
 
 // What became of an entry that one list has, or both.
-pub fn change_of(in_first: bool, in_second: bool) -> Change {
-    if in_first & in_second {
-        return Change::Changed;
-    }
-    if in_first {
-        Change::Removed
-    } else {
-        Change::Added
+pub fn change_of<T: Drop>(in_first: Option<T>, in_second: Option<T>) -> Change {
+    match (in_first, in_second) {
+        (Some(_), Some(_)) => Change::Changed,
+        (Some(_), None) => Change::Removed,
+        (None, _) => Change::Added,
     }
 }
 
@@ -58,15 +55,11 @@ pub fn say_marked(breaks: usize, change: Change) -> Line {
 
 // The form of the columns: with serial numbers as soon as one list has them.
 pub fn form_of_table(asked: Asked) -> u8 {
-    words::form_of((asked.first_form == FORM_2) | (asked.second_form == FORM_2))
+    words::form_of(asked.first_form == FORM_2 || asked.second_form == FORM_2)
 }
 
 fn write(line: Line) {
-    let text = line.text;
-    let at = line.at;
-    if at <= 240 {
-        io::write_all(STDOUT, &text[..at]);
-    }
+    io::write_all(STDOUT, &line.text[..line.at]);
 }
 
 // A line of many ranges is longer than one in memory: what has come of it is written where the next field might not find room.
@@ -81,10 +74,7 @@ pub fn with_room(page: &mut Page, line: Line) -> Line {
 
 // Whether a field is told: of an entry that both lists have, only where it differs.
 fn is_told(change: Change, x: u64, y: u64) -> bool {
-    match change {
-        Change::Changed => x != y,
-        _ => true,
-    }
+    change != Change::Changed || x != y
 }
 
 // On the page, up to its numbers.
@@ -109,12 +99,8 @@ fn say_value(line: Line, asked: Asked, field: Field, x: u64) -> Line {
     match field {
         Field::Number => say_number(line, x),
         Field::Telegram => words::say_telegram(line, x as usize),
-        Field::Check => {
-            if asked.is_table {
-                return say_number(line, x);
-            }
-            say_check(line, x)
-        }
+        Field::Check if asked.is_table => say_number(line, x),
+        Field::Check => say_check(line, x),
     }
 }
 

@@ -7,8 +7,8 @@ mod place;
 mod text;
 
 use files::Host;
-use gateway::{Counts, EntryOutcome, Judged, LONGEST, Outcome};
-use saying::{Number, STDOUT};
+use gateway::{Counts, LONGEST};
+use saying::STDOUT;
 use std::rt::Env;
 
 fn help() {
@@ -52,20 +52,13 @@ line begins with `error: busy`. What a killed one left is taken away.
 }
 
 fn replacement_of(list: &[u8], form: u8, k: usize) -> u64 {
-    let entry = gateway::signal_entry(list, form, k);
-    let EntryOutcome::Entry(e) = entry else {
-        return 0;
-    };
-    let s = e.signal;
-    s.replacement
+    gateway::signal_entry(list, form, k).map_or(0, |e| e.signal.replacement)
 }
 
 // What is not given is the list's replacement: 0 need not be a known code.
 fn replacements(list: &[u8], form: u8, values: &mut [u64]) {
-    let mut k = 0;
-    while k < values.len() {
+    for k in 0..values.len() {
         values[k] = replacement_of(list, form, k);
-        k += 1;
     }
 }
 
@@ -86,20 +79,15 @@ fn compose_out(
     marks: &[u8],
     out: &mut [u8],
 ) -> bool {
-    let outcome = gateway::compose(list, form, kind, values, marks, out);
-    match outcome {
-        Outcome::Refused(f) => {
-            words::print_refused(f);
-            false
-        }
-        Outcome::Done => {
-            let ok = words::write_telegram(rt, 4, 1, 3, out);
-            if ok {
-                print_composed(kind, n.version, out.len());
-            }
-            ok
-        }
+    if let Err(f) = gateway::compose(list, form, kind, values, marks, out) {
+        words::print_refused(f);
+        return false;
     }
+    let ok = words::write_telegram(rt, 4, 1, 3, out);
+    if ok {
+        print_composed(kind, n.version, out.len());
+    }
+    ok
 }
 
 // A telegram of the type's length; the type itself is tested by the composing.
@@ -172,20 +160,17 @@ fn compose_under(rt: &impl Host, list: &[u8], form: u8, n: Counts, kind: usize, 
 }
 
 fn judge(rt: &impl Host, list: &[u8], form: u8, kind: usize, given: &[u8]) {
-    let judged = gateway::judge(list, form);
-    match judged {
-        Judged::Refused(f) => words::print_refused(f),
-        Judged::Accepted(n) => compose_under(rt, list, form, n, kind, given),
+    match gateway::judge(list, form) {
+        Err(f) => words::print_refused(f),
+        Ok(n) => compose_under(rt, list, form, n, kind, given),
     }
 }
 
 fn read_values(rt: &impl Host, list: &[u8], form: u8, kind: usize) {
     let mut given = [0u8; 65537];
-    let v = files::read(rt, 3, b"VALUES", &mut given);
-    if !v.ok {
+    let Some(n) = files::read(rt, 3, b"VALUES", &mut given) else {
         return;
-    }
-    let n = v.octets;
+    };
     if n == 65537 {
         files::print_long(rt, 3, b"VALUES", 65536);
         return;
@@ -195,37 +180,34 @@ fn read_values(rt: &impl Host, list: &[u8], form: u8, kind: usize) {
 
 fn read_files(rt: &impl Host, kind: usize, form: u8) {
     let mut list = [0u8; LONGEST + 1];
-    let l = files::read(rt, 1, b"LIST", &mut list);
-    if !l.ok {
+    let Some(n) = files::read(rt, 1, b"LIST", &mut list) else {
         return;
-    }
-    let n = l.octets;
+    };
     read_values(rt, &list[..n], form, kind);
 }
 
 // R1, R2 or R3, or the type's number. A number that is no type's is refused by the composing.
-fn type_argument(rt: &impl Env) -> Number {
+fn type_argument(rt: &impl Env) -> Option<u64> {
     if saying::is_word(rt, 2, b"R1") {
-        return Number::Is(1);
+        return Some(1);
     }
     if saying::is_word(rt, 2, b"R2") {
-        return Number::Is(2);
+        return Some(2);
     }
     if saying::is_word(rt, 2, b"R3") {
-        return Number::Is(3);
+        return Some(3);
     }
-    let n = saying::number_of(rt, 2, 4294967295);
-    if let Number::Not = n {
+    let n = saying::number_of(rt, 2, u32::MAX as u64);
+    if n.is_none() {
         saying::print_word(rt, 2, b"TYPE", b"not R1, R2 or R3, nor 1 to 3");
     }
     n
 }
 
 fn ask(rt: &impl Host, form: u8) {
-    let Number::Is(kind) = type_argument(rt) else {
-        return;
-    };
-    read_files(rt, kind as usize, form);
+    if let Some(kind) = type_argument(rt) {
+        read_files(rt, kind as usize, form);
+    }
 }
 
 fn main(rt: HostRuntime) {

@@ -2,227 +2,195 @@
 ghost use Rattle.std.specs.Prelude.{◌≤◌};
 
 use crate::place::{Field, field_at, type_of};
-use gateway::{EntryOutcome, Found};
-use saying::{Line, Number, find, word, word_count};
+use saying::{Line, parted, word, word_count};
 use std::rt::Env;
 
 // What can be wrong with a line.
-const FINE: u8 = 0;
-
-const WORDS: u8 = 1;
-
-const SIGNAL: u8 = 2;
-
-const CHECK: u8 = 3;
-
-const VALUE: u8 = 4;
-
-const MARK: u8 = 5;
-
-const PLACE: u8 = 6;
-
-const CHECK_PLACE: u8 = 7;
-
-const UNNAMED: u8 = 8;
+#[derive(Clone, Copy, Debug, PartialEq, Eq)]
+enum Fault {
+    Words,
+    Signal,
+    Check,
+    Value,
+    Mark,
+    Place,
+    CheckPlace,
+    Unnamed,
+}
 
 fn say_line(rt: &impl Env, what: &[u8], line: u64) -> Line {
     let l = saying::say_argument(rt, saying::say(saying::empty(), what), 3, b"");
     saying::say(saying::say_number(saying::say(l, b" line "), line), b": ")
 }
 
-fn say_fault(line: Line, fault: u8) -> Line {
+fn say_fault(line: Line, fault: Fault) -> Line {
     match fault {
-        SIGNAL => saying::say(line, b"no such signal"),
-        CHECK => saying::say(line, b"no such check"),
-        VALUE => saying::say(line, b"value not a whole number below 2^64"),
-        MARK => saying::say(line, b"mark not error, ok, forced, undefined or 0 to 3"),
-        PLACE => saying::say(
+        Fault::Words => saying::say(line, b"neither `value PLACE VALUE` nor `mark PLACE MARK`"),
+        Fault::Signal => saying::say(line, b"no such signal"),
+        Fault::Check => saying::say(line, b"no such check"),
+        Fault::Value => saying::say(line, b"value not a whole number below 2^64"),
+        Fault::Mark => saying::say(line, b"mark not error, ok, forced, undefined or 0 to 3"),
+        Fault::Place => saying::say(
             line,
             b"no place, as `R1 octet 54 bits 0-3` or `R1 start 424`",
         ),
-        CHECK_PLACE => saying::say(line, b"no place, as `octet 41 bits 2-3` or `start 322`"),
-        UNNAMED => saying::say(line, b"no check there that a signal names"),
-        _ => saying::say(line, b"neither `value PLACE VALUE` nor `mark PLACE MARK`"),
+        Fault::CheckPlace => saying::say(line, b"no place, as `octet 41 bits 2-3` or `start 322`"),
+        Fault::Unnamed => saying::say(line, b"no check there that a signal names"),
     }
 }
 
-fn print_fault(rt: &impl Env, line: u64, fault: u8) {
+fn print_fault(rt: &impl Env, line: u64, fault: Fault) {
     saying::print(say_fault(say_line(rt, b"error: VALUES ", line), fault));
 }
 
 // A number above 3 is refused by the composing, where the mark is written.
-fn mark_of(text: &[u8]) -> Number {
-    if check::same(text, b"error") {
-        return Number::Is(0);
+fn mark_of(text: &[u8]) -> Option<u8> {
+    match text {
+        b"error" => Some(0),
+        b"ok" => Some(1),
+        b"forced" => Some(2),
+        b"undefined" => Some(3),
+        _ => Some(saying::parse(text, 255)? as u8),
     }
-    if check::same(text, b"ok") {
-        return Number::Is(1);
-    }
-    if check::same(text, b"forced") {
-        return Number::Is(2);
-    }
-    if check::same(text, b"undefined") {
-        return Number::Is(3);
-    }
-    saying::parse(text, 255)
+}
+
+// The number of a signal or a check.
+fn number_of(text: &[u8]) -> Option<usize> {
+    Some(saying::parse(text, u32::MAX as u64)? as usize)
 }
 
 // The signal k is there, and as wide as the line says, if it does.
-fn is_wide(list: &[u8], form: u8, k: usize, width: usize) -> bool {
-    let entry = gateway::signal_entry(list, form, k);
-    let EntryOutcome::Entry(e) = entry else {
-        return false;
-    };
-    let s = e.signal;
-    (width == 0) | (width == s.width)
+fn is_wide(list: &[u8], form: u8, k: usize, width: Option<usize>) -> bool {
+    gateway::signal_entry(list, form, k).is_ok_and(|e| width.is_none_or(|width| width
+        == e.signal.width))
 }
 
 // The field at which words k to n - 2 point.
-fn place_of(line: &[u8], k: usize, n: usize) -> Field
+fn place_of(line: &[u8], k: usize, n: usize) -> Option<Field>
     requires { k ≤ 2 }
 {
     if n < 4 {
-        return field_at(line, k, 0);
+        return None;
     }
     field_at(line, k, n - 1 - k)
 }
 
 // The signal at a place.
-fn signal_at(list: &[u8], form: u8, kind: usize, f: Field) -> Number {
-    let found = gateway::find_signal(list, form, kind, f.start);
-    let Found::At(k) = found else {
-        return Number::Not;
-    };
-    if is_wide(list, form, k, f.width) {
-        Number::Is(k as u64)
-    } else {
-        Number::Not
-    }
+fn signal_at(list: &[u8], form: u8, kind: usize, f: Field) -> Option<usize> {
+    let k = gateway::find_signal(list, form, kind, f.start).ok()?;
+    is_wide(list, form, k, f.width).then_some(k)
 }
 
 // The signal of a line of n words: at a place, or by its number.
-fn signal_of(list: &[u8], form: u8, line: &[u8], n: usize) -> Number {
+fn signal_of(list: &[u8], form: u8, line: &[u8], n: usize) -> Option<usize> {
     if n == 3 {
-        return saying::parse(word(line, 1), 4294967295);
+        return number_of(word(line, 1));
     }
-    signal_at(list, form, type_of(word(line, 1)), place_of(line, 2, n))
+    signal_at(list, form, type_of(word(line, 1))?, place_of(line, 2, n)?)
 }
 
 // Whether it has the form of either.
 fn names_signal(line: &[u8], n: usize) -> bool {
-    let f = place_of(line, 2, n);
-    (n == 3) | (type_of(word(line, 1)) < 3) & f.ok
+    n == 3 || type_of(word(line, 1)).is_some() && place_of(line, 2, n).is_some()
 }
 
-fn check_named(list: &[u8], form: u8, k: usize, place: usize) -> usize {
-    let entry = gateway::signal_entry(list, form, k);
-    let EntryOutcome::Entry(e) = entry else {
-        return 0;
-    };
-    let s = e.signal;
-    if e.place == place { s.check } else { 0 }
+// The check of signal k, if it has one, and at that place.
+fn check_named(list: &[u8], form: u8, k: usize, place: usize) -> Option<usize> {
+    let e = gateway::signal_entry(list, form, k).ok()?;
+    (e.place == place && e.signal.check != 0).then_some(e.signal.check)
 }
 
-// The number of the check at a place, from 1, if one of the signals names it; else 0.
-fn check_at(list: &[u8], form: u8, signals: usize, place: usize) -> usize {
-    let mut k = 0;
-    while k < signals {
-        let check = check_named(list, form, k, place);
-        if 0 < check {
-            return check;
-        }
-        k += 1;
-    }
-    0
+// The number of the check at a place, from 1, if one of the signals names it.
+fn check_at(list: &[u8], form: u8, signals: usize, place: usize) -> Option<usize> {
+    (0..signals).find_map(|k| check_named(list, form, k, place))
 }
 
-// The check of a line of n words: at a place, or by its number.
-fn check_of(list: &[u8], form: u8, line: &[u8], n: usize, signals: usize) -> Number {
+// The check of a line of n words: at a place, or by its number; 0 for one that no signal names.
+fn check_of(list: &[u8], form: u8, line: &[u8], n: usize, signals: usize) -> Option<usize> {
     if n == 3 {
-        return saying::parse(word(line, 1), 4294967295);
+        return number_of(word(line, 1));
     }
-    let f = place_of(line, 1, n);
-    Number::Is(check_at(list, form, signals, f.start) as u64)
+    let f = place_of(line, 1, n)?;
+    Some(check_at(list, form, signals, f.start).unwrap_or(0))
 }
 
 // Whether it has the form of either: a check is two bits wide.
 fn names_check(line: &[u8], n: usize) -> bool {
-    let f = place_of(line, 1, n);
-    (n == 3) | f.ok & ((f.width == 0) | (f.width == 2))
+    n == 3 || place_of(line, 1, n).is_some_and(|f| f.width.is_none_or(|width| width == 2))
 }
 
-fn read_value(list: &[u8], form: u8, line: &[u8], n: usize, values: &mut [u64]) -> u8 {
+fn read_value(
+    list: &[u8],
+    form: u8,
+    line: &[u8],
+    n: usize,
+    values: &mut [u64],
+) -> Result<(), Fault> {
     if !names_signal(line, n) {
-        return PLACE;
+        return Err(Fault::Place);
     }
-    let Number::Is(k) = signal_of(list, form, line, n) else {
-        return SIGNAL;
-    };
-    let Number::Is(v) = saying::parse(last(line, n), 18446744073709551615) else {
-        return VALUE;
-    };
-    let i = k as usize;
-    if values.len() <= i {
-        return SIGNAL;
+    let k = signal_of(list, form, line, n).ok_or(Fault::Signal)?;
+    let v = saying::parse(last(line, n), u64::MAX).ok_or(Fault::Value)?;
+    if values.len() <= k {
+        return Err(Fault::Signal);
     }
-    values[i] = v;
-    FINE
+    values[k] = v;
+    Ok(())
 }
 
 // Checks count from 1, as a signal names them.
-fn read_mark(list: &[u8], form: u8, line: &[u8], n: usize, signals: usize, marks: &mut [u8]) -> u8 {
+fn read_mark(
+    list: &[u8],
+    form: u8,
+    line: &[u8],
+    n: usize,
+    signals: usize,
+    marks: &mut [u8],
+) -> Result<(), Fault> {
     if !names_check(line, n) {
-        return CHECK_PLACE;
+        return Err(Fault::CheckPlace);
     }
-    let Number::Is(k) = check_of(list, form, line, n, signals) else {
-        return CHECK;
-    };
-    let Number::Is(m) = mark_of(last(line, n)) else {
-        return MARK;
-    };
-    let i = k as usize;
-    if i == 0 {
-        return if n == 3 { CHECK } else { UNNAMED };
+    let i = check_of(list, form, line, n, signals).ok_or(Fault::Check)?;
+    let m = mark_of(last(line, n)).ok_or(Fault::Mark)?;
+    if i == 0 && n != 3 {
+        return Err(Fault::Unnamed);
     }
-    if marks.len() < i {
-        return CHECK;
+    if i == 0 || marks.len() < i {
+        return Err(Fault::Check);
     }
-    if 255 < m {
-        return MARK;
-    }
-    marks[i - 1] = m as u8;
-    FINE
+    marks[i - 1] = m;
+    Ok(())
 }
 
 // The last of n words.
 fn last(line: &[u8], n: usize) -> &[u8] {
-    if n == 0 {
-        return word(line, 0);
-    }
-    word(line, n - 1)
+    word(line, n.saturating_sub(1))
 }
 
-fn read_words(list: &[u8], form: u8, line: &[u8], values: &mut [u64], marks: &mut [u8]) -> u8 {
+fn read_words(
+    list: &[u8],
+    form: u8,
+    line: &[u8],
+    values: &mut [u64],
+    marks: &mut [u8],
+) -> Result<(), Fault> {
     let n = word_count(line);
     if n == 0 {
-        return FINE;
+        return Ok(());
     }
     if n < 3 {
-        return WORDS;
+        return Err(Fault::Words);
     }
-    if check::same(word(line, 0), b"value") {
-        return read_value(list, form, line, n, values);
+    match word(line, 0) {
+        b"value" => read_value(list, form, line, n, values),
+        b"mark" => read_mark(list, form, line, n, values.len(), marks),
+        _ => Err(Fault::Words),
     }
-    if check::same(word(line, 0), b"mark") {
-        return read_mark(list, form, line, n, values.len(), marks);
-    }
-    WORDS
 }
 
-fn read_line(list: &[u8], form: u8, line: &[u8], values: &mut [u64], marks: &mut [u8]) -> u8 {
-    let a = 0;
-    let e = find(line, a, b'#');
-    read_words(list, form, &line[a..e], values, marks)
+// The line as far as no comment begins.
+fn uncommented(line: &[u8]) -> &[u8] {
+    parted(line, b'#').0
 }
 
 // Whether every line was read; where one is at fault, an error line names it.
@@ -234,25 +202,20 @@ pub fn read_lines(
     values: &mut [u64],
     marks: &mut [u8],
 ) -> bool {
-    let mut at = 0;
-    let mut line: u64 = 1;
-    while at < text.len() {
-        let e = find(text, at, b'\n');
-        let fault = read_line(list, form, &text[at..e], values, marks);
-        if fault != FINE {
-            print_fault(rt, line, fault);
+    let mut number: u64 = 1;
+    for line in text.split(|&x| x == b'\n') {
+        if let Err(fault) = read_words(list, form, uncommented(line), values, marks) {
+            print_fault(rt, number, fault);
             return false;
         }
-        at = e + 1;
-        line = std::num::wrapping_add_u64(line, 1);
+        number = number.wrapping_add(1);
     }
     true
 }
 
 // The signal k, which a telegram of the type does not carry, is named by a line of its own.
-fn note_signal(rt: &impl Env, list: &[u8], form: u8, k: usize, kind: usize, line: u64) {
-    let entry = gateway::signal_entry(list, form, k);
-    let EntryOutcome::Entry(e) = entry else {
+fn note_signal(rt: &impl Env, list: &[u8], form: u8, k: usize, kind: usize, number: u64) {
+    let Ok(e) = gateway::signal_entry(list, form, k) else {
         return;
     };
     let s = e.signal;
@@ -260,34 +223,24 @@ fn note_signal(rt: &impl Env, list: &[u8], form: u8, k: usize, kind: usize, line
         return;
     }
     let serial = words::serial_at(list, form, k);
-    let l = words::say_signal(say_line(rt, b"note: VALUES ", line), form, s, serial);
+    let l = words::say_signal(say_line(rt, b"note: VALUES ", number), form, s, serial);
     saying::print(words::say_telegram(saying::say(l, b" is not carried by "), kind));
 }
 
 fn note_words(rt: &impl Env, list: &[u8], form: u8, line: &[u8], kind: usize, number: u64) {
-    let n = word_count(line);
-    if check::same(word(line, 0), b"value") {
-        let found = signal_of(list, form, line, n);
-        if let Number::Is(k) = found {
-            note_signal(rt, list, form, k as usize, kind, number);
-        }
+    if !check::same(word(line, 0), b"value") {
+        return;
     }
-}
-
-fn note_line(rt: &impl Env, list: &[u8], form: u8, line: &[u8], kind: usize, number: u64) {
-    let a = 0;
-    let e = find(line, a, b'#');
-    note_words(rt, list, form, &line[a..e], kind, number);
+    if let Some(k) = signal_of(list, form, line, word_count(line)) {
+        note_signal(rt, list, form, k, kind, number);
+    }
 }
 
 // A line for each value that a telegram of the type does not carry.
 pub fn print_notes(rt: &impl Env, list: &[u8], form: u8, text: &[u8], kind: usize) {
-    let mut at = 0;
-    let mut line: u64 = 1;
-    while at < text.len() {
-        let e = find(text, at, b'\n');
-        note_line(rt, list, form, &text[at..e], kind, line);
-        at = e + 1;
-        line = std::num::wrapping_add_u64(line, 1);
+    let mut number: u64 = 1;
+    for line in text.split(|&x| x == b'\n') {
+        note_words(rt, list, form, uncommented(line), kind, number);
+        number = number.wrapping_add(1);
     }
 }

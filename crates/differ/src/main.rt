@@ -1,40 +1,28 @@
 // Which gateway believes what: one store, or each gateway's own, read by two gateways' lists, side by side.
 #![tactic(auto)]
 
-ghost use Rattle.std.specs.Prelude.{◌≤◌};
+ghost use Rattle.std.specs.Prelude.{◌-◌, ◌≤◌, ◌<◌, IfSome};
+ghost use Rattle.std.specs.Iterator.{at_most};
+ghost use Rattle.paper.specs.Pairs.{signal_keys};
 
 use files::Host;
-use gateway::{
-    Counts, EntryOutcome, FORM_2, HeldOutcome, Judged, LONGEST, PAST_KEYS, Pair, Pairing,
-    ReadOutcome, STORE, Shown, VEHICLES,
-};
-use saying::{Clock, Line, Number, Page, STDOUT};
+use gateway::{Counts, FORM_2, LONGEST, Pair, Reading, STORE, Shown, Signal, VEHICLES};
+use saying::{Line, Page, STDOUT};
 use std::rt::Env;
 
-// A signal as one gateway reads it, if its list has it.
-#[derive(Clone, Copy)]
+// A signal as one gateway reads it.
+#[derive(Clone, Copy, Debug, PartialEq)]
 struct Side {
-    there: bool,
-    kind: usize,
-    start: usize,
-    width: usize,
-    value: u64,
-    reason: u8,
+    signal: Signal,
+    reading: Reading,
     // 0 for none
     serial: usize,
     // in its unit
     shown: Shown,
 }
 
-// What judging a list gives the program to go on with.
-#[derive(Clone, Copy)]
-enum Accepted {
-    With(Counts),
-    Not,
-}
-
 // What is asked: of one vehicle or of all; only the lines that differ; as lines for people, or as a table; the form of each list.
-#[derive(Clone, Copy)]
+#[derive(Clone, Copy, Debug, PartialEq, Eq)]
 struct Asked {
     clock: u32,
     // whether the second gateway has a store of its own, and the clock at which it is read
@@ -52,7 +40,7 @@ struct Asked {
 }
 
 // The lines, and how many of them differ.
-#[derive(Clone, Copy)]
+#[derive(Clone, Copy, Debug, PartialEq, Eq)]
 struct Count {
     lines: u64,
     differ: u64,
@@ -105,120 +93,111 @@ The exit status is as of `diff`: 0 no difference, 1 differences, 2 bad input.
     );
 }
 
-fn missing() -> Side {
-    Side {
-        there: false,
-        kind: 0,
-        start: 0,
-        width: 0,
-        value: 0,
-        reason: 0,
-        serial: 0,
-        shown: words::not_scaled(),
-    }
-}
-
-// What a gateway makes of its list's signal k; a signal that the list has not is refused.
-fn side_at(list: &[u8], form: u8, store: &[u8], clock: u32, vehicle: usize, k: usize) -> Side {
-    let entry = gateway::signal_entry(list, form, k);
-    let EntryOutcome::Entry(e) = entry else {
-        return missing();
-    };
-    let read = gateway::read(list, form, store, clock, vehicle, k);
-    let ReadOutcome::Read(r) = read else {
-        return missing();
-    };
+// What a gateway makes of its list's signal k, if the list has it.
+fn side_at(
+    list: &[u8],
+    form: u8,
+    store: &[u8],
+    clock: u32,
+    vehicle: usize,
+    k: usize,
+) -> Option<Side> {
+    let e = gateway::signal_entry(list, form, k).ok()?;
+    let reading = gateway::read(list, form, store, clock, vehicle, k).ok()?;
     let s = e.signal;
-    Side {
-        there: true,
-        kind: s.kind,
-        start: s.start,
-        width: s.width,
-        value: r.value,
-        reason: r.reason,
+    Some(Side {
+        signal: s,
+        reading,
         serial: words::serial_at(list, form, k),
         shown: words::shown_at(list, form, store, clock, vehicle, k, s),
-    }
+    })
 }
 
-fn are_same(a: Side, b: Side) -> bool {
-    (a.there & b.there) & (a.width == b.width) & (a.value == b.value) & (a.reason == b.reason)
+fn shown_of(side: Option<Side>) -> Shown {
+    side.map_or(words::not_scaled(), |s| s.shown)
+}
+
+fn serial_of(side: Option<Side>) -> usize {
+    side.map_or(0, |s| s.serial)
+}
+
+fn are_same(a: Option<Side>, b: Option<Side>) -> bool {
+    a.zip(b).is_some_and(|(a, b)| a.signal.width == b.signal.width && a.reading == b.reading)
 }
 
 // What a side says, with the value ending at a column.
-fn say_side(line: Line, column: usize, side: Side) -> Line {
-    if !side.there {
+fn say_side(line: Line, column: usize, side: Option<Side>) -> Line {
+    let Some(side) = side else {
         return saying::say(saying::pad(line, column), b"  not in the list");
-    }
-    let l = saying::say_right(line, column, side.value);
-    words::say_reason(saying::say(l, b"  "), side.reason)
+    };
+    let r = side.reading;
+    words::say_reason(
+        saying::say(saying::say_right(line, column, r.value), b"  "),
+        r.reason,
+    )
 }
 
 // The column between the two sides: behind the longest reason.
 fn bar(left: usize) -> usize {
-    std::num::wrapping_add_usize(left, 28)
+    left.wrapping_add(28)
 }
 
 // Widths that differ are said behind the line.
-fn say_widths(line: Line, a: Side, b: Side) -> Line {
-    if (a.there & b.there) & (a.width != b.width) {
-        let l = saying::say_number(saying::say(line, b"  widths "), a.width as u64);
-        return saying::say_number(saying::say(l, b" and "), b.width as u64);
+fn say_widths(line: Line, a: Option<Side>, b: Option<Side>) -> Line {
+    if let (Some(a), Some(b)) = (a, b)
+        && a.signal.width != b.signal.width
+    {
+        let l = saying::say_number(saying::say(line, b"  widths "), a.signal.width as u64);
+        return saying::say_number(saying::say(l, b" and "), b.signal.width as u64);
     }
     line
 }
 
-// The serial numbers that the lists in form 2 have for the signal; one that both have, once.
-fn say_serials(line: Line, asked: Asked, a: Side, b: Side) -> Line {
-    let first = a.there & (asked.first_form == FORM_2);
-    let second = b.there & (asked.second_form == FORM_2);
-    if first & second & (a.serial != b.serial) {
-        let l = words::say_serial(saying::say(line, b" ("), a.serial);
-        return saying::put(words::say_serial(saying::say(l, b", "), b.serial), b')');
-    }
-    if first {
-        return words::say_beside(line, FORM_2, a.serial);
-    }
-    if second {
-        return words::say_beside(line, FORM_2, b.serial);
-    }
-    line
+// The serial number that a list in form 2 has for the signal.
+fn serial_in(side: Option<Side>, form: u8) -> Option<usize> {
+    side.filter(|_| form == FORM_2).map(|s| s.serial)
 }
 
 // The place, which either side may have, with its serial numbers.
-fn say_signal(line: Line, asked: Asked, place: Side, a: Side, b: Side) -> Line {
-    let l = words::say_place(line, place.kind, place.start, place.width);
-    say_serials(l, asked, a, b)
-}
-
-fn place_of(a: Side, b: Side) -> Side {
-    if a.there { a } else { b }
+fn say_signal(line: Line, asked: Asked, s: Signal, a: Option<Side>, b: Option<Side>) -> Line {
+    let l = words::say_place(line, s.kind, s.start, s.width);
+    words::say_both_beside(
+        l,
+        serial_in(a, asked.first_form),
+        serial_in(b, asked.second_form),
+    )
 }
 
 // The place, and what each side says there.
-fn print_pair(page: &mut Page, mark: u8, asked: Asked, place: Side, a: Side, b: Side) {
+fn print_pair(
+    page: &mut Page,
+    mark: u8,
+    asked: Asked,
+    place: Signal,
+    a: Option<Side>,
+    b: Option<Side>,
+) {
     let head = saying::put(saying::empty(), mark);
     let l = saying::say_right(head, 4, asked.vehicle as u64);
     let l = say_signal(saying::say(l, b"  "), asked, place, a, b);
     let l = saying::pad(say_side(l, asked.left, a), bar(asked.left));
     let l = say_side(saying::say(l, b"|"), asked.right, b);
     let l = say_widths(l, a, b);
-    let first = a.shown;
-    let second = b.shown;
-    saying::add(page, words::say_both_shown(l, first, second));
+    saying::add(page, words::say_both_shown(l, shown_of(a), shown_of(b)));
 }
 
-fn say_columns(line: Line, side: Side) -> Line {
-    if !side.there {
+fn say_columns(line: Line, side: Option<Side>) -> Line {
+    let Some(side) = side else {
         return saying::say(line, b"\t-\t-\t-");
-    }
-    let l = saying::say_tab(saying::say_tab(line, side.width as u64), side.value);
-    saying::say_tab(l, side.reason as u64)
+    };
+    let l = saying::say_tab(line, side.signal.width as u64);
+    let l = saying::say_tab(l, side.reading.value);
+    saying::say_tab(l, side.reading.reason.number() as u64)
 }
 
 // The form of the columns: with serial numbers as soon as one list has them.
 fn form_of_table(asked: Asked) -> u8 {
-    words::form_of((asked.first_form == FORM_2) | (asked.second_form == FORM_2))
+    words::form_of(asked.first_form == FORM_2 || asked.second_form == FORM_2)
 }
 
 // What the second gateway holds of the vehicle in a store of its own, behind all other columns.
@@ -237,9 +216,9 @@ fn print_row(
     other: &[u8],
     asked: Asked,
     differs: u64,
-    place: Side,
-    a: Side,
-    b: Side,
+    place: Signal,
+    a: Option<Side>,
+    b: Option<Side>,
 ) {
     let l = words::say_head(saying::empty(), store, asked.clock, asked.vehicle);
     let l = words::say_telegram(saying::put(l, b'\t'), place.kind);
@@ -247,16 +226,10 @@ fn print_row(
     let l = say_columns(say_columns(l, a), b);
     let l = words::say_gap_tab(l, store, asked.vehicle);
     let form = form_of_table(asked);
-    let l = words::say_serial_tab(l, form, a.serial);
-    let l = words::say_serial_tab(l, form, b.serial);
-    let first = a.shown;
-    let second = b.shown;
-    let l = words::say_both_shown_tabs(l, first, second);
+    let l = words::say_serial_tab(l, form, serial_of(a));
+    let l = words::say_serial_tab(l, form, serial_of(b));
+    let l = words::say_both_shown_tabs(l, shown_of(a), shown_of(b));
     saying::add(page, say_behind(l, other, asked));
-}
-
-fn more(n: u64) -> u64 {
-    std::num::wrapping_add_u64(n, 1)
 }
 
 fn print_line(
@@ -265,11 +238,11 @@ fn print_line(
     other: &[u8],
     asked: Asked,
     same: bool,
-    place: Side,
-    a: Side,
-    b: Side,
+    place: Signal,
+    a: Option<Side>,
+    b: Option<Side>,
 ) {
-    if same & asked.only {
+    if same && asked.only {
         return;
     }
     if asked.table {
@@ -286,26 +259,22 @@ fn print_sides(
     store: &[u8],
     other: &[u8],
     asked: Asked,
-    a: Side,
-    b: Side,
+    a: Option<Side>,
+    b: Option<Side>,
     so_far: Count,
 ) -> Count {
-    let lines = more(so_far.lines);
+    let Some(side) = a.or(b) else {
+        return so_far;
+    };
     let same = are_same(a, b);
-    print_line(page, store, other, asked, same, place_of(a, b), a, b);
-    if same {
-        return Count {
-            lines,
-            differ: so_far.differ,
-        };
-    }
+    print_line(page, store, other, asked, same, side.signal, a, b);
     Count {
-        lines,
-        differ: more(so_far.differ),
+        lines: so_far.lines.wrapping_add(1),
+        differ: so_far.differ.wrapping_add(if same { 0 } else { 1 }),
     }
 }
 
-fn first_side(list: &[u8], store: &[u8], asked: Asked, p: Pair) -> Side {
+fn first_side(list: &[u8], store: &[u8], asked: Asked, p: Pair) -> Option<Side> {
     side_at(
         list,
         asked.first_form,
@@ -316,7 +285,7 @@ fn first_side(list: &[u8], store: &[u8], asked: Asked, p: Pair) -> Side {
     )
 }
 
-fn second_side(list: &[u8], store: &[u8], asked: Asked, p: Pair) -> Side {
+fn second_side(list: &[u8], store: &[u8], asked: Asked, p: Pair) -> Option<Side> {
     side_at(
         list,
         asked.second_form,
@@ -325,6 +294,43 @@ fn second_side(list: &[u8], store: &[u8], asked: Asked, p: Pair) -> Side {
         asked.vehicle,
         p.second,
     )
+}
+
+fn pair_from(first: &[u8], second: &[u8], asked: Asked, key: usize) -> Option<Pair>
+    ensures { IfSome result (λ p. (key ≤ p.key) × (p.key < signal_keys)) }
+{
+    gateway::pair_from(first, asked.first_form, second, asked.second_form, key).unwrap_or(None)
+}
+
+// The signals of two lists, one after the other by type and start.
+#[derive(Clone, Copy, Debug)]
+struct Pairs<'a> {
+    first: &'a [u8],
+    second: &'a [u8],
+    asked: Asked,
+    // past those that have come
+    key: usize,
+}
+
+impl Iterator for Pairs<'_> {
+    type Item = Pair;
+
+    ghost remaining = { λ s. at_most (signal_keys - s.key) };
+
+    fn next(&mut self) -> Option<Pair> {
+        let p = pair_from(self.first, self.second, self.asked, self.key)?;
+        self.key = p.key + 1;
+        Some(p)
+    }
+}
+
+fn pairs_of<'a>(first: &'a [u8], second: &'a [u8], asked: Asked) -> Pairs<'a> {
+    Pairs {
+        first,
+        second,
+        asked,
+        key: 0,
+    }
 }
 
 // `other` is the second gateway's store.
@@ -337,16 +343,10 @@ fn all_signals(
     asked: Asked,
 ) -> Count {
     let mut count = none();
-    let mut key = 0;
-    while key < PAST_KEYS {
-        let pairing = gateway::pair_from(first, asked.first_form, second, asked.second_form, key);
-        let Pairing::Pair(p) = pairing else {
-            return count;
-        };
+    for p in pairs_of(first, second, asked) {
         let a = first_side(first, store, asked, p);
         let b = second_side(second, other, asked, p);
         count = print_sides(page, store, other, asked, a, b, count);
-        key = p.key + 1;
     }
     count
 }
@@ -384,39 +384,34 @@ fn one_vehicle(
         print_of_vehicle(page, asked.vehicle, count);
     }
     Count {
-        lines: std::num::wrapping_add_u64(so_far.lines, count.lines),
-        differ: std::num::wrapping_add_u64(so_far.differ, count.differ),
+        lines: so_far.lines.wrapping_add(count.lines),
+        differ: so_far.differ.wrapping_add(count.differ),
     }
 }
 
 fn of_vehicle(asked: Asked, vehicle: usize) -> Asked {
-    let mut a = asked;
-    a.vehicle = vehicle;
-    a
+    Asked { vehicle, ..asked }
 }
 
 // Where the line of a pair has come to once the first list's value is said, if it has one.
-fn end_of(asked: Asked, a: Side, b: Side) -> usize {
-    let l = say_signal(saying::pad(saying::empty(), 6), asked, place_of(a, b), a, b);
-    if a.there {
-        return words::end_of_value(l, a.width);
+fn end_of(asked: Asked, a: Option<Side>, b: Option<Side>) -> usize {
+    let Some(side) = a.or(b) else {
+        return 0;
+    };
+    let l = say_signal(saying::pad(saying::empty(), 6), asked, side.signal, a, b);
+    match a {
+        Some(a) => words::end_of_value(l, a.signal.width),
+        None => l.at,
     }
-    l.at
 }
 
 // The column at which the first list's values end: 45, or as far right as the longest line needs.
 fn left_column(first: &[u8], second: &[u8], store: &[u8], asked: Asked) -> usize {
     let mut column = 45;
-    let mut key = 0;
-    while key < PAST_KEYS {
-        let pairing = gateway::pair_from(first, asked.first_form, second, asked.second_form, key);
-        let Pairing::Pair(p) = pairing else {
-            return column;
-        };
+    for p in pairs_of(first, second, asked) {
         let a = first_side(first, store, asked, p);
         let b = second_side(second, store, asked, p);
-        column = words::greater(column, end_of(asked, a, b));
-        key = p.key + 1;
+        column = column.max(end_of(asked, a, b));
     }
     column
 }
@@ -425,13 +420,15 @@ fn left_column(first: &[u8], second: &[u8], store: &[u8], asked: Asked) -> usize
 fn in_columns(asked: Asked, first: &[u8], second: &[u8], n: Counts, store: &[u8]) -> Asked {
     let left = left_column(first, second, store, asked);
     let at = bar(left);
-    let least = std::num::wrapping_add_usize(at, 17);
-    let behind = std::num::wrapping_add_usize(at, 1);
+    let least = at.wrapping_add(17);
+    let behind = at.wrapping_add(1);
     let form = asked.second_form;
-    let mut a = asked;
-    a.left = left;
-    a.right = words::value_column(second, form, n.signals, behind, false, least);
-    a
+    let right = words::value_column(second, form, n.signals, behind, false, least);
+    Asked {
+        left,
+        right,
+        ..asked
+    }
 }
 
 fn all_vehicles(
@@ -443,13 +440,11 @@ fn all_vehicles(
     asked: Asked,
 ) -> Count {
     let mut count = none();
-    let mut v = 1;
-    while v <= VEHICLES {
+    for v in 1..=VEHICLES {
         if words::is_heard_by(store, other, v) {
             let a = of_vehicle(asked, v);
             count = one_vehicle(page, first, second, store, other, a, count);
         }
-        v += 1;
     }
     if !asked.table {
         words::print_never_by(page, store, other);
@@ -532,21 +527,19 @@ fn print_asked(
 }
 
 // The counts of a list; a list that is not accepted is said to be refused.
-fn judge(list: &[u8], form: u8, of: &[u8]) -> Accepted {
-    let judged = gateway::judge(list, form);
-    match judged {
-        Judged::Refused(f) => {
+fn judge(list: &[u8], form: u8, of: &[u8]) -> Option<Counts> {
+    match gateway::judge(list, form) {
+        Ok(n) => Some(n),
+        Err(f) => {
             words::print_refused_of(f, of);
-            Accepted::Not
+            None
         }
-        Judged::Accepted(n) => Accepted::With(n),
     }
 }
 
 // Whether a vehicle can be asked for in a store; `of` says which of two it is where it is refused.
 fn is_held(store: &[u8], vehicle: usize, of: &[u8]) -> bool {
-    let held = gateway::holding(store, 0, vehicle);
-    if let HeldOutcome::Refused(f) = held {
+    if let Err(f) = gateway::holding(store, 0, vehicle) {
         words::print_refused_store_of(f, store.len(), of);
         return false;
     }
@@ -555,23 +548,17 @@ fn is_held(store: &[u8], vehicle: usize, of: &[u8]) -> bool {
 
 // Refused is 5 of either store, then 6.
 fn are_held(store: &[u8], other: &[u8], asked: Asked) -> bool {
-    if asked.behind {
-        if !is_held(store, 1, b" (first store)") {
-            return false;
-        }
-        if !is_held(other, 1, b" (second store)") {
-            return false;
-        }
-    }
-    is_held(store, asked.vehicle, b"")
+    let are_stores = !asked.behind
+        || is_held(store, 1, b" (first store)") && is_held(other, 1, b" (second store)");
+    are_stores && is_held(store, asked.vehicle, b"")
 }
 
 // Refused as a reading is: 1 to 4 of either list, then 5 and 6.
 fn compare(rt: &impl Env, first: &[u8], second: &[u8], store: &[u8], other: &[u8], asked: Asked) {
-    let Accepted::With(m) = judge(first, asked.first_form, b" (first list)") else {
+    let Some(m) = judge(first, asked.first_form, b" (first list)") else {
         return;
     };
-    let Accepted::With(n) = judge(second, asked.second_form, b" (second list)") else {
+    let Some(n) = judge(second, asked.second_form, b" (second list)") else {
         return;
     };
     if !are_held(store, other, asked) {
@@ -588,43 +575,35 @@ fn read_behind(rt: &impl Host, first: &[u8], second: &[u8], store: &[u8], asked:
         return;
     }
     let mut other = [0u8; STORE + 1];
-    let s = files::read(rt, 6, b"second STORE", &mut other);
-    if !s.ok {
+    let Some(m) = files::read(rt, 6, b"second STORE", &mut other) else {
         return;
-    }
-    let m = s.octets;
+    };
     compare(rt, first, second, store, &other[..m], asked);
 }
 
 fn read_others(rt: &impl Host, first: &[u8], asked: Asked) {
     let mut second = [0u8; LONGEST + 1];
-    let l = files::read(rt, 2, b"second LIST", &mut second);
-    if !l.ok {
+    let Some(n) = files::read(rt, 2, b"second LIST", &mut second) else {
         return;
-    }
+    };
     let mut store = [0u8; STORE + 1];
-    let s = files::read(rt, 3, b"STORE", &mut store);
-    if !s.ok {
+    let Some(m) = files::read(rt, 3, b"STORE", &mut store) else {
         return;
-    }
-    let n = l.octets;
-    let m = s.octets;
+    };
     read_behind(rt, first, &second[..n], &store[..m], asked);
 }
 
 fn read_files(rt: &impl Host, asked: Asked) {
     let mut first = [0u8; LONGEST + 1];
-    let l = files::read(rt, 1, b"first LIST", &mut first);
-    if !l.ok {
+    let Some(n) = files::read(rt, 1, b"first LIST", &mut first) else {
         return;
-    }
-    let n = l.octets;
+    };
     read_others(rt, &first[..n], asked);
 }
 
 // Whether the words next to the clock name a second store and its clock.
 fn is_behind(rt: &impl Env, n: usize) -> bool {
-    (7 < n) & saying::is_word(rt, 5, b"behind")
+    7 < n && saying::is_word(rt, 5, b"behind")
 }
 
 // The place of the vehicle, if it is given, and of the options if it is not.
@@ -664,20 +643,22 @@ fn words_of(n: usize, o: Asked) -> usize {
 
 // The last word before the options is the place of the vehicle, or the one before it.
 fn ask(rt: &impl Host, words: usize, at: usize, o: Asked) {
-    let Clock::At(clock) = saying::clock_argument(rt, 4) else {
+    let Some(clock) = saying::clock_argument(rt, 4) else {
         return;
     };
-    let Clock::At(second_clock) = saying::clock_argument(rt, if o.behind { 7 } else { 4 }) else {
+    let Some(second_clock) = saying::clock_argument(rt, if o.behind { 7 } else { 4 }) else {
         return;
     };
-    let Number::Is(vehicle) = saying::number_or(rt, words, at, b"VEHICLE", 1) else {
+    let Some(vehicle) = saying::number_or(rt, words, at, b"VEHICLE", 1) else {
         return;
     };
-    let mut asked = o;
-    asked.clock = clock;
-    asked.second_clock = second_clock;
-    asked.vehicle = vehicle as usize;
-    asked.all = words < at;
+    let asked = Asked {
+        clock,
+        second_clock,
+        vehicle: vehicle as usize,
+        all: words < at,
+        ..o
+    };
     read_files(rt, asked);
 }
 
@@ -690,7 +671,7 @@ fn main(rt: HostRuntime) {
     let o = options(&rt, n);
     let words = words_of(n, o);
     let at = vehicle_at(o.behind);
-    if (words == at) | (words == at - 1) {
+    if words == at || words == at - 1 {
         ask(&rt, words, at, o);
         return;
     }

@@ -1,0 +1,2 @@
+-- The laws that the proofs of `compare` cite.
+pub mod Laws

@@ -1,0 +1,2 @@
+-- The law that the proofs of `differ` cite.
+pub mod Laws
