@@ -19,14 +19,7 @@ fn route_from(a: &[u8], b: &[u8], asked: Asked, key: usize) -> Option<Changed>
     gateway::route_change(a, asked.first_form, b, asked.second_form, key).unwrap_or(None)
 }
 
-fn codes_from(
-    a: &[u8],
-    form: u8,
-    b: &[u8],
-    other: u8,
-    key: usize,
-    from: usize,
-) -> Option<Range>
+fn codes_from(a: &[u8], form: u8, b: &[u8], other: u8, key: usize, from: usize) -> Option<Range>
     ensures { IfSome result (λ r. (from ≤ r.high) × (r.high < 65536)) }
 {
     gateway::codes_gained(a, form, b, other, key, from).unwrap_or(None)
@@ -110,9 +103,7 @@ impl Iterator for CodesGained<'_> {
     ghost remaining = { λ s. at_most (65536 - s.from) };
 
     fn next(&mut self) -> Option<Range> {
-        let r = codes_from(
-            self.a, self.form, self.b, self.other, self.key, self.from,
-        )?;
+        let r = codes_from(self.a, self.form, self.b, self.other, self.key, self.from)?;
         self.from = r.high + 1;
         Some(r)
     }
