@@ -1,10 +1,10 @@
 // What a driver sees: each side of the train locked, open or not known, and the vehicles that hold it up, each with its reason.
 #![tactic(auto)]
 
-use doors::{Doors, Side, State, SummaryOutcome};
+use doors::{Doors, Side, State};
 use files::Host;
-use gateway::{Found, LONGEST, ReadOutcome, STORE, VEHICLES};
-use saying::{Clock, Line, Number, Page, STDOUT};
+use gateway::{LONGEST, Reason, STORE, VEHICLES};
+use saying::{Line, Page, STDOUT};
 
 // The address of every vehicle in the consist.
 const EVERY: u64 = 66;
@@ -14,7 +14,7 @@ const LEFT: usize = 156;
 
 const RIGHT: usize = 157;
 
-#[derive(Clone, Copy)]
+#[derive(Clone, Copy, Debug, PartialEq, Eq)]
 struct Asked {
     form: u8,
     clock: u32,
@@ -79,16 +79,15 @@ fn say_size(line: Line, size: u32) -> Line {
 }
 
 fn side_line(name: &[u8], side: Side) -> Line {
-    let state = side.state;
     let l = saying::pad(saying::say(saying::empty(), name), 7);
-    say_size(say_state(l, state), side.size)
+    say_size(say_state(l, side.state), side.size)
 }
 
 // A vehicle that holds a side up, by the reason of its reading: one that is live is open, since live and locked holds nothing up.
-fn vehicle_line(vehicle: usize, reason: u8) -> Line {
+fn vehicle_line(vehicle: usize, reason: Reason) -> Line {
     let l = saying::say(saying::empty(), b"  vehicle");
     let l = saying::say_right(l, 12, vehicle as u64);
-    let l = if reason <= 1 {
+    let l = if reason.is_live() {
         saying::say(l, b"  open       ")
     } else {
         saying::say(l, b"  not known  ")
@@ -104,8 +103,7 @@ fn print_vehicle(
     vehicle: usize,
     signal: usize,
 ) {
-    let read = gateway::read(list, asked.form, store, asked.clock, vehicle, signal);
-    if let ReadOutcome::Read(r) = read {
+    if let Ok(r) = gateway::read(list, asked.form, store, asked.clock, vehicle, signal) {
         saying::add(page, vehicle_line(vehicle, r.reason));
     }
 }
@@ -119,12 +117,10 @@ fn print_vehicles(
     set: u64,
     signal: usize,
 ) {
-    let mut v = 1;
-    while v <= VEHICLES {
+    for v in 1..=VEHICLES {
         if (set >> v) % 2 == 1 {
             print_vehicle(page, list, store, asked, v, signal);
         }
-        v += 1;
     }
 }
 
@@ -138,61 +134,51 @@ fn print_side(
     place: usize,
 ) {
     saying::add(page, side_line(name, side));
-    let found = gateway::find_signal(list, asked.form, 0, place);
-    if let Found::At(k) = found {
+    if let Ok(k) = gateway::find_signal(list, asked.form, 0, place) {
         print_vehicles(page, list, store, asked, side.kept, k);
     }
 }
 
 fn print_doors(list: &[u8], store: &[u8], asked: Asked, doors: Doors) {
     let mut page = saying::new_page();
-    let left = doors.left;
-    let right = doors.right;
-    print_side(&mut page, list, store, asked, b"LEFT", left, LEFT);
-    print_side(&mut page, list, store, asked, b"RIGHT", right, RIGHT);
+    print_side(&mut page, list, store, asked, b"LEFT", doors.left, LEFT);
+    print_side(&mut page, list, store, asked, b"RIGHT", doors.right, RIGHT);
     saying::flush(&mut page);
 }
 
 fn answer(list: &[u8], store: &[u8], marks: &[u8], asked: Asked) {
-    let summary = doors::summary(list, asked.form, store, asked.clock, marks, asked.address);
-    match summary {
-        SummaryOutcome::Refused(f) => words::print_refused_store(f, store.len()),
-        SummaryOutcome::Doors(d) => print_doors(list, store, asked, d),
+    match doors::summary(list, asked.form, store, asked.clock, marks, asked.address) {
+        Err(f) => words::print_refused_store(f, store.len()),
+        Ok(d) => print_doors(list, store, asked, d),
     }
 }
 
 // A longer consist is cut behind the first octet too many, which 17 refuses.
 fn with_consist(rt: &impl Host, list: &[u8], store: &[u8], asked: Asked) {
     let mut marks = [0u8; VEHICLES + 1];
-    let c = files::read(rt, 4, b"CONSIST", &mut marks);
-    if !c.ok {
+    let Some(n) = files::read(rt, 4, b"CONSIST", &mut marks) else {
         return;
-    }
-    let n = c.octets;
+    };
     answer(list, store, &marks[..n], asked);
 }
 
 fn read_files(rt: &impl Host, asked: Asked) {
     let mut list = [0u8; LONGEST + 1];
-    let l = files::read(rt, 1, b"LIST", &mut list);
-    if !l.ok {
+    let Some(n) = files::read(rt, 1, b"LIST", &mut list) else {
         return;
-    }
+    };
     let mut store = [0u8; STORE + 1];
-    let s = files::read(rt, 2, b"STORE", &mut store);
-    if !s.ok {
+    let Some(m) = files::read(rt, 2, b"STORE", &mut store) else {
         return;
-    }
-    let n = l.octets;
-    let m = s.octets;
+    };
     with_consist(rt, &list[..n], &store[..m], asked);
 }
 
 fn ask(rt: &impl Host, words: usize, form: u8) {
-    let Clock::At(clock) = saying::clock_argument(rt, 3) else {
+    let Some(clock) = saying::clock_argument(rt, 3) else {
         return;
     };
-    let Number::Is(address) = saying::number_or(rt, words, 5, b"ADDRESS", EVERY) else {
+    let Some(address) = saying::number_or(rt, words, 5, b"ADDRESS", EVERY) else {
         return;
     };
     read_files(
@@ -213,7 +199,7 @@ fn main(rt: HostRuntime) {
     }
     let is_form_2 = saying::has_option(&rt, 5, n, b"form2");
     let words = saying::words_before(n, saying::one_if(is_form_2));
-    if (4 <= words) & (words <= 5) {
+    if (4..=5).contains(&words) {
         ask(&rt, words, words::form_of(is_form_2));
         return;
     }

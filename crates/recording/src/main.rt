@@ -5,17 +5,16 @@ mod pieces;
 mod telling;
 
 use files::Host;
-use gateway::{Checked, Judged, MOST_STEPS};
-use pieces::{Area, Head, Listed, Next, ROOM, Step, first};
+use gateway::MOST_STEPS;
+use pieces::{Area, Listed, ROOM, Step, first};
 use saying::STDOUT;
 use std::fs::File;
 
 // How far the judging is: so many steps accepted, and so many octets in the last one's data after.
-#[derive(Clone, Copy)]
+#[derive(Clone, Copy, Debug, PartialEq, Eq)]
 struct Course {
     steps: usize,
     last: usize,
-    is_over: bool,
 }
 
 fn help() {
@@ -66,33 +65,26 @@ The exit status is as of `diff`: 0 accepted, 1 wrong, 2 refused or error.
     );
 }
 
-fn over(c: Course) -> Course {
-    let mut c = c;
-    c.is_over = true;
-    c
-}
-
 // The number of the step that is taken in next, counted from 1.
 fn next_of(c: Course) -> usize {
-    std::num::wrapping_add_usize(c.steps, 1)
+    c.steps.wrapping_add(1)
 }
 
 // A recording that has ended: its list is all that is left to judge where it has no steps.
 fn conclude(list: &[u8], form: u8, c: Course) {
-    let judged = gateway::judge(list, form);
-    match judged {
-        Judged::Refused(f) => words::print_refused_list(list, form, f),
-        Judged::Accepted(_) => telling::print_accepted(c.steps),
+    match gateway::judge(list, form) {
+        Err(f) => words::print_refused_list(list, form, f),
+        Ok(_) => telling::print_accepted(c.steps),
     }
 }
 
 fn report(c: Course) {
-    if (c.steps % 100 == 0) & (c.steps != 0) {
+    if c.steps % 100 == 0 && c.steps != 0 {
         telling::print_progress(c.steps);
     }
 }
 
-// One step more, judged: `last` holds the data after of the one before it.
+// One step more, judged: `last` holds the data after of the one before it. None where the judging is over.
 fn judge_step(
     list: &[u8],
     form: u8,
@@ -102,32 +94,30 @@ fn judge_step(
     last: &[u8],
     before: &[u8],
     after: &[u8],
-) -> Course {
+) -> Option<Course> {
+    let steps = next_of(c);
     let last = first(last, c.last);
     let store = first(store, s.store);
     let before = first(before, s.before);
     let after = first(after, s.after);
     let clock = s.clock;
-    let checked = gateway::check_step(list, form, c.steps, last, store, clock, before, after);
-    match checked {
-        Checked::Right => Course {
-            steps: next_of(c),
+    match gateway::check_step(list, form, c.steps, last, store, clock, before, after) {
+        Ok(None) => Some(Course {
+            steps,
             last: s.after,
-            is_over: false,
-        },
-        Checked::Wrong(w) => {
-            let step = next_of(c);
-            telling::print_wrong(list, form, step, store, clock, before, after, w);
-            over(c)
+        }),
+        Ok(Some(w)) => {
+            telling::print_wrong(list, form, steps, store, clock, before, after, w);
+            None
         }
-        Checked::Refused(f) => {
-            telling::print_refused(list, form, next_of(c), store.len(), f);
-            over(c)
+        Err(f) => {
+            telling::print_refused(list, form, steps, store.len(), f);
+            None
         }
     }
 }
 
-// Takes in one step more and judges it; its data after stay in `after`.
+// Takes in one step more and judges it; its data after stay in `after`. None where the judging is over.
 fn one_step(
     rt: &impl Host,
     file: &mut File,
@@ -138,15 +128,14 @@ fn one_step(
     last: &Area,
     before: &mut Area,
     after: &mut Area,
-) -> Course {
-    let next = pieces::take_step(rt, file, next_of(c), store, before, after);
-    match next {
-        Next::Not => over(c),
-        Next::End => {
+) -> Option<Course> {
+    match pieces::take_step(rt, file, next_of(c), store, before, after) {
+        Err(_) => None,
+        Ok(None) => {
             conclude(list, form, c);
-            over(c)
+            None
         }
-        Next::Step(s) => {
+        Ok(Some(s)) => {
             report(c);
             judge_step(list, form, c, s, store, last, before, after)
         }
@@ -160,22 +149,17 @@ fn go_through(rt: &impl Host, file: &mut File, list: &[u8], form: u8) {
     let mut before = [0u8; ROOM];
     let mut x = [0u8; ROOM];
     let mut y = [0u8; ROOM];
-    let mut c = Course {
-        steps: 0,
-        last: 0,
-        is_over: false,
-    };
-    let mut turn = 0;
-    while turn <= MOST_STEPS {
-        if turn % 2 == 0 {
-            c = one_step(rt, file, list, form, c, &mut store, &x, &mut before, &mut y);
+    let mut c = Course { steps: 0, last: 0 };
+    for turn in 0..=MOST_STEPS {
+        let next = if turn % 2 == 0 {
+            one_step(rt, file, list, form, c, &mut store, &x, &mut before, &mut y)
         } else {
-            c = one_step(rt, file, list, form, c, &mut store, &y, &mut before, &mut x);
-        }
-        if c.is_over {
+            one_step(rt, file, list, form, c, &mut store, &y, &mut before, &mut x)
+        };
+        let Some(next) = next else {
             return;
-        }
-        turn += 1;
+        };
+        c = next;
     }
 }
 
@@ -185,8 +169,7 @@ fn judge_steps(rt: &impl Host, file: &mut File, list: &Area, l: Listed) {
 
 fn judge(rt: &impl Host, file: &mut File) {
     let mut list = [0u8; ROOM];
-    let head = pieces::take_head(rt, file, &mut list);
-    if let Head::List(l) = head {
+    if let Ok(l) = pieces::take_head(rt, file, &mut list) {
         judge_steps(rt, file, &list, l);
     }
 }

@@ -2,8 +2,7 @@
 ghost use Rattle.std.specs.Prelude.{◌≡◌, ◌≤◌};
 ghost use Rattle.paper.specs.Octets.{bit, field};
 
-use crate::pieces::first;
-use gateway::{EntryOutcome, ReadOutcome, Refusal, Route, RouteOutcome, Signal, WrongBit};
+use gateway::{Reason, Refusal, Route, Routed, Signal, WrongBit};
 use saying::{Line, Page, empty, say, say_number, say_right};
 
 // The standard error, as `io` takes it.
@@ -12,13 +11,8 @@ const STDERR: i32 = 2;
 // Where the values end.
 const COLUMN: usize = 27;
 
-fn wide(octet: u8) -> u64
-    ensures { result ≡ octet }
-{
-    octet as u64
-}
-
 // The bit at an address; 0 past the end.
+#[tactic(auto, using(crate::proofs::Laws::bit_past), unfolding(paper::specs::Octets::bit))]
 fn bit_at(octets: &[u8], a: usize) -> u64
     ensures { result ≡ bit octets.now a }
 {
@@ -26,24 +20,20 @@ fn bit_at(octets: &[u8], a: usize) -> u64
     if octets.len() <= i {
         return 0;
     }
-    (wide(octets[i]) >> (7 - a % 8)) % 2
+    (octets[i] as u64 >> (7 - a % 8)) % 2
 }
 
 // A field of the data as a number. No field of a route is wider or starts later.
+#[tactic(auto, using(crate::proofs::Laws::field_none, crate::proofs::Laws::field_more, crate::proofs::Laws::field_room))]
 fn field_of(octets: &[u8], start: usize, width: usize) -> u64
     ensures { start ≤ 2048 → width ≤ 64 → result ≡ field octets.now start width }
 {
-    if 2048 < start {
-        return 0;
-    }
-    if 64 < width {
+    if 2048 < start || 64 < width {
         return 0;
     }
     let mut value = 0;
-    let mut i = 0;
-    while i < width {
+    for i in 0..width {
         value = value * 2 + bit_at(octets, start + i);
-        i += 1;
     }
     value
 }
@@ -51,18 +41,14 @@ fn field_of(octets: &[u8], start: usize, width: usize) -> u64
 fn say_head(step: usize, clock: u32, w: WrongBit) -> Line {
     let l = say_number(say(empty(), b"wrong in step "), step as u64);
     let l = say_number(say(l, b" at clock "), clock as u64);
-    let octet = std::num::wrapping_add_usize(w.octet, 1);
+    let octet = w.octet.wrapping_add(1);
     let l = say_number(say(l, b": octet "), octet as u64);
     say_number(say(l, b" bit "), w.bit as u64)
 }
 
 // From octet i on; nothing where there are no more.
 fn behind(octets: &[u8], i: usize) -> &[u8] {
-    let n = octets.len();
-    if n < i {
-        return &octets[n..];
-    }
-    &octets[i..]
+    &octets[i.min(octets.len())..]
 }
 
 // The two bits where no route puts one: ours is that of the data before.
@@ -82,7 +68,7 @@ fn say_route(list: &[u8], form: u8, route: usize, t: Route, s: Signal) -> Line {
     words::say_signal(say(l, b"  "), form, s, serial)
 }
 
-fn say_ours(value: u64, reason: u8) -> Line {
+fn say_ours(value: u64, reason: Reason) -> Line {
     let l = say_right(say(empty(), b"ours"), COLUMN, value);
     words::say_reason(say(l, b"  "), reason)
 }
@@ -98,23 +84,20 @@ fn add_route(
     store: &[u8],
     clock: u32,
     after: &[u8],
-    w: WrongBit,
+    r: Routed,
 ) {
-    let route = gateway::route_entry(list, form, w.route);
-    let RouteOutcome::Route(t) = route else {
+    let Ok(Some(t)) = gateway::route_entry(list, form, r.route) else {
         return;
     };
-    let entry = gateway::signal_entry(list, form, t.signal);
-    let EntryOutcome::Entry(e) = entry else {
+    let Ok(e) = gateway::signal_entry(list, form, t.signal) else {
         return;
     };
-    let read = gateway::read(list, form, store, clock, t.vehicle, t.signal);
-    let ReadOutcome::Read(x) = read else {
+    let Ok(x) = gateway::read(list, form, store, clock, t.vehicle, t.signal) else {
         return;
     };
     let s = e.signal;
-    saying::add(page, say_route(list, form, w.route, t, s));
-    saying::add(page, say_ours(x.value, w.reason));
+    saying::add(page, say_route(list, form, r.route, t, s));
+    saying::add(page, say_ours(x.value, r.reason));
     saying::add(page, say_theirs(field_of(after, t.start, s.width)));
 }
 
@@ -131,10 +114,9 @@ pub fn print_wrong(
 ) {
     let mut page = saying::new_page();
     saying::add(&mut page, say_head(step, clock, w));
-    if w.in_route {
-        add_route(&mut page, list, form, store, clock, after, w);
-    } else {
-        saying::add(&mut page, say_beside(before, after, w));
+    match w.route {
+        Some(r) => add_route(&mut page, list, form, store, clock, after, r),
+        None => saying::add(&mut page, say_beside(before, after, w)),
     }
     saying::flush(&mut page);
 }
@@ -142,13 +124,14 @@ pub fn print_wrong(
 // A refused step: of a list with the entry at fault, of a store with what can be said of its length.
 pub fn print_refused(list: &[u8], form: u8, step: usize, octets: usize, f: Refusal) {
     let l = say_number(say(empty(), b" in step "), step as u64);
-    let text = l.text;
-    let of = first(&text, l.at);
-    if gateway::number(f) <= 4 {
-        words::print_refused_list_of(list, form, f, of);
-        return;
+    let of = &l.text[..l.at];
+    match f {
+        Refusal::ListEnds(_)
+        | Refusal::CountAbove(_)
+        | Refusal::EntryBroken(_)
+        | Refusal::OctetsAfter(_) => words::print_refused_list_of(list, form, f, of),
+        _ => words::print_refused_store_of(f, octets, of),
     }
-    words::print_refused_store_of(f, octets, of);
 }
 
 pub fn print_accepted(steps: usize) {
@@ -160,6 +143,5 @@ pub fn print_accepted(steps: usize) {
 pub fn print_progress(steps: usize) {
     let l = say_number(say(empty(), b"recording: "), steps as u64);
     let l = say(l, b" steps\n");
-    let text = l.text;
-    io::write_all(STDERR, first(&text, l.at));
+    io::write_all(STDERR, &l.text[..l.at]);
 }

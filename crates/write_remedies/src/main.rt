@@ -5,11 +5,10 @@ mod text;
 mod why;
 
 use files::Host;
-use gateway::{Refusal, Wrote};
+use gateway::Refusal;
 use saying::STDOUT;
-use spelling::NO_LANGUAGE;
 use std::rt::Env;
-use text::{Area, Given, first, first_lengths};
+use text::{Area, Given, first};
 
 fn help() {
     io::write_all(
@@ -48,12 +47,7 @@ is taken away.
 }
 
 fn print_refused(f: Refusal, keys: &[u8], lengths: &[u16]) {
-    saying::print(why::say_more(
-        words::say_refused(f, b""),
-        gateway::number(f),
-        keys,
-        lengths,
-    ));
+    saying::print(why::say_more(words::say_refused(f, b""), f, keys, lengths));
 }
 
 fn print_written(language: u16, n: usize, octets: usize) {
@@ -69,60 +63,51 @@ fn print_written(language: u16, n: usize, octets: usize) {
     saying::print(saying::say(saying::say_number(l, octets as u64), b" octets"));
 }
 
-fn end(
-    rt: &impl Host,
-    wrote: Wrote,
-    language: u16,
-    keys: &[u8],
-    lengths: &[u16],
-    out: &[u8; 2400],
-) {
-    match wrote {
-        Wrote::Refused(f) => print_refused(f, keys, lengths),
-        Wrote::Octets(n) => {
-            if words::write_remedies(rt, 2, 1, first(out, n)) {
-                print_written(language, keys.len(), n);
-            }
-        }
-    }
-}
-
 fn write(
     rt: &impl Host,
     g: Given,
+    language: u16,
+    ordered: bool,
     head: &[u8; 6],
     carried: &[u8; 12],
     keys: &[u8; 9],
     lengths: &[u16; 9],
     area: &Area,
 ) {
-    if 65535 < g.language {
-        return;
-    }
-    let language = g.language as u16;
-    let n = g.texts;
-    let keys = first(keys, n);
-    let lengths = first_lengths(lengths, n);
+    let keys = first(keys, g.texts);
+    let lengths = first(lengths, g.texts);
     let area = first(area, g.octets);
     // Nine texts of 128 characters have room: what is refused is refused as such.
     let mut out = [0u8; 2400];
     let wrote = gateway::write_area(
-        head, carried, language, g.ordered, keys, lengths, area, &mut out,
+        head,
+        carried,
+        language,
+        ordered as u8,
+        keys,
+        lengths,
+        area,
+        &mut out,
     );
-    end(rt, wrote, language, keys, lengths, &out);
+    match wrote {
+        Err(f) => print_refused(f, keys, lengths),
+        Ok(n) => {
+            if words::write_remedies(rt, 2, 1, first(&out, n)) {
+                print_written(language, keys.len(), n);
+            }
+        }
+    }
 }
 
-// Where a line is missing, an error line says which.
-fn is_whole(rt: &impl Env, g: Given) -> bool {
-    if g.language == NO_LANGUAGE {
+// The language, and whether it was ordered; where a line is missing, an error line says which.
+fn language_in(rt: &impl Env, g: Given) -> Option<(u16, bool)> {
+    let whole = g.language.zip(g.ordered);
+    if g.language.is_none() {
         saying::print_word(rt, 1, b"FILE", b"no line `language`");
-        return false;
-    }
-    if 1 < g.ordered {
+    } else if g.ordered.is_none() {
         saying::print_word(rt, 1, b"FILE", b"no line `ordered`");
-        return false;
     }
-    true
+    whole
 }
 
 fn read_lines(rt: &impl Host, given: &[u8]) {
@@ -140,21 +125,21 @@ fn read_lines(rt: &impl Host, given: &[u8]) {
         &mut lengths,
         &mut area,
     );
-    if g.fault != 0 {
+    let Some(g) = g else {
         return;
-    }
-    if is_whole(rt, g) {
-        write(rt, g, &head, &carried, &keys, &lengths, &area);
+    };
+    if let Some((language, ordered)) = language_in(rt, g) {
+        write(
+            rt, g, language, ordered, &head, &carried, &keys, &lengths, &area,
+        );
     }
 }
 
 fn ask(rt: &impl Host) {
     let mut given = [0u8; 65537];
-    let f = files::read(rt, 1, b"FILE", &mut given);
-    if !f.ok {
+    let Some(n) = files::read(rt, 1, b"FILE", &mut given) else {
         return;
-    }
-    let n = f.octets;
+    };
     if n == 65537 {
         files::print_long(rt, 1, b"FILE", 65536);
         return;

@@ -1,12 +1,10 @@
 // Which text a telegram is refused for.
+use gateway::Refusal;
 use saying::{Line, say};
 
 // Octet k; 0 past the last.
 fn octet(s: &[u8], k: usize) -> u8 {
-    if s.len() <= k {
-        return 0;
-    }
-    s[k]
+    s.get(k).copied().unwrap_or(0)
 }
 
 fn say_key(line: Line, keys: &[u8], k: usize) -> Line {
@@ -15,55 +13,36 @@ fn say_key(line: Line, keys: &[u8], k: usize) -> Line {
 
 // Whether one of the keys before k is the same.
 fn is_again(keys: &[u8], k: usize) -> bool {
-    let mut j = 0;
-    while j < k {
-        if octet(keys, j) == octet(keys, k) {
-            return true;
-        }
-        j += 1;
-    }
-    false
+    (0..k).any(|j| octet(keys, j) == octet(keys, k))
 }
 
 fn first_again(keys: &[u8]) -> usize {
-    let mut k = 0;
-    while k < keys.len() {
-        if is_again(keys, k) {
-            return k;
-        }
-        k += 1;
-    }
-    k
+    let n = keys.len();
+    (0..n).find(|&k| is_again(keys, k)).unwrap_or(n)
 }
 
 // The first text of more than 127 characters.
 fn first_long(lengths: &[u16]) -> usize {
-    let mut k = 0;
-    while k < lengths.len() {
-        if 254 < lengths[k] {
-            return k;
-        }
-        k += 1;
+    let n = lengths.len();
+    lengths.iter().position(|&size| 254 < size).unwrap_or(n)
+}
+
+fn say_field(line: Line, keys: &[u8], lengths: &[u16]) -> Line {
+    match keys.len() {
+        0 => say(line, b": no text"),
+        1..=8 => say(
+            say_key(line, keys, first_long(lengths)),
+            b" has more than 127 characters",
+        ),
+        _ => say(line, b": more than 8 texts"),
     }
-    k
 }
 
 // The first text that is at fault decides the number, so that what is looked for is the first of its kind.
-pub fn say_more(line: Line, number: u8, keys: &[u8], lengths: &[u16]) -> Line {
-    if number == 30 {
-        return say_key(line, keys, first_again(keys));
+pub fn say_more(line: Line, f: Refusal, keys: &[u8], lengths: &[u16]) -> Line {
+    match f {
+        Refusal::KeyTwice => say_key(line, keys, first_again(keys)),
+        Refusal::RemedyField => say_field(line, keys, lengths),
+        _ => line,
     }
-    if number != 29 {
-        return line;
-    }
-    if keys.len() == 0 {
-        return say(line, b": no text");
-    }
-    if 8 < keys.len() {
-        return say(line, b": more than 8 texts");
-    }
-    say(
-        say_key(line, keys, first_long(lengths)),
-        b" has more than 127 characters",
-    )
 }

@@ -6,4 +6,4 @@ use Rattle.recording.proofs.pieces.number_in.Goals as goal
 pub returns : goal.returns
 returns c =
     let l = c.args.octets.now in
-    (omega (arith, number_split l 0 2 2, number_two l 0, number_two l 2, c.wide.ensures, c.wide-2.ensures, c.wide-3.ensures, c.wide-4.ensures), search rules)
+    (omega (arith, number_split l 0 2 2, number_two l 0, number_two l 2), search rules)
