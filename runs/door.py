@@ -38,8 +38,8 @@ def sources(crate):
 
 
 def code(text):
-    """The lines that are neither comment nor ghost."""
-    return [(n, line) for n, line in enumerate(text.splitlines(), 1) if not re.match(r"\s*(//|ghost |requires |ensures )", line)]
+    """The lines that are neither comment nor ghost, nor say how a proof is found."""
+    return [(n, line) for n, line in enumerate(text.splitlines(), 1) if not re.match(r"\s*(//|ghost |requires |ensures |#\[tactic\()", line)]
 
 
 def items(text):
@@ -68,7 +68,10 @@ def past_promises(product, allowed):
     """Each law of another crate that a product uses."""
     for path, text in logic(product):
         for n, line in enumerate(text.splitlines(), 1):
-            for crate in re.findall(r"\buse Rattle\.(\w+)\.proofs\b", line):
+            named = re.findall(r"\buse Rattle\.(\w+)\.proofs\b", line)
+            if line.lstrip().startswith("#[tactic("):
+                named += [crate for crate in re.findall(r"\b(\w+)::proofs::", line) if crate != "crate"]
+            for crate in named:
                 if crate not in allowed | KIT | {product}:
                     yield f"{path}:{n}: {product} uses a law of {crate}"
 
