@@ -42,7 +42,7 @@ NOTHING = {
 # .. and of these a fact fails: the answer that stands there, or the search, no longer proves it. A line can't say that nothing else would, and
 # a search that finds nothing is less than two sides that differ: so the kinds are counted.
 FACT = {
-    "sides-differ": r"the two (types|sides)( first)? differ |the two types are `|expected type `|` ≟ `",
+    "sides-differ": r"the two (types|sides)( first)? differ |the two types are `|computed as a goal is, one side reads `|expected type `|` ≟ `",
     "search": r"`search`: no proof of",
     "omega": r"`omega`: the (goal|part `[^`]*` of the goal) does not follow",
     "left-over": r"give a proof of that as the last argument",
