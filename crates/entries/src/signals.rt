@@ -3,7 +3,6 @@
 
 ghost use Rattle.std.specs.Prelude.{◌≡◌, ◌+◌, ◌^◌, ◌<◌, ◌≤◌, length};
 ghost use Rattle.paper.specs.SignalList.{entry};
-ghost use Rattle.paper.specs.Accepted.{Sized};
 ghost use Rattle.octets.specs.Fields.{NumberRead};
 ghost use Rattle.entries.specs.Entries.{SignalRead, OctetRead};
 
@@ -15,7 +14,7 @@ pub struct Signals<'a> {
     pub tail: &'a [u8],
     pub size: usize,
     pub count: usize,
-    pub ghost sized: { Sized size },
+    pub ghost sized: { 16 ≤ size },
     pub ghost present: { entry size count ≤ length tail.now },
 }
 
@@ -69,7 +68,7 @@ impl Signals<'_> {
     // Inner: the width of signal k, which need not exist.
     #[tactic(auto, unfolding(paper::specs::SignalList::signal_at))]
     pub fn width_at(&self, k: usize) -> usize
-        requires { k < 65536 }
+        requires { (self.now.size ≤ 18) × (k < 65536) }
         ensures { OctetRead (signals_as self.now k).width result }
     {
         octet_at(self.tail, 2 + self.size * k + 2)

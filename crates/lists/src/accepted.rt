@@ -31,7 +31,7 @@ impl<'a> AcceptedList<'a> {
     }
 
     // The rest of the list from its signals' count on.
-    fn signals_part(&self) -> &'a [u8]
+    pub fn signals_part(&self) -> &'a [u8]
         ensures { result.now ≡ signals_part self.now.octets.now (counts_of self.now.counts) }
     {
         rest(self.octets, CHECK_SIZE, self.counts.checks)
@@ -45,7 +45,7 @@ impl<'a> AcceptedList<'a> {
     }
 
     // From its routes' count on.
-    fn routes_part(&self) -> &'a [u8]
+    pub fn routes_part(&self) -> &'a [u8]
         ensures { result.now ≡ routes_part self.now.octets.now (counts_of self.now.counts) }
     {
         rest(self.codes_part(), CODE_SIZE, self.counts.codes)
@@ -62,7 +62,7 @@ impl<'a> AcceptedList<'a> {
         }
     }
 
-    // Check j.
+    // Inner: check j.
     pub fn check(&self, j: usize) -> usize
         requires { j < self.now.counts.checks }
         ensures { CheckRead ((list_as self.now).check j) result }
@@ -70,7 +70,7 @@ impl<'a> AcceptedList<'a> {
         entries::check_at(self.octets, j)
     }
 
-    // Signal k.
+    // Inner: signal k.
     pub fn signal(&self, k: usize) -> Signal
         requires { k < self.now.counts.signals }
         ensures { SignalRead ((list_as self.now).signal k) result }
@@ -78,7 +78,7 @@ impl<'a> AcceptedList<'a> {
         self.signals().get(k)
     }
 
-    // Code entry e.
+    // Inner: code entry e.
     pub fn code(&self, e: usize) -> Code
         requires { e < self.now.counts.codes }
         ensures { CodeRead (codes_part self.now.octets.now (counts_of self.now.counts)) e result }
@@ -86,7 +86,7 @@ impl<'a> AcceptedList<'a> {
         entries::code_at(self.codes_part(), e)
     }
 
-    // Route r.
+    // Inner: route r.
     pub fn route(&self, r: usize) -> Route
         requires { r < self.now.counts.routes }
         ensures { RouteRead (routes_part self.now.octets.now (counts_of self.now.counts)) r result }
@@ -94,7 +94,7 @@ impl<'a> AcceptedList<'a> {
         entries::route_at(self.routes_part(), r)
     }
 
-    // The width of signal k, which a route to it has too.
+    // Inner: the width of signal k, which a route to it has too.
     pub fn width(&self, k: usize) -> usize
         requires { k < self.now.counts.signals }
         ensures { OctetRead ((list_as self.now).signal k).width result }
@@ -102,7 +102,7 @@ impl<'a> AcceptedList<'a> {
         self.signals().width(k)
     }
 
-    // The place of the check that the signal names, 0 for none: the same check may have another number in another list.
+    // Inner: the place of the check that the signal names, 0 for none: the same check may have another number in another list.
     pub fn place(&self, s: Signal) -> usize
         requires { s.check ≤ self.now.counts.checks }
         ensures { result ≡ place_of (list_as self.now) (signal_of s) }

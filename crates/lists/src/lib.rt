@@ -157,32 +157,35 @@ fn common_checks(list: &[u8], checks: usize) -> usize
 // Inner: the offset of the first signal that breaks its rule, or the end of the section. Each is tested by its own rule and then against the checks from
 // the first that may share a bit with it to the first at or past its end: checks rise, and starts do within a type.
 pub fn first_bad_signal(list: &[u8], checks: usize, signals: &Signals) -> usize
-    requires { (entry check_size checks ≤ length list.now) × (all (check_rule (check_at list.now)) checks ≡ true) }
+    requires checks_in_bounds { (entry check_size checks ≤ length list.now) × (all (check_rule (check_at list.now)) checks ≡ true) }
+    requires sized { Sized signals.now.size }
     ensures { result ≡ entry signals.now.size (first_bad (signal_rule checks (check_at list.now) (signals_as signals.now)) signals.now.count) }
 {
     let common = common_checks(list, checks);
     let mut kind = 0;
     let mut past = 0;
     let mut from = 0;
-    for k in 0..signals.count {
-        let s = signals.get(k);
-        if !entries::signal_own(checks, common, kind, past, s) {
-            return 2 + signals.size * k;
-        }
-        let end = s.start + s.width;
-        let mut j = resumed(past, s, from);
-        // While: to the first check past the end, which the next signal goes on from.
-        while entries::check_before(list, checks, j, end) {
-            if s.start < entries::check_at(list, j) + 2 {
-                return 2 + signals.size * k;
+    'signals: {
+        for k in 0..signals.count {
+            let s = signals.get(k);
+            if !entries::signal_own(checks, common, kind, past, s) {
+                break 'signals 2 + signals.size * k;
             }
-            j += 1;
+            let end = s.start + s.width;
+            let mut j = resumed(past, s, from);
+            // While: to the first check past the end, which the next signal goes on from.
+            while entries::check_before(list, checks, j, end) {
+                if s.start < entries::check_at(list, j) + 2 {
+                    break 'signals 2 + signals.size * k;
+                }
+                j += 1;
+            }
+            from = j;
+            kind = s.kind;
+            past = end;
         }
-        from = j;
-        kind = s.kind;
-        past = end;
+        2 + signals.size * signals.count
     }
-    2 + signals.size * signals.count
 }
 
 // The least key of a code entry behind c.

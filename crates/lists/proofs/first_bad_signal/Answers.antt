@@ -44,7 +44,7 @@ loop-k-preserved c =
     record {
       passed = passed_more i.passed c.loop-k-test.true
           (own_passes _ _ _ _ c.common_checks-common.ensures i.type i.end c.get-s.ensures.is c.signal_own.ensures (ap not c.if-not-signal_own.false)
-          (shares_none _ _ (signal_of c.get-s.result) _ c.requires.1 c.loop-kind.invariant (sym c.check_before.ensures ∙ c.loop-kind-test.false))) refl;
+          (shares_none _ _ (signal_of c.get-s.result) _ c.requires.checks_in_bounds.1 c.loop-kind.invariant (sym c.check_before.ensures ∙ c.loop-kind-test.false))) refl;
       type = before_next _ (ap (λ (x : Signal). x.type) c.get-s.ensures.is);
       end = before_next _ (ap field_end c.get-s.ensures.is);
       behind = behind_later c.loop-kind.invariant _ (omega arith);
@@ -65,5 +65,5 @@ returns-then-s-check_at c =
     (own_passes _ _ _ _ c.common_checks-common.ensures i.type i.end c.get-s.ensures.is c.signal_own.ensures (ap not c.if-not-signal_own.false)
     (shares_one _ _ (signal_of c.get-s.result) _ (sym c.check_before.ensures ∙ c.loop-kind-test.true) (rw c.check_at.ensures.is at c.if-s-check_at.true))) refl)
 
-pub returns : goal.returns
-returns c = ap (entry c.args.signals.now.size) (fails_nowhere c.loop-k.invariant.passed c.loop-k-test.false)
+pub returns-after-loop-k : goal.returns-after-loop-k
+returns-after-loop-k c = ap (entry c.args.signals.now.size) (fails_nowhere c.loop-k.invariant.passed c.loop-k-test.false)
