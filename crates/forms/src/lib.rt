@@ -14,6 +14,9 @@ use entries::{CHECK_SIZE, SERIAL_SIZE, SIGNAL_SIZE};
 use lists::{Counts, FORM_1, FORM_2};
 use refusals::Refusal;
 
+// A signal's entry in form 2.
+const SERIAL_ENTRY: usize = SIGNAL_SIZE + SERIAL_SIZE;
+
 // The serial number of signal k of an accepted list: 0 in form 1, which has none.
 fn serial_in(list: &[u8], n: Counts, k: usize) -> usize
     requires { (InSomeForm list.now (counts_of n)) × (k < n.signals) }
@@ -39,25 +42,26 @@ fn any_serial(list: &[u8], n: Counts) -> bool
     false
 }
 
-// The list with signal entries of `size` octets into `out`: what stands before the first, of each its first 16 and zeros, and the rest. Refused: 33.
-fn resize(list: &[u8], n: Counts, size: usize, out: &mut [u8]) -> Result<(), Refusal>
+// The list with signal entries of `SIZE` octets into `out`: what stands before the first, of each its first 16 and zeros, and the rest. Refused: 33.
+// A size that the compiler knows: the zeros of an entry are then no call.
+fn resize<const SIZE: usize>(list: &[u8], n: Counts, out: &mut [u8]) -> Result<(), Refusal>
     requires laid { Laid list.now (counts_of n) }
-    requires sized { Sized size }
-    ensures { Written (resizing size list.now (counts_of n) (length out.old)) out.old result out.new }
+    requires sized { Sized SIZE }
+    ensures { Written (resizing SIZE list.now (counts_of n) (length out.old)) out.old result out.new }
 {
-    if out.len() != list.len() - n.size * n.signals + size * n.signals {
+    if out.len() != list.len() - n.size * n.signals + SIZE * n.signals {
         return Err(Refusal::FormOutput);
     }
     let start = 2 + CHECK_SIZE * n.checks + 2;
     octets::copy_over(out, 0, &list[..start]);
     for k in 0..n.signals {
         let from = start + n.size * k;
-        let at = start + size * k;
+        let at = start + SIZE * k;
         octets::copy_over(out, at, &list[from..from + SIGNAL_SIZE]);
-        octets::fill_zero(out, at + SIGNAL_SIZE, size - SIGNAL_SIZE);
+        octets::fill_zero(out, at + SIGNAL_SIZE, SIZE - SIGNAL_SIZE);
     }
     let end = start + n.size * n.signals;
-    octets::copy_over(out, start + size * n.signals, &list[end..]);
+    octets::copy_over(out, start + SIZE * n.signals, &list[end..]);
     Ok(())
 }
 
@@ -67,7 +71,7 @@ pub fn to_form_2(list: &[u8], out: &mut [u8]) -> Result<(), Refusal>
     ensures { Written (to_form2 list.now (length out.old)) out.old result out.new }
 {
     let n = lists::judge(list, FORM_1)?;
-    resize(list, n, SIGNAL_SIZE + SERIAL_SIZE, out)
+    resize::<SERIAL_ENTRY>(list, n, out)
 }
 
 // Moves a list in form 2 to form 1 into `out`. Refused: 1 to 4, then 32 where a serial number is not 0, and 33, and `out` stays as it was.
@@ -79,7 +83,7 @@ pub fn to_form_1(list: &[u8], out: &mut [u8]) -> Result<(), Refusal>
     if any_serial(list, n) {
         return Err(Refusal::SerialSet);
     }
-    resize(list, n, SIGNAL_SIZE, out)
+    resize::<SIGNAL_SIZE>(list, n, out)
 }
 
 // The serial number of a signal; 0 in form 1. Refused: 1 to 4, 11.

@@ -6,4 +6,4 @@ use Rattle.forms.proofs.Laws.{resized_to}
 use Rattle.forms.proofs.resize.Given as goal
 
 abbrev pub invariant-loop-k : goal.invariant-loop-k
-invariant-loop-k l = l.out ≡ over l.fn.out 0 (resized_to l.size l.list (counts_of l.n) l.k)
+invariant-loop-k g l = l.out ≡ over l.fn.out 0 (resized_to g.row.SIZE l.list (counts_of l.n) l.k)

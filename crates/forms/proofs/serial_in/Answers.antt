@@ -27,7 +27,7 @@ pub overflow_add-n-2 : goal.overflow_add-n-2
 overflow_add-n-2 c = omega (arith, there (goal.at.overflow_add-n-2 c).After-rest-signals)
 
 pub read16-requires : goal.read16-requires
-read16-requires c = there (goal.at.read16-requires c).After-rest-signals
+read16-requires c = omega (arith, there (goal.at.read16-requires c).After-rest-signals)
 
 pub returns : goal.returns
 returns c = serial_there _ _ _ _ (long_entry _ (counts_of c.args.n) c.requires.0 c.if-n-eq-SIGNAL_SIZE.false) (rw c.rest-signals.ensures at c.read16.ensures.value)
