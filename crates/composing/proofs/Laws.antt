@@ -9,12 +9,12 @@ use lib.Seq.{drop-length}
 use borrow.Author.Tests.{leb-true, eqb-true, not-false}
 use Rattle.paper.specs.Octets.{over}
 use Rattle.std.specs.Prelude.{Result}
-use Rattle.paper.specs.Answer.{Answer, gives}
+use Rattle.paper.specs.Answer.{Answer, gives, and_then}
 use Rattle.paper.specs.Telegrams.{type_length, mark_width}
-use Rattle.paper.specs.SignalList.{SignalList, under_list}
-use Rattle.paper.specs.Composing.{writes_signal, writes_check, headed, composing_by}
+use Rattle.paper.specs.SignalList.{SignalList, judge, list_of, under_list}
+use Rattle.paper.specs.Composing.{writes_signal, writes_check, headed, composing_by, composing}
 use Rattle.paper.proofs.ListLaws.{kept_of, version_here}
-use Rattle.paper.proofs.AnswerLaws.{not_refused, past}
+use Rattle.paper.proofs.AnswerLaws.{not_refused, past, same_then}
 use Rattle.bools.proofs.Tests.{both}
 use Rattle.paper.specs.Accepted.{Kept}
 use Rattle.paper.proofs.ComposingLaws.{carried_within, version_octet}
@@ -67,6 +67,11 @@ version_small l =
 pub tested_by : (l : SignalList) (type : ℕ) (values marks : List ℕ) (room : ℕ) → composing_by type values marks room l ≡ composing_under l type values marks room
 unfolding composing_tests
 tested_by l type values marks room = past _ 9 0 _ _ _ (past _ 13 0 _ _ _ (past _ 14 0 _ _ _ (past _ 15 _ _ _ _ (past _ 16 0 _ _ _ refl))))
+
+pub tested : (form : ℕ) (xs : List ℕ) (type : ℕ) (values marks : List ℕ) (room : ℕ)
+    → composing form xs type values marks room ≡ and_then (judge form xs) (λ n. composing_under (list_of xs n) type values marks room)
+unfolding composing
+tested form xs type values marks room = same_then (judge form xs) _ _ (λ n. tested_by (list_of xs n) type values marks room)
 
 -- what the tests ask of the sizes
 pub sized : (l : SignalList) (type : ℕ) (values marks : List ℕ) (room : ℕ) → gives tt ≡ composing_tests l type values marks room

@@ -107,8 +107,9 @@ const ROWS: [Row; 17] = [
 pub fn check_place(bit: u64) -> Result<usize, Refusal>
     ensures { place_answer result ≡ check_place bit }
 {
-    // The constant, not a `static`: so a row's place stands in the code, and none is loaded.
-    for row in ROWS {
+    // Once, and not at each turn: a constant is built where it stands. Not a `static`: so a row's place stands in the code, and none is loaded.
+    let rows = ROWS;
+    for row in rows {
         if row.from <= bit && bit < row.end {
             return Ok(row.place);
         }

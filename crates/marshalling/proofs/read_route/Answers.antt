@@ -1,6 +1,7 @@
 -- `marshalling::read_route` meets its contract. Assumes nothing.
 use Prim.Native.Nat.{◌^◌, ◌<◌}
 use mathlib.Core.Path.{ap, ◌∙◌}
+use native.Mathlib.Omega.{arith}
 use Rattle.paper.specs.SignalList.{Route}
 use Rattle.paper.specs.Store.{slot_from}
 use Rattle.paper.specs.Reading.{Reading, reading_at}
@@ -17,7 +18,7 @@ entries_at-own-requires c = (c.requires.0, (route_of_list c.args.list.now c.rout
 pub slot-slot-requires : goal.slot-slot-requires
 slot-slot-requires c =
     let r = route_of_list c.args.list.now c.route-t.ensures.is c.requires.2 in
-    (c.requires.1, r.first, r.last)
+    (c.requires.1, omega (arith, r.first), omega (arith, r.last))
 
 pub read_slot-reading-requires : goal.read_slot-reading-requires
 read_slot-reading-requires c = ((route_of_list c.args.list.now c.route-t.ensures.is c.requires.2).exists, c.entries_at-own.ensures)
