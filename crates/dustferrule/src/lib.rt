@@ -25,6 +25,7 @@ ghost use Rattle.paper.specs.Recordings.{checking};
 ghost use Rattle.paper.specs.ETelegrams.{e_reading, answering};
 ghost use Rattle.paper.specs.Remedies.{area_blocks, remedy_reading, remedy_block, remedy_writing};
 ghost use Rattle.refusals.specs.Outcome.{outcome_of};
+ghost use Rattle.refusals.specs.Refusal.{number_of, carried_of};
 ghost use Rattle.lists.specs.Judged.{judged_answer};
 ghost use Rattle.profiles.specs.Profiles.{profile_of};
 ghost use Rattle.extending.specs.Extending.{extends_answer};
@@ -316,6 +317,17 @@ impl From<Result<Counts, Refusal>> for DfJudged {
     }
 }
 
+fn extending_refused(f: Refusal, which: u32) -> DfExtending
+    ensures { result ≡ record { refusal = number_of f; which = which; carried = carried_of f; extends = 0 } }
+{
+    DfExtending {
+        refusal: f.number().into(),
+        which,
+        carried: f.carried() as u64,
+        ..DfExtending::default()
+    }
+}
+
 impl From<Result<bool, ListRefused>> for DfExtending {
     ghost from_gives = { λ r d. d ≡ extending_c (extends_answer r) };
 
@@ -325,18 +337,8 @@ impl From<Result<bool, ListRefused>> for DfExtending {
                 extends: extends.into(),
                 ..DfExtending::default()
             },
-            Err(ListRefused::First(f)) => DfExtending {
-                refusal: f.number().into(),
-                which: FIRST,
-                carried: f.carried() as u64,
-                ..DfExtending::default()
-            },
-            Err(ListRefused::Second(f)) => DfExtending {
-                refusal: f.number().into(),
-                which: SECOND,
-                carried: f.carried() as u64,
-                ..DfExtending::default()
-            },
+            Err(ListRefused::First(f)) => extending_refused(f, FIRST),
+            Err(ListRefused::Second(f)) => extending_refused(f, SECOND),
         }
     }
 }
