@@ -75,7 +75,7 @@ fn line_of(asked: Asked, k: usize, s: Signal, serial: usize, r: Reading) -> Line
     let l = saying::say(saying::say_right(l, 7, k as u64), b"  ");
     let l = words::say_signal(l, asked.form, s, serial);
     let l = saying::say(saying::say_right(l, asked.column, r.value), b"  ");
-    words::say_reason(l, r.reason)
+    words::say_reason(l, r.reason.number())
 }
 
 fn one_signal(
@@ -100,7 +100,7 @@ fn one_signal(
         let l = line_of(asked, k, s, serial, r);
         saying::add(page, words::say_shown(l, shown));
     }
-    words::count_reason(totals, r.reason)
+    words::count_reason(totals, r.reason.number())
 }
 
 fn print_head(page: &mut Page, store: &[u8], asked: Asked) {
@@ -219,11 +219,11 @@ fn judge(list: &[u8], store: &[u8], asked: Asked) {
 
 fn read_files(rt: &impl Host, asked: Asked) {
     let mut list = [0u8; LONGEST + 1];
-    let Some(n) = files::read(rt, 1, b"LIST", &mut list) else {
+    let Ok(n) = files::read(rt, 1, b"LIST", &mut list) else {
         return;
     };
     let mut store = [0u8; STORE + 1];
-    let Some(m) = files::read(rt, 2, b"STORE", &mut store) else {
+    let Ok(m) = files::read(rt, 2, b"STORE", &mut store) else {
         return;
     };
     judge(&list[..n], &store[..m], asked);

@@ -166,7 +166,7 @@ fn ask(rt: &impl Host, n: usize) {
         return;
     }
     let mut records = [0u8; OCTETS + 1];
-    let Some(n) = files::read(rt, 1, b"RECORDS", &mut records) else {
+    let Ok(n) = files::read(rt, 1, b"RECORDS", &mut records) else {
         return;
     };
     if n == OCTETS + 1 {

@@ -121,11 +121,11 @@ fn compare(a: &[u8], b: &[u8], asked: Asked) {
 // One octet more than the longest list: what follows cannot change the answer.
 fn read_lists(rt: &impl Host, asked: Asked) {
     let mut a = [0u8; LONGEST + 1];
-    let Some(m) = files::read(rt, 1, b"FIRST", &mut a) else {
+    let Ok(m) = files::read(rt, 1, b"FIRST", &mut a) else {
         return;
     };
     let mut b = [0u8; LONGEST + 1];
-    let Some(n) = files::read(rt, 2, b"SECOND", &mut b) else {
+    let Ok(n) = files::read(rt, 2, b"SECOND", &mut b) else {
         return;
     };
     compare(&a[..m], &b[..n], asked);

@@ -59,7 +59,7 @@ pub fn form_of_table(asked: Asked) -> u8 {
 }
 
 fn write(line: Line) {
-    io::write_all(STDOUT, &line.text[..line.at]);
+    io::write_all(STDOUT, saying::said(&line));
 }
 
 // A line of many ranges is longer than one in memory: what has come of it is written where the next field might not find room.

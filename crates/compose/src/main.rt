@@ -168,7 +168,7 @@ fn judge(rt: &impl Host, list: &[u8], form: u8, kind: usize, given: &[u8]) {
 
 fn read_values(rt: &impl Host, list: &[u8], form: u8, kind: usize) {
     let mut given = [0u8; 65537];
-    let Some(n) = files::read(rt, 3, b"VALUES", &mut given) else {
+    let Ok(n) = files::read(rt, 3, b"VALUES", &mut given) else {
         return;
     };
     if n == 65537 {
@@ -180,7 +180,7 @@ fn read_values(rt: &impl Host, list: &[u8], form: u8, kind: usize) {
 
 fn read_files(rt: &impl Host, kind: usize, form: u8) {
     let mut list = [0u8; LONGEST + 1];
-    let Some(n) = files::read(rt, 1, b"LIST", &mut list) else {
+    let Ok(n) = files::read(rt, 1, b"LIST", &mut list) else {
         return;
     };
     read_values(rt, &list[..n], form, kind);

@@ -135,7 +135,7 @@ fn judge(rt: &impl Host, list: &[u8], form: u8) {
 
 fn read_list(rt: &impl Host, form: u8) {
     let mut list = [0u8; LONGEST + 1];
-    let Some(n) = files::read(rt, 1, b"LIST", &mut list) else {
+    let Ok(n) = files::read(rt, 1, b"LIST", &mut list) else {
         return;
     };
     judge(rt, &list[..n], form);

@@ -92,7 +92,7 @@ fn vehicle_line(vehicle: usize, reason: Reason) -> Line {
     } else {
         saying::say(l, b"  not known  ")
     };
-    words::say_reason(l, reason)
+    words::say_reason(l, reason.number())
 }
 
 fn print_vehicle(
@@ -156,7 +156,7 @@ fn answer(list: &[u8], store: &[u8], marks: &[u8], asked: Asked) {
 // A longer consist is cut behind the first octet too many, which 17 refuses.
 fn with_consist(rt: &impl Host, list: &[u8], store: &[u8], asked: Asked) {
     let mut marks = [0u8; VEHICLES + 1];
-    let Some(n) = files::read(rt, 4, b"CONSIST", &mut marks) else {
+    let Ok(n) = files::read(rt, 4, b"CONSIST", &mut marks) else {
         return;
     };
     answer(list, store, &marks[..n], asked);
@@ -164,11 +164,11 @@ fn with_consist(rt: &impl Host, list: &[u8], store: &[u8], asked: Asked) {
 
 fn read_files(rt: &impl Host, asked: Asked) {
     let mut list = [0u8; LONGEST + 1];
-    let Some(n) = files::read(rt, 1, b"LIST", &mut list) else {
+    let Ok(n) = files::read(rt, 1, b"LIST", &mut list) else {
         return;
     };
     let mut store = [0u8; STORE + 1];
-    let Some(m) = files::read(rt, 2, b"STORE", &mut store) else {
+    let Ok(m) = files::read(rt, 2, b"STORE", &mut store) else {
         return;
     };
     with_consist(rt, &list[..n], &store[..m], asked);

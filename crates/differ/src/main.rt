@@ -133,7 +133,7 @@ fn say_side(line: Line, column: usize, side: Option<Side>) -> Line {
     let r = side.reading;
     words::say_reason(
         saying::say(saying::say_right(line, column, r.value), b"  "),
-        r.reason,
+        r.reason.number(),
     )
 }
 
@@ -575,7 +575,7 @@ fn read_behind(rt: &impl Host, first: &[u8], second: &[u8], store: &[u8], asked:
         return;
     }
     let mut other = [0u8; STORE + 1];
-    let Some(m) = files::read(rt, 6, b"second STORE", &mut other) else {
+    let Ok(m) = files::read(rt, 6, b"second STORE", &mut other) else {
         return;
     };
     compare(rt, first, second, store, &other[..m], asked);
@@ -583,11 +583,11 @@ fn read_behind(rt: &impl Host, first: &[u8], second: &[u8], store: &[u8], asked:
 
 fn read_others(rt: &impl Host, first: &[u8], asked: Asked) {
     let mut second = [0u8; LONGEST + 1];
-    let Some(n) = files::read(rt, 2, b"second LIST", &mut second) else {
+    let Ok(n) = files::read(rt, 2, b"second LIST", &mut second) else {
         return;
     };
     let mut store = [0u8; STORE + 1];
-    let Some(m) = files::read(rt, 3, b"STORE", &mut store) else {
+    let Ok(m) = files::read(rt, 3, b"STORE", &mut store) else {
         return;
     };
     read_behind(rt, first, &second[..n], &store[..m], asked);
@@ -595,7 +595,7 @@ fn read_others(rt: &impl Host, first: &[u8], asked: Asked) {
 
 fn read_files(rt: &impl Host, asked: Asked) {
     let mut first = [0u8; LONGEST + 1];
-    let Some(n) = files::read(rt, 1, b"first LIST", &mut first) else {
+    let Ok(n) = files::read(rt, 1, b"first LIST", &mut first) else {
         return;
     };
     read_others(rt, &first[..n], asked);

@@ -35,11 +35,11 @@ fn show(found: Result<bool, ListRefused>) {
 // One octet more than the longest list: what follows cannot change the answer.
 fn compare(rt: &impl Host, first_form: u8, second_form: u8) {
     let mut a = [0u8; LONGEST + 1];
-    let Some(m) = files::read(rt, 1, b"FIRST", &mut a) else {
+    let Ok(m) = files::read(rt, 1, b"FIRST", &mut a) else {
         return;
     };
     let mut b = [0u8; LONGEST + 1];
-    let Some(n) = files::read(rt, 2, b"SECOND", &mut b) else {
+    let Ok(n) = files::read(rt, 2, b"SECOND", &mut b) else {
         return;
     };
     show(gateway::extends(&a[..m], first_form, &b[..n], second_form));

@@ -10,7 +10,7 @@ mod host;
 mod lock;
 mod path;
 
-ghost use Rattle.std.specs.Prelude.{IfOk, IfSome};
+ghost use Rattle.std.specs.Prelude.{IfOk, IfErr};
 ghost use Rattle.io.specs.Counts.{IsPrefixLen};
 
 pub use error::print_long;
@@ -34,25 +34,27 @@ pub struct Rules {
     pub second: Option<usize>,
 }
 
-// Reads until buf is full, the file ends or a read fails, and answers how many octets were read.
-fn fill(file: &mut File, buf: &mut [u8]) -> Result<usize, FileError>
-    ensures { IfOk result (λ n. IsPrefixLen n buf.new) }
+// Reads until buf is full, the file ends or a read fails, and answers how many octets were read, and how that ended.
+fn fill(file: &mut File, buf: &mut [u8]) -> (usize, Result<(), FileError>)
+    ensures { IsPrefixLen result.0 buf.new }
 {
     let mut octets = 0;
     // While: the step is what was read.
     while octets < buf.len() {
-        match file.read(&mut buf[octets..])? {
-            0 => break,
-            n => octets += n,
+        match file.read(&mut buf[octets..]) {
+            Ok(0) => break,
+            Ok(n) => octets += n,
+            Err(e) => return (octets, Err(e.into())),
         }
     }
-    Ok(octets)
+    (octets, Ok(()))
 }
 
-// Reads the file of argument i into buf, up to its end or buf's, and answers how many octets it has; None where it could not be read, which an
-// error line has said. An octet more than the longest that can be shows a file too long.
-pub fn read(rt: &impl Host, i: usize, name: &[u8], buf: &mut [u8]) -> Option<usize>
-    ensures { IfSome result (λ n. IsPrefixLen n buf.new) }
+// Reads the file of argument i into buf, up to its end or buf's, and answers how many octets it has; Err where it could not be read, which an
+// error line has said, with how many it gave before. An octet more than the longest that can be shows a file too long.
+pub fn read(rt: &impl Host, i: usize, name: &[u8], buf: &mut [u8]) -> Result<usize, usize>
+    ensures all { IfOk result (λ n. IsPrefixLen n buf.new) }
+    ensures some { IfErr result (λ n. IsPrefixLen n buf.new) }
 {
     let mut path = io::buffer();
     let n = path::path_of(rt, i, &mut path);
@@ -60,10 +62,19 @@ pub fn read(rt: &impl Host, i: usize, name: &[u8], buf: &mut [u8]) -> Option<usi
 }
 
 // The same of the path to which argument i leads.
-pub fn read_at(rt: &impl Host, i: usize, name: &[u8], path: &[u8], buf: &mut [u8]) -> Option<usize>
-    ensures { IfSome result (λ n. IsPrefixLen n buf.new) }
+pub fn read_at(
+    rt: &impl Host,
+    i: usize,
+    name: &[u8],
+    path: &[u8],
+    buf: &mut [u8],
+) -> Result<usize, usize>
+    ensures all { IfOk result (λ n. IsPrefixLen n buf.new) }
+    ensures some { IfErr result (λ n. IsPrefixLen n buf.new) }
 {
-    let mut file = open_at(rt, i, name, path)?;
+    let Some(mut file) = open_at(rt, i, name, path) else {
+        return Err(0);
+    };
     read_piece(rt, i, name, &mut file, buf)
 }
 
@@ -96,16 +107,16 @@ pub fn read_piece(
     name: &[u8],
     file: &mut File,
     buf: &mut [u8],
-) -> Option<usize>
-    ensures { IfSome result (λ n. IsPrefixLen n buf.new) }
+) -> Result<usize, usize>
+    ensures all { IfOk result (λ n. IsPrefixLen n buf.new) }
+    ensures some { IfErr result (λ n. IsPrefixLen n buf.new) }
 {
-    match fill(file, buf) {
-        Ok(octets) => Some(octets),
-        Err(error) => {
-            print_error(rt, i, name, error);
-            None
-        }
+    let (octets, ended) = fill(file, buf);
+    if let Err(error) = ended {
+        print_error(rt, i, name, error);
+        return Err(octets);
     }
+    Ok(octets)
 }
 
 pub fn is_there(rt: &impl Host, path: &[u8]) -> bool {

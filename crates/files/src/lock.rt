@@ -45,14 +45,14 @@ fn before(text: &[u8], octet: u8) -> usize
     text.iter().position(|&x| x == octet).unwrap_or(text.len())
 }
 
-// What stands at the path, as far as there is room; nothing where it can't be read.
+// What stands at the path, as far as there is room and as far as it can be read.
 fn read_into(rt: &impl Host, path: &[u8], text: &mut [u8]) -> usize
     ensures { IsPrefixLen result text.new }
 {
     let Ok(mut file) = opened(rt, path) else {
         return 0;
     };
-    fill(&mut file, text).unwrap_or(0)
+    fill(&mut file, text).0
 }
 
 fn put_host(rt: &impl Host, buf: &mut [u8], from: usize) -> usize

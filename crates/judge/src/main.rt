@@ -83,7 +83,7 @@ fn say_under(profile: Profile, list: &[u8], form: u8) {
 // By the general rules, and those of a profile behind them. One octet more than the longest list: what follows cannot change the answer.
 fn judge(rt: &impl Host, form: u8, profile: Option<Profile>) {
     let mut list = [0u8; LONGEST + 1];
-    let Some(n) = files::read(rt, 1, b"LIST", &mut list) else {
+    let Ok(n) = files::read(rt, 1, b"LIST", &mut list) else {
         return;
     };
     match profile {

@@ -78,7 +78,7 @@ fn line_of(order: Order, r: usize, t: Route, s: Signal, serial: usize, x: Readin
     let l = saying::say_right(words::say_field(l, t.start, s.width), 36, t.vehicle as u64);
     let l = words::say_signal(saying::say(l, b"  "), order.form, s, serial);
     let l = saying::say(saying::say_right(l, order.column, x.value), b"  ");
-    words::say_reason(l, x.reason)
+    words::say_reason(l, x.reason.number())
 }
 
 fn one_route(page: &mut Page, list: &[u8], store: &[u8], order: Order, r: usize, t: Route) {
@@ -220,7 +220,7 @@ fn marshal_into(
     order: Order,
 ) {
     let mut bus = [0u8; MOST + 1];
-    let Some(k) = files::read_at(rt, 4, b"DATA", path, &mut bus) else {
+    let Ok(k) = files::read_at(rt, 4, b"DATA", path, &mut bus) else {
         files::drop_new(rt, path, file);
         return;
     };
@@ -258,11 +258,11 @@ fn judge(rt: &impl Host, list: &[u8], store: &[u8], order: Order) {
 
 fn read_files(rt: &impl Host, order: Order) {
     let mut list = [0u8; LONGEST + 1];
-    let Some(n) = files::read(rt, 1, b"LIST", &mut list) else {
+    let Ok(n) = files::read(rt, 1, b"LIST", &mut list) else {
         return;
     };
     let mut store = [0u8; STORE + 1];
-    let Some(m) = files::read(rt, 2, b"STORE", &mut store) else {
+    let Ok(m) = files::read(rt, 2, b"STORE", &mut store) else {
         return;
     };
     judge(rt, &list[..n], &store[..m], order);

@@ -77,7 +77,7 @@ fn clock_in(octets: &[u8; 4]) -> u32
 
 // The next octets, so far as there are any.
 fn take_some(rt: &impl Host, file: &mut File, piece: &mut [u8]) -> Result<usize, NotHad> {
-    files::read_piece(rt, 1, b"FILE", file, piece).ok_or(NotHad)
+    files::read_piece(rt, 1, b"FILE", file, piece).map_err(|_| NotHad)
 }
 
 // Fills the piece with the next octets; `what` is what the file ends within where there are too few.

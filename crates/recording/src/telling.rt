@@ -70,7 +70,7 @@ fn say_route(list: &[u8], form: u8, route: usize, t: Route, s: Signal) -> Line {
 
 fn say_ours(value: u64, reason: Reason) -> Line {
     let l = say_right(say(empty(), b"ours"), COLUMN, value);
-    words::say_reason(say(l, b"  "), reason)
+    words::say_reason(say(l, b"  "), reason.number())
 }
 
 fn say_theirs(value: u64) -> Line {
@@ -124,7 +124,7 @@ pub fn print_wrong(
 // A refused step: of a list with the entry at fault, of a store with what can be said of its length.
 pub fn print_refused(list: &[u8], form: u8, step: usize, octets: usize, f: Refusal) {
     let l = say_number(say(empty(), b" in step "), step as u64);
-    let of = &l.text[..l.at];
+    let of = saying::said(&l);
     match f {
         Refusal::ListEnds(_)
         | Refusal::CountAbove(_)
@@ -143,5 +143,5 @@ pub fn print_accepted(steps: usize) {
 pub fn print_progress(steps: usize) {
     let l = say_number(say(empty(), b"recording: "), steps as u64);
     let l = say(l, b" steps\n");
-    io::write_all(STDERR, &l.text[..l.at]);
+    io::write_all(STDERR, saying::said(&l));
 }

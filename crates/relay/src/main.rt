@@ -124,11 +124,11 @@ fn relay(rt: &impl Host, list: &[u8], store: &[u8], asked: Asked) {
 
 fn read_files(rt: &impl Host, asked: Asked) {
     let mut list = [0u8; LONGEST + 1];
-    let Some(n) = files::read(rt, 1, b"LIST", &mut list) else {
+    let Ok(n) = files::read(rt, 1, b"LIST", &mut list) else {
         return;
     };
     let mut store = [0u8; STORE + 1];
-    let Some(m) = files::read(rt, 2, b"STORE", &mut store) else {
+    let Ok(m) = files::read(rt, 2, b"STORE", &mut store) else {
         return;
     };
     relay(rt, &list[..n], &store[..m], asked);

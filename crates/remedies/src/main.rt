@@ -123,7 +123,7 @@ fn answer(telegram: &[u8], as_file: bool) {
 // An octet more than the longest shows a telegram too long.
 fn ask(rt: &impl Host, as_file: bool) {
     let mut telegram = [0u8; REMEDIES + 1];
-    let Some(n) = files::read(rt, 1, b"TELEGRAM", &mut telegram) else {
+    let Ok(n) = files::read(rt, 1, b"TELEGRAM", &mut telegram) else {
         return;
     };
     answer(&telegram[..n], as_file);

@@ -15,6 +15,6 @@ pub use argument::{
     number_or, one_if, parse, print_usage, print_word, say_argument, say_error, say_quoted,
     words_before,
 };
-pub use line::{Line, empty, pad, print, put, say, say_number, say_right, say_tab};
+pub use line::{Line, empty, pad, print, put, said, say, say_number, say_right, say_tab};
 pub use page::{Page, add, flush, new_page};
 pub use split::{parted, word, word_count};

@@ -1,14 +1,13 @@
 // A line of output, put together in memory and written at once. What does not fit is left out.
-ghost use Rattle.std.specs.Prelude.{◌≤◌};
+ghost use Rattle.std.specs.Prelude.{◌≤◌, length};
 
-const ROOM: usize = 240;
+pub const ROOM: usize = 240;
 
 // One octet more than there is room for: the line's end.
 #[derive(Clone, Copy, Debug, PartialEq, Eq)]
 pub struct Line {
     pub at: usize,
     pub text: [u8; 241],
-    ghost in_room: { at ≤ 240 },
 }
 
 pub fn empty() -> Line {
@@ -72,9 +71,21 @@ fn begin(at: usize, column: usize, digits: usize) -> usize {
     }
 }
 
+// What a line says; nothing where it claims to say more than there is room for.
+pub fn said(line: &Line) -> &[u8]
+    ensures { length result.now ≤ 240 }
+{
+    if line.at <= ROOM {
+        return &line.text[..line.at];
+    }
+    b""
+}
+
 // The line with its end, at once.
 pub fn print(line: Line) {
     let mut text = line.text;
-    text[line.at] = b'\n';
-    io::write_all(crate::STDOUT, &text[..line.at + 1]);
+    if line.at <= ROOM {
+        text[line.at] = b'\n';
+        io::write_all(crate::STDOUT, &text[..line.at + 1]);
+    }
 }

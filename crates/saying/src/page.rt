@@ -2,7 +2,7 @@
 // behind the last, once that is written.
 ghost use Rattle.std.specs.Prelude.{◌≤◌};
 
-use crate::line::Line;
+use crate::line::{Line, said};
 
 // How much a page holds.
 const ROOM: usize = 4096;
@@ -37,10 +37,13 @@ fn add_octet(page: &mut Page, octet: u8) {
 
 // Puts the line on the page; a full page is written first.
 pub fn add(page: &mut Page, line: Line) {
+    if crate::line::ROOM < line.at {
+        return;
+    }
     if ROOM < page.filled + line.at + 1 {
         flush(page);
     }
-    for &octet in &line.text[..line.at] {
+    for &octet in said(&line) {
         add_octet(page, octet);
     }
     add_octet(page, b'\n');

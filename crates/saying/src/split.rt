@@ -1,10 +1,14 @@
 // The words of a line, and its parts.
+ghost use Rattle.std.specs.Prelude.{◌+◌, ◌≤◌, length};
+
 fn is_space(octet: u8) -> bool {
     matches!(octet, b' ' | b'\t' | b'\r')
 }
 
 // What stands before the first octet of that value, and what behind it: all, and nothing, where there is none.
-pub fn parted(text: &[u8], octet: u8) -> (&[u8], &[u8]) {
+pub fn parted(text: &[u8], octet: u8) -> (&[u8], &[u8])
+    ensures { length result.0.now + length result.1.now ≤ length text.now }
+{
     match text.iter().position(|&x| x == octet) {
         Some(i) => (&text[..i], &text[i + 1..]),
         None => (text, b""),

@@ -81,7 +81,7 @@ fn sweep_store(rt: &impl Host, file: File, path: &[u8], clock: u32, old: &[u8], 
 // The store is read and replaced while its lock keeps other programs waiting; the new one is open as `file`.
 fn sweep_into(rt: &impl Host, file: File, path: &[u8], clock: u32) {
     let mut store = [0u8; STORE + 1];
-    let Some(n) = files::read_at(rt, 1, b"STORE", path, &mut store) else {
+    let Ok(n) = files::read_at(rt, 1, b"STORE", path, &mut store) else {
         files::drop_new(rt, path, file);
         return;
     };

@@ -100,7 +100,7 @@ fn take_store(
 // The store is read and replaced while its lock keeps other takes waiting; the new one is open as `file`.
 fn take_into(rt: &impl Host, file: File, path: &[u8], vehicle: usize, clock: u32, telegram: &[u8]) {
     let mut store = [0u8; STORE + 1];
-    let Some(n) = files::read_at(rt, 1, b"STORE", path, &mut store) else {
+    let Ok(n) = files::read_at(rt, 1, b"STORE", path, &mut store) else {
         files::drop_new(rt, path, file);
         return;
     };
@@ -127,7 +127,7 @@ fn take_words(rt: &impl Host) {
         return;
     };
     let mut telegram = [0u8; TELEGRAM + 1];
-    let Some(n) = files::read(rt, 4, b"TELEGRAM", &mut telegram) else {
+    let Ok(n) = files::read(rt, 4, b"TELEGRAM", &mut telegram) else {
         return;
     };
     let mut path = io::buffer();

@@ -1,7 +1,7 @@
 // What stands in a store, and what is read out of it, in words.
-use crate::said::{REASONS, say_reason, say_telegram};
+use crate::said::{say_reason, say_telegram};
 use crate::vehicles::{Vehicles, no_vehicles, say_vehicles, with_vehicle};
-use gateway::{Held, Reason, VEHICLES};
+use gateway::{Held, VEHICLES};
 use saying::{Line, Page, add, empty, put, say, say_number, say_right, say_tab};
 
 // What is held of a vehicle: nothing in what is no store.
@@ -140,14 +140,16 @@ pub fn no_totals() -> Totals {
     Totals { of: [0u64; 9] }
 }
 
-pub fn count_reason(totals: Totals, reason: Reason) -> Totals {
+pub fn count_reason(totals: Totals, reason: u8) -> Totals {
     let mut t = totals;
-    let i = reason.number() as usize;
-    t.of[i] = t.of[i].wrapping_add(1);
+    let i = reason as usize;
+    if i < 9 {
+        t.of[i] = t.of[i].wrapping_add(1);
+    }
     t
 }
 
-fn print_total(page: &mut Page, reason: Reason, n: u64) {
+fn print_total(page: &mut Page, reason: u8, n: u64) {
     if 0 < n {
         let l = say_right(say(empty(), b"total"), 12, n);
         add(page, say_reason(say(l, b"  "), reason));
@@ -156,7 +158,7 @@ fn print_total(page: &mut Page, reason: Reason, n: u64) {
 
 // A line for each reason that was given.
 pub fn print_totals(page: &mut Page, totals: Totals) {
-    for (&reason, &n) in REASONS.iter().zip(&totals.of) {
+    for (reason, &n) in (0..9).zip(&totals.of) {
         print_total(page, reason, n);
     }
 }

@@ -13,7 +13,7 @@ fn digits(width: usize) -> usize
 
 // The column at which a value of so many bits ends behind the line and a space.
 pub fn end_of_value(line: Line, width: usize) -> usize {
-    line.at + 1 + digits(width)
+    line.at.wrapping_add(1 + digits(width))
 }
 
 fn end_of(list: &[u8], form: u8, k: usize, from: usize, is_placed: bool) -> usize {

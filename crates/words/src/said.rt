@@ -1,34 +1,23 @@
 // Document 01's reasons, refusals and places in words.
-use gateway::{Reason, Refusal, STORE};
+use gateway::{Refusal, STORE};
 use saying::{Line, empty, print, put, say, say_number};
 
 // A store's octets before a slot had a previous stamp.
 const OLDER_STORE: usize = 8379;
 
-// In the order of their numbers.
-pub const REASONS: [Reason; 9] = [
-    Reason::Live,
-    Reason::Forced,
-    Reason::NeverHeard,
-    Reason::TooOld,
-    Reason::NotCarried,
-    Reason::NewerThanTelegram,
-    Reason::MarkError,
-    Reason::MarkUndefined,
-    Reason::CodeUnknown,
-];
-
-pub fn say_reason(line: Line, reason: Reason) -> Line {
+// A reason by its number; nothing is said of any other.
+pub fn say_reason(line: Line, reason: u8) -> Line {
     match reason {
-        Reason::Live => say(line, b"0 live ok"),
-        Reason::Forced => say(line, b"1 live forced"),
-        Reason::NeverHeard => say(line, b"2 never heard"),
-        Reason::TooOld => say(line, b"3 too old"),
-        Reason::NotCarried => say(line, b"4 type does not carry it"),
-        Reason::NewerThanTelegram => say(line, b"5 newer than the telegram"),
-        Reason::MarkError => say(line, b"6 mark error"),
-        Reason::MarkUndefined => say(line, b"7 mark undefined"),
-        Reason::CodeUnknown => say(line, b"8 code not known"),
+        0 => say(line, b"0 live ok"),
+        1 => say(line, b"1 live forced"),
+        2 => say(line, b"2 never heard"),
+        3 => say(line, b"3 too old"),
+        4 => say(line, b"4 type does not carry it"),
+        5 => say(line, b"5 newer than the telegram"),
+        6 => say(line, b"6 mark error"),
+        7 => say(line, b"7 mark undefined"),
+        8 => say(line, b"8 code not known"),
+        _ => line,
     }
 }
 

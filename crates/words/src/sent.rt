@@ -17,7 +17,7 @@ fn is_free(rt: &impl Host, i: usize, name: &[u8], path: &[u8], written: Written)
         return true;
     }
     let mut old = [0u8; REMEDIES + 1];
-    let Some(n) = files::read_at(rt, i, name, path, &mut old) else {
+    let Ok(n) = files::read_at(rt, i, name, path, &mut old) else {
         return false;
     };
     may_replace(rt, i, name, &old[..n], written)
@@ -62,10 +62,22 @@ fn write(
     write_at(rt, i, name, &path[..n], rules, written, out)
 }
 
+// 0 is no argument.
+fn argument(i: usize) -> Option<usize> {
+    (i != 0).then_some(i)
+}
+
 // Writes a telegram to OUT, which is argument i; it takes that name once all of it is written. It may be no file of the arguments `first` and `second`.
 pub fn write_telegram(rt: &impl Host, i: usize, first: usize, second: usize, out: &[u8]) -> bool {
-    let (first, second) = (Some(first), Some(second));
-    write(rt, i, b"OUT", first, second, Written::Telegram, out)
+    write(
+        rt,
+        i,
+        b"OUT",
+        argument(first),
+        argument(second),
+        Written::Telegram,
+        out,
+    )
 }
 
 // The same of one with remedy texts, to TELEGRAM, which may not be the file of the argument `first`.
@@ -74,7 +86,7 @@ pub fn write_remedies(rt: &impl Host, i: usize, first: usize, out: &[u8]) -> boo
         rt,
         i,
         b"TELEGRAM",
-        Some(first),
+        argument(first),
         None,
         Written::Remedies,
         out,

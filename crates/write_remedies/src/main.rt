@@ -137,7 +137,7 @@ fn read_lines(rt: &impl Host, given: &[u8]) {
 
 fn ask(rt: &impl Host) {
     let mut given = [0u8; 65537];
-    let Some(n) = files::read(rt, 1, b"FILE", &mut given) else {
+    let Ok(n) = files::read(rt, 1, b"FILE", &mut given) else {
         return;
     };
     if n == 65537 {
