@@ -100,6 +100,10 @@ def main():
             for head in re.findall(rf"^pub fn {item}\(.*?^\{{", text, re.M | re.S):
                 if "requires" in head:
                     bad.append(f"{path}: {item} is offered and has a `requires`")
+            for methods in re.findall(rf"^impl(?:<[^>]*>)? {item}\b.*?^\}}", text, re.M | re.S):
+                for name, head in re.findall(r"^    pub fn (\w+)\((.*?)^    \{", methods, re.M | re.S):
+                    if "requires" in head:
+                        bad.append(f"{path}: {item}::{name} is offered and has a `requires`")
     print("\n".join(bad + [f"door: {len(above)} crates above it, {len(offered)} items offered, {len(bad)} things amiss"]))
     return bool(bad)
 
