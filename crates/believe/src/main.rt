@@ -1,6 +1,8 @@
 // What a gateway believes: every signal of the vehicles heard, with place, value and reason.
 #![tactic(auto)]
 
+ghost use Rattle.std.specs.Prelude.{◌≤◌};
+
 use files::Host;
 use gateway::{Entry, LONGEST, Reading, STORE, Signal, VEHICLES};
 use saying::{Line, Page, STDOUT};
@@ -60,7 +62,9 @@ Bad input gets one line that begins with `refused` and the number of document
 }
 
 // A signal as a row of the table, and as a line for people, up to what it is in its unit.
-fn row_of(store: &[u8], asked: Asked, k: usize, s: Signal, serial: usize, r: Reading) -> Line {
+fn row_of(store: &[u8], asked: Asked, k: usize, s: Signal, serial: usize, r: Reading) -> Line
+    ensures { result.at ≤ 240 }
+{
     let l = words::say_head(saying::empty(), store, asked.clock, asked.vehicle);
     let l = saying::put(saying::say_tab(l, k as u64), b'\t');
     let l = saying::say_tab(words::say_telegram(l, s.kind), s.start as u64);
@@ -70,7 +74,9 @@ fn row_of(store: &[u8], asked: Asked, k: usize, s: Signal, serial: usize, r: Rea
     words::say_serial_tab(l, asked.form, serial)
 }
 
-fn line_of(asked: Asked, k: usize, s: Signal, serial: usize, r: Reading) -> Line {
+fn line_of(asked: Asked, k: usize, s: Signal, serial: usize, r: Reading) -> Line
+    ensures { result.at ≤ 240 }
+{
     let l = saying::say_right(saying::empty(), 2, asked.vehicle as u64);
     let l = saying::say(saying::say_right(l, 7, k as u64), b"  ");
     let l = words::say_signal(l, asked.form, s, serial);

@@ -1,4 +1,6 @@
 // The marked cases (a) to (l) of document 01, run on the compiled calls. The table that is proved stands in crates/tables/specs/Marked.antt.
+ghost use Rattle.saying.specs.Lines.{InRoom};
+
 use gateway::{FORM_1, Kind, Refusal, STORE, Shown, TELEGRAM};
 use saying::Line;
 
@@ -9,11 +11,15 @@ const L: [u8; 44] = [
     0x00, 0x0F, 0x00, 0x0F, 0x00, 0x01, 0x00, 0x00, 0x01, 0x00, 0x00, 0x00,
 ];
 
-fn say_count(line: Line, name: &[u8], n: u64) -> Line {
+fn say_count(line: Line, name: &[u8], n: u64) -> Line
+    ensures { InRoom line.at result.at }
+{
     saying::say_number(saying::say(line, name), n)
 }
 
-fn say_refused(line: Line, f: Refusal) -> Line {
+fn say_refused(line: Line, f: Refusal) -> Line
+    ensures { InRoom line.at result.at }
+{
     say_count(line, b" refused ", f.number() as u64)
 }
 
@@ -36,7 +42,9 @@ fn heard_at(store: &mut [u8; STORE], o41: u8, o54: u8, raw: u64, stamp: u32) {
 }
 
 // One reading: the value and the reason.
-fn say_read(line: Line, store: &[u8; STORE], clock: u32) -> Line {
+fn say_read(line: Line, store: &[u8; STORE], clock: u32) -> Line
+    ensures { InRoom line.at result.at }
+{
     match gateway::read(&L, FORM_1, store, clock, 1, 0) {
         Ok(r) => say_count(
             say_count(line, b" value ", r.value),
@@ -47,7 +55,9 @@ fn say_read(line: Line, store: &[u8; STORE], clock: u32) -> Line {
     }
 }
 
-fn say_age(line: Line, store: &[u8; STORE], clock: u32) -> Line {
+fn say_age(line: Line, store: &[u8; STORE], clock: u32) -> Line
+    ensures { InRoom line.at result.at }
+{
     match gateway::holding(store, clock, 1) {
         Ok(Some(h)) => say_count(line, b" age ", h.age as u64),
         Ok(None) => say_count(line, b" age ", 0),
@@ -62,7 +72,9 @@ fn reads(name: &[u8], o41: u8, o54: u8, stamp: u32, clock: u32) {
     saying::print(say_age(l, &store, clock));
 }
 
-fn say_octet(line: Line, bus: &[u8; 1]) -> Line {
+fn say_octet(line: Line, bus: &[u8; 1]) -> Line
+    ensures { InRoom line.at result.at }
+{
     say_count(line, b" octet ", bus[0] as u64)
 }
 
@@ -78,7 +90,9 @@ fn marshals(name: &[u8], store: &[u8; STORE], clock: u32) {
 }
 
 // The speed of vehicle 1, in whole km/h, and the reason.
-fn say_shown(line: Line, store: &[u8; STORE]) -> Line {
+fn say_shown(line: Line, store: &[u8; STORE]) -> Line
+    ensures { InRoom line.at result.at }
+{
     let Ok(s) = gateway::show(&V, FORM_1, store, 5000, 1, 0, Kind::Speed) else {
         return saying::say(line, b" refused");
     };

@@ -4,6 +4,9 @@
 mod given;
 mod names;
 
+ghost use Rattle.std.specs.Prelude.{◌≤◌};
+ghost use Rattle.saying.specs.Lines.{InRoom};
+
 use files::Host;
 use gateway::{Level, Property};
 use given::{Given, OCTETS, RECORDS};
@@ -45,11 +48,15 @@ have gets one line that begins with `error`.
     );
 }
 
-fn say_vehicle(vehicle: usize) -> Line {
+fn say_vehicle(vehicle: usize) -> Line
+    ensures { result.at ≤ 240 }
+{
     saying::say_number(saying::say(saying::empty(), b"vehicle "), vehicle as u64)
 }
 
-fn say_if(line: Line, holds: bool, text: &[u8]) -> Line {
+fn say_if(line: Line, holds: bool, text: &[u8]) -> Line
+    ensures { InRoom line.at result.at }
+{
     if holds {
         return saying::say(line, text);
     }
@@ -57,7 +64,9 @@ fn say_if(line: Line, holds: bool, text: &[u8]) -> Line {
 }
 
 // A vehicle of the train, by its mark octet.
-fn train_line(vehicle: usize, mark: u8) -> Line {
+fn train_line(vehicle: usize, mark: u8) -> Line
+    ensures { result.at ≤ 240 }
+{
     let l = saying::put(say_vehicle(vehicle), b' ');
     let l = say_if(l, mark == 0, b" -");
     let l = say_if(l, mark % 2 == 1, b" leading");
@@ -73,21 +82,27 @@ fn print_train(page: &mut Page, marks: &[u8; 63], n: usize) {
     }
 }
 
-fn property_line(row: u32, p: Property) -> Line {
+fn property_line(row: u32, p: Property) -> Line
+    ensures { result.at ≤ 240 }
+{
     let l = saying::say_right(saying::empty(), 5, row as u64);
     let l = saying::say_number(saying::say(l, b"  "), p.octet as u64);
     let l = saying::say_number(saying::put(l, b'/'), p.bit as u64);
     names::say_name(saying::say(l, b"  "), row)
 }
 
-fn say_level(line: Line, level: Level) -> Line {
+fn say_level(line: Line, level: Level) -> Line
+    ensures { InRoom line.at result.at }
+{
     match level {
         Level::Gateway => saying::say(line, b"\tgateway"),
         Level::Vehicle => saying::say(line, b"\tvehicle"),
     }
 }
 
-fn property_row(vehicle: usize, row: u32, p: Property) -> Line {
+fn property_row(vehicle: usize, row: u32, p: Property) -> Line
+    ensures { result.at ≤ 240 }
+{
     let l = saying::say_number(saying::empty(), vehicle as u64);
     let l = say_level(saying::say_tab(l, row as u64), p.level);
     let l = saying::say_tab(saying::say_tab(l, p.octet as u64), p.bit as u64);

@@ -1,4 +1,6 @@
 // The names of table E.1's rows, as source document 004, table C.3, has them in English; `data/properties.csv` has the same, and the gate compares.
+ghost use Rattle.saying.specs.Lines.{InRoom};
+
 use saying::Line;
 
 // A line for each row in their order, 1 to 132 and 141 to 152, in UTF-8.
@@ -159,6 +161,8 @@ fn place_of(row: u32) -> usize {
 }
 
 // The name of a row of the table.
-pub fn say_name(line: Line, row: u32) -> Line {
+pub fn say_name(line: Line, row: u32) -> Line
+    ensures { InRoom line.at result.at }
+{
     saying::say(line, line_of(&NAMES, place_of(row)))
 }

@@ -1,4 +1,7 @@
 // The routes that were added, removed or changed. No rule of extending is about them.
+ghost use Rattle.std.specs.Prelude.{◌≤◌};
+ghost use Rattle.saying.specs.Lines.{InRoom};
+
 use crate::changes::changed_routes;
 use crate::signal::{Side, side_at};
 use crate::telling::{
@@ -28,7 +31,9 @@ fn routed_at(list: &[u8], form: u8, k: usize) -> Option<Routed> {
 }
 
 // The destination, as wide as the first list's signal, where it has the route.
-fn say_head(x: Option<Routed>, y: Option<Routed>) -> Line {
+fn say_head(x: Option<Routed>, y: Option<Routed>) -> Line
+    ensures { result.at ≤ 240 }
+{
     let l = say_marked(0, change_of(x, y));
     let Some(r) = x.or(y) else {
         return l;
@@ -37,7 +42,9 @@ fn say_head(x: Option<Routed>, y: Option<Routed>) -> Line {
 }
 
 // The columns that are alike in all rows of a route, which has no serial numbers.
-fn say_columns(asked: Asked, x: Option<Routed>, y: Option<Routed>) -> Line {
+fn say_columns(asked: Asked, x: Option<Routed>, y: Option<Routed>) -> Line
+    ensures { result.at ≤ 240 }
+{
     let l = say_change(say(empty(), b"route\t"), change_of(x, y));
     let start = x.or(y).map_or(0, |r| r.start);
     let l = say_tab(say(l, b"\t-"), start as u64);
@@ -46,18 +53,24 @@ fn say_columns(asked: Asked, x: Option<Routed>, y: Option<Routed>) -> Line {
     say_tab(l, 0)
 }
 
-fn begun(asked: Asked, x: Option<Routed>, y: Option<Routed>) -> Line {
+fn begun(asked: Asked, x: Option<Routed>, y: Option<Routed>) -> Line
+    ensures { result.at ≤ 240 }
+{
     if asked.is_table {
         return say_columns(asked, x, y);
     }
     saying::pad(say_head(x, y), asked.column)
 }
 
-fn say_signal(line: Line, r: Routed) -> Line {
+fn say_signal(line: Line, r: Routed) -> Line
+    ensures { InRoom line.at result.at }
+{
     words::say_signal(line, r.form, r.side.signal, r.side.serial)
 }
 
-fn say_signals(line: Line, x: Option<Routed>, y: Option<Routed>) -> Line {
+fn say_signals(line: Line, x: Option<Routed>, y: Option<Routed>) -> Line
+    ensures { InRoom line.at result.at }
+{
     match (x, y) {
         (Some(x), Some(y)) => say_signal(say_arrow(say_signal(line, x)), y),
         (Some(r), None) | (None, Some(r)) => say_signal(line, r),
@@ -83,7 +96,9 @@ fn tell_places(
     line: Line,
     a: Option<Routed>,
     b: Option<Routed>,
-) -> Line {
+) -> Line
+    ensures { InRoom line.at result.at }
+{
     let c = change_of(a, b);
     let x = a.map_or([0; 2], |r| place_of(r));
     let y = b.map_or([0; 2], |r| place_of(r));
@@ -99,7 +114,9 @@ fn tell_signal(
     line: Line,
     x: Option<Routed>,
     y: Option<Routed>,
-) -> Line {
+) -> Line
+    ensures { InRoom line.at result.at }
+{
     if asked.is_table {
         return tell_places(page, asked, line, x, y);
     }

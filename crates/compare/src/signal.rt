@@ -1,4 +1,7 @@
 // The signals that were added, removed or changed.
+ghost use Rattle.std.specs.Prelude.{◌≤◌};
+ghost use Rattle.saying.specs.Lines.{InRoom};
+
 use crate::changes::{changed_signals, codes_gained};
 use crate::telling::{
     Asked, Change, Field, change_of, form_of_table, print_row, say_change, say_marked, tell,
@@ -37,7 +40,9 @@ fn serial_of(side: Option<Side>) -> usize {
 }
 
 // The first list's place, where it has the signal.
-fn say_placed(line: Line, asked: Asked, x: Option<Side>, y: Option<Side>) -> Line {
+fn say_placed(line: Line, asked: Asked, x: Option<Side>, y: Option<Side>) -> Line
+    ensures { InRoom line.at result.at }
+{
     let Some(side) = x.or(y) else {
         return line;
     };
@@ -49,13 +54,17 @@ fn say_placed(line: Line, asked: Asked, x: Option<Side>, y: Option<Side>) -> Lin
     )
 }
 
-fn say_head(asked: Asked, breaks: usize, x: Option<Side>, y: Option<Side>) -> Line {
+fn say_head(asked: Asked, breaks: usize, x: Option<Side>, y: Option<Side>) -> Line
+    ensures { result.at ≤ 240 }
+{
     let change = change_of(x, y);
     say_placed(say_marked(breaks, change), asked, x, y)
 }
 
 // The columns that are alike in all rows of a signal.
-fn say_columns(asked: Asked, breaks: usize, x: Option<Side>, y: Option<Side>) -> Line {
+fn say_columns(asked: Asked, breaks: usize, x: Option<Side>, y: Option<Side>) -> Line
+    ensures { result.at ≤ 240 }
+{
     let l = say_change(say(empty(), b"signal\t"), change_of(x, y));
     let Some(side) = x.or(y) else {
         return l;
@@ -69,7 +78,9 @@ fn say_columns(asked: Asked, breaks: usize, x: Option<Side>, y: Option<Side>) ->
 }
 
 // What all that is told of a signal begins with.
-fn begun(asked: Asked, breaks: usize, x: Option<Side>, y: Option<Side>) -> Line {
+fn begun(asked: Asked, breaks: usize, x: Option<Side>, y: Option<Side>) -> Line
+    ensures { result.at ≤ 240 }
+{
     if asked.is_table {
         return say_columns(asked, breaks, x, y);
     }
@@ -91,13 +102,9 @@ fn fields_of(side: Option<Side>) -> [u64; 5] {
     ]
 }
 
-fn tell_fields(
-    page: &mut Page,
-    asked: Asked,
-    line: Line,
-    a: Option<Side>,
-    b: Option<Side>,
-) -> Line {
+fn tell_fields(page: &mut Page, asked: Asked, line: Line, a: Option<Side>, b: Option<Side>) -> Line
+    ensures { InRoom line.at result.at }
+{
     let x = fields_of(a);
     let y = fields_of(b);
     let n = Field::Number;
@@ -109,7 +116,9 @@ fn tell_fields(
     tell(page, asked, l, c, b"replacement", n, x[4], y[4])
 }
 
-fn say_range(line: Line, r: Range) -> Line {
+fn say_range(line: Line, r: Range) -> Line
+    ensures { InRoom line.at result.at }
+{
     let l = say_number(line, r.low as u64);
     if r.low == r.high {
         return l;
@@ -125,7 +134,9 @@ fn tell_range(
     name: &[u8],
     is_first: bool,
     r: Range,
-) -> Line {
+) -> Line
+    ensures { InRoom line.at result.at }
+{
     if asked.is_table {
         print_row(
             page,
@@ -157,7 +168,9 @@ fn tell_gained(
     b: &[u8],
     other: u8,
     key: usize,
-) -> Line {
+) -> Line
+    ensures { InRoom line.at result.at }
+{
     let mut l = line;
     let mut is_first = true;
     for r in codes_gained(a, form, b, other, key) {
@@ -168,14 +181,18 @@ fn tell_gained(
 }
 
 // What is lost is gained the other way round.
-fn tell_codes(page: &mut Page, asked: Asked, line: Line, a: &[u8], b: &[u8], key: usize) -> Line {
+fn tell_codes(page: &mut Page, asked: Asked, line: Line, a: &[u8], b: &[u8], key: usize) -> Line
+    ensures { InRoom line.at result.at }
+{
     let form = asked.first_form;
     let other = asked.second_form;
     let l = tell_gained(page, asked, line, b"gained", a, form, b, other, key);
     tell_gained(page, asked, l, b"lost", b, other, a, form, key)
 }
 
-fn say_rule(line: Line, breaks: usize, version: usize) -> Line {
+fn say_rule(line: Line, breaks: usize, version: usize) -> Line
+    ensures { InRoom line.at result.at }
+{
     match breaks {
         1 => say(line, b"width"),
         2 => say(line, b"check place"),

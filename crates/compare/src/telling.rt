@@ -1,4 +1,7 @@
 // How a difference is told: a line of the page, with all its fields behind each other, or rows of the table, a field each.
+ghost use Rattle.std.specs.Prelude.{◌≤◌};
+ghost use Rattle.saying.specs.Lines.{InRoom};
+
 use gateway::FORM_2;
 use saying::{Line, Page, STDOUT, empty, put, say, say_number};
 
@@ -38,7 +41,9 @@ pub fn change_of<T: Drop>(in_first: Option<T>, in_second: Option<T>) -> Change {
     }
 }
 
-pub fn say_change(line: Line, change: Change) -> Line {
+pub fn say_change(line: Line, change: Change) -> Line
+    ensures { InRoom line.at result.at }
+{
     match change {
         Change::Added => say(line, b"added"),
         Change::Removed => say(line, b"removed"),
@@ -47,7 +52,9 @@ pub fn say_change(line: Line, change: Change) -> Line {
 }
 
 // The page's: the mark of what breaks a rule, then the word, in a column.
-pub fn say_marked(breaks: usize, change: Change) -> Line {
+pub fn say_marked(breaks: usize, change: Change) -> Line
+    ensures { result.at ≤ 240 }
+{
     let mark = if breaks == 0 { b' ' } else { b'!' };
     let l = say_change(put(put(empty(), mark), b' '), change);
     saying::pad(l, 11)
@@ -63,7 +70,9 @@ fn write(line: Line) {
 }
 
 // A line of many ranges is longer than one in memory: what has come of it is written where the next field might not find room.
-pub fn with_room(page: &mut Page, line: Line) -> Line {
+pub fn with_room(page: &mut Page, line: Line) -> Line
+    ensures { InRoom line.at result.at }
+{
     if line.at < 160 {
         return line;
     }
@@ -78,16 +87,22 @@ fn is_told(change: Change, x: u64, y: u64) -> bool {
 }
 
 // On the page, up to its numbers.
-pub fn say_name(page: &mut Page, line: Line, name: &[u8]) -> Line {
+pub fn say_name(page: &mut Page, line: Line, name: &[u8]) -> Line
+    ensures { InRoom line.at result.at }
+{
     put(say(say(with_room(page, line), b"  "), name), b' ')
 }
 
-pub fn say_arrow(line: Line) -> Line {
+pub fn say_arrow(line: Line) -> Line
+    ensures { InRoom line.at result.at }
+{
     say(line, b" -> ")
 }
 
 // A check by its place, 0 for none.
-fn say_check(line: Line, place: u64) -> Line {
+fn say_check(line: Line, place: u64) -> Line
+    ensures { InRoom line.at result.at }
+{
     if place == 0 {
         return say(line, b"none");
     }
@@ -95,7 +110,9 @@ fn say_check(line: Line, place: u64) -> Line {
 }
 
 // A check is its first bit's address in the table.
-fn say_value(line: Line, asked: Asked, field: Field, x: u64) -> Line {
+fn say_value(line: Line, asked: Asked, field: Field, x: u64) -> Line
+    ensures { InRoom line.at result.at }
+{
     match field {
         Field::Number => say_number(line, x),
         Field::Telegram => words::say_telegram(line, x as usize),
@@ -104,7 +121,9 @@ fn say_value(line: Line, asked: Asked, field: Field, x: u64) -> Line {
     }
 }
 
-fn say_values(line: Line, asked: Asked, field: Field, change: Change, x: u64, y: u64) -> Line {
+fn say_values(line: Line, asked: Asked, field: Field, change: Change, x: u64, y: u64) -> Line
+    ensures { InRoom line.at result.at }
+{
     match change {
         Change::Added => say_value(line, asked, field, y),
         Change::Removed => say_value(line, asked, field, x),
@@ -115,14 +134,18 @@ fn say_values(line: Line, asked: Asked, field: Field, change: Change, x: u64, y:
     }
 }
 
-fn say_from(line: Line, asked: Asked, field: Field, change: Change, x: u64) -> Line {
+fn say_from(line: Line, asked: Asked, field: Field, change: Change, x: u64) -> Line
+    ensures { InRoom line.at result.at }
+{
     match change {
         Change::Added => put(line, b'-'),
         _ => say_value(line, asked, field, x),
     }
 }
 
-fn say_to(line: Line, asked: Asked, field: Field, change: Change, y: u64) -> Line {
+fn say_to(line: Line, asked: Asked, field: Field, change: Change, y: u64) -> Line
+    ensures { InRoom line.at result.at }
+{
     match change {
         Change::Removed => put(line, b'-'),
         _ => say_value(line, asked, field, y),
@@ -155,7 +178,9 @@ pub fn tell(
     field: Field,
     x: u64,
     y: u64,
-) -> Line {
+) -> Line
+    ensures { InRoom line.at result.at }
+{
     if !is_told(change, x, y) {
         return line;
     }

@@ -1,5 +1,6 @@
 // The lines of a values file: `value PLACE VALUE`, `mark PLACE MARK`, with a number for the place too, and comments behind #.
 ghost use Rattle.std.specs.Prelude.{◌≤◌};
+ghost use Rattle.saying.specs.Lines.{InRoom};
 
 use crate::place::{Field, field_at, type_of};
 use saying::{Line, parted, word, word_count};
@@ -18,12 +19,16 @@ enum Fault {
     Unnamed,
 }
 
-fn say_line(rt: &impl Env, what: &[u8], line: u64) -> Line {
+fn say_line(rt: &impl Env, what: &[u8], line: u64) -> Line
+    ensures { result.at ≤ 240 }
+{
     let l = saying::say_argument(rt, saying::say(saying::empty(), what), 3, b"");
     saying::say(saying::say_number(saying::say(l, b" line "), line), b": ")
 }
 
-fn say_fault(line: Line, fault: Fault) -> Line {
+fn say_fault(line: Line, fault: Fault) -> Line
+    ensures { InRoom line.at result.at }
+{
     match fault {
         Fault::Words => saying::say(line, b"neither `value PLACE VALUE` nor `mark PLACE MARK`"),
         Fault::Signal => saying::say(line, b"no such signal"),

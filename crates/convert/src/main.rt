@@ -1,6 +1,8 @@
 // Moves a signal list to the other form, with serial numbers or without, into a new file.
 #![tactic(auto)]
 
+ghost use Rattle.saying.specs.Lines.{InRoom};
+
 use files::Host;
 use gateway::{Counts, FORM_1, FORM_2, LONGEST, Refusal};
 use saying::{Line, STDOUT};
@@ -67,7 +69,9 @@ fn serials_of(list: &[u8], signals: usize) -> Serials {
     found
 }
 
-fn say_signal(line: Line, list: &[u8], k: usize) -> Line {
+fn say_signal(line: Line, list: &[u8], k: usize) -> Line
+    ensures { InRoom line.at result.at }
+{
     let Ok(e) = gateway::signal_entry(list, FORM_2, k) else {
         return line;
     };

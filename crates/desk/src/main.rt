@@ -1,6 +1,9 @@
 // What a driver sees: each side of the train locked, open or not known, and the vehicles that hold it up, each with its reason.
 #![tactic(auto)]
 
+ghost use Rattle.std.specs.Prelude.{◌≤◌};
+ghost use Rattle.saying.specs.Lines.{InRoom};
+
 use doors::{Doors, Side, State};
 use files::Host;
 use gateway::{LONGEST, Reason, STORE, VEHICLES};
@@ -61,7 +64,9 @@ A file that cannot be read or another word gets one line that begins with
     );
 }
 
-fn say_state(line: Line, state: State) -> Line {
+fn say_state(line: Line, state: State) -> Line
+    ensures { InRoom line.at result.at }
+{
     match state {
         State::Locked => saying::say(line, b"LOCKED"),
         State::Open => saying::say(line, b"OPEN"),
@@ -70,7 +75,9 @@ fn say_state(line: Line, state: State) -> Line {
 }
 
 // Nobody holds up a side that is locked.
-fn say_size(line: Line, size: u32) -> Line {
+fn say_size(line: Line, size: u32) -> Line
+    ensures { InRoom line.at result.at }
+{
     if size == 0 {
         return line;
     }
@@ -78,13 +85,17 @@ fn say_size(line: Line, size: u32) -> Line {
     saying::say_number(l, size as u64)
 }
 
-fn side_line(name: &[u8], side: Side) -> Line {
+fn side_line(name: &[u8], side: Side) -> Line
+    ensures { result.at ≤ 240 }
+{
     let l = saying::pad(saying::say(saying::empty(), name), 7);
     say_size(say_state(l, side.state), side.size)
 }
 
 // A vehicle that holds a side up, by the reason of its reading: one that is live is open, since live and locked holds nothing up.
-fn vehicle_line(vehicle: usize, reason: Reason) -> Line {
+fn vehicle_line(vehicle: usize, reason: Reason) -> Line
+    ensures { result.at ≤ 240 }
+{
     let l = saying::say(saying::empty(), b"  vehicle");
     let l = saying::say_right(l, 12, vehicle as u64);
     let l = if reason.is_live() {

@@ -2,6 +2,7 @@
 #![tactic(auto)]
 
 ghost use Rattle.std.specs.Prelude.{◌-◌, ◌≤◌, ◌<◌, IfSome};
+ghost use Rattle.saying.specs.Lines.{InRoom};
 ghost use Rattle.std.specs.Iterator.{at_most};
 ghost use Rattle.paper.specs.Pairs.{signal_keys};
 
@@ -126,7 +127,9 @@ fn are_same(a: Option<Side>, b: Option<Side>) -> bool {
 }
 
 // What a side says, with the value ending at a column.
-fn say_side(line: Line, column: usize, side: Option<Side>) -> Line {
+fn say_side(line: Line, column: usize, side: Option<Side>) -> Line
+    ensures { InRoom line.at result.at }
+{
     let Some(side) = side else {
         return saying::say(saying::pad(line, column), b"  not in the list");
     };
@@ -143,7 +146,9 @@ fn bar(left: usize) -> usize {
 }
 
 // Widths that differ are said behind the line.
-fn say_widths(line: Line, a: Option<Side>, b: Option<Side>) -> Line {
+fn say_widths(line: Line, a: Option<Side>, b: Option<Side>) -> Line
+    ensures { InRoom line.at result.at }
+{
     if let (Some(a), Some(b)) = (a, b)
         && a.signal.width != b.signal.width
     {
@@ -159,7 +164,9 @@ fn serial_in(side: Option<Side>, form: u8) -> Option<usize> {
 }
 
 // The place, which either side may have, with its serial numbers.
-fn say_signal(line: Line, asked: Asked, s: Signal, a: Option<Side>, b: Option<Side>) -> Line {
+fn say_signal(line: Line, asked: Asked, s: Signal, a: Option<Side>, b: Option<Side>) -> Line
+    ensures { InRoom line.at result.at }
+{
     let l = words::say_place(line, s.kind, s.start, s.width);
     words::say_both_beside(
         l,
@@ -186,7 +193,9 @@ fn print_pair(
     saying::add(page, words::say_both_shown(l, shown_of(a), shown_of(b)));
 }
 
-fn say_columns(line: Line, side: Option<Side>) -> Line {
+fn say_columns(line: Line, side: Option<Side>) -> Line
+    ensures { InRoom line.at result.at }
+{
     let Some(side) = side else {
         return saying::say(line, b"\t-\t-\t-");
     };
@@ -201,7 +210,9 @@ fn form_of_table(asked: Asked) -> u8 {
 }
 
 // What the second gateway holds of the vehicle in a store of its own, behind all other columns.
-fn say_behind(line: Line, other: &[u8], asked: Asked) -> Line {
+fn say_behind(line: Line, other: &[u8], asked: Asked) -> Line
+    ensures { InRoom line.at result.at }
+{
     if !asked.behind {
         return line;
     }

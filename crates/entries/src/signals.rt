@@ -65,12 +65,12 @@ impl Signals<'_> {
         octets::wide(self.tail[2 + self.size * k + 5])
     }
 
-    // Inner: the width of signal k, which need not exist.
+    // Inner: the width of signal k, which need not exist: where its offset would be past all numbers, none stands at the greatest.
     #[tactic(auto, unfolding(paper::specs::SignalList::signal_at))]
     pub fn width_at(&self, k: usize) -> usize
-        requires { (self.now.size ≤ 18) × (k < 65536) }
+        requires { k < 65536 }
         ensures { OctetRead (signals_as self.now k).width result }
     {
-        octet_at(self.tail, 2 + self.size * k + 2)
+        octet_at(self.tail, self.size.saturating_mul(k).saturating_add(4))
     }
 }

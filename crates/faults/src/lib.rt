@@ -114,7 +114,6 @@ fn signal_number(list: &[u8], checks: usize, s: Signal, later: usize) -> usize
 // Of a section that starts `base` octets on.
 #[tactic(auto, using(crate::proofs::Laws::small_entry, crate::proofs::Laws::rule_is))]
 fn signal_fault(base: usize, list: &[u8], checks: usize, signals: &Signals, k: usize) -> Fault
-    requires sized { Sized signals.now.size }
     requires checks_in_bounds { entry check_size checks ≤ length list.now }
     requires in_bounds { (base ≤ 65536) × (k < 65536) × (k < signals.now.count) }
     requires k_value { signal_rule checks (check_at list.now) (signals_as signals.now) k ≡ false }
@@ -151,7 +150,6 @@ fn code_number(signals: usize, width: usize, k: usize, p: Code, c: Code) -> usiz
 }
 
 fn code_fault(base: usize, signals: &Signals, tail: &[u8], k: usize) -> Fault
-    requires sized { Sized signals.now.size }
     requires in_bounds { (base ≤ 65536) × (k < 65536) × (entry code_size (k + 1) ≤ length tail.now) }
     ensures { fault_as result ≡ code_fault base signals.now.count (signals_as signals.now) (code_at tail.now) k }
 {
@@ -185,7 +183,6 @@ fn route_number(signals: usize, end: usize, k: usize, past: usize, r: Route) -> 
 }
 
 fn route_fault(base: usize, signals: &Signals, tail: &[u8], k: usize) -> Fault
-    requires sized { Sized signals.now.size }
     requires in_bounds { (base ≤ 65536) × (k < 65536) × (entry route_size (k + 1) ≤ length tail.now) }
     ensures { fault_as result ≡ route_fault base signals.now.count (signals_as signals.now) (route_at tail.now) k }
 {
@@ -208,8 +205,7 @@ fn route_fault(base: usize, signals: &Signals, tail: &[u8], k: usize) -> Fault
 
 // The list from its routes on, which start `base` octets on.
 fn from_routes(base: usize, signals: &Signals, tail: &[u8]) -> Option<Fault>
-    requires sized { Sized signals.now.size }
-    requires base_small { base ≤ 65536 }
+    requires { base ≤ 65536 }
     ensures { fault_answer result ≡ fault_from_routes base signals.now.count (signals_as signals.now) tail.now }
 {
     let n = lists::open(tail, MOST_ROUTES, ROUTE_SIZE).ok()?;
@@ -222,8 +218,7 @@ fn from_routes(base: usize, signals: &Signals, tail: &[u8]) -> Option<Fault>
 
 // From its codes on.
 fn from_codes(base: usize, signals: &Signals, tail: &[u8]) -> Option<Fault>
-    requires sized { Sized signals.now.size }
-    requires base_small { base ≤ 32768 }
+    requires { base ≤ 32768 }
     ensures { fault_answer result ≡ fault_from_codes base signals.now.count (signals_as signals.now) tail.now }
 {
     let n = lists::open(tail, MOST_CODES, CODE_SIZE).ok()?;

@@ -1,4 +1,7 @@
 // What is wrong with a file, in an error line.
+ghost use Rattle.std.specs.Prelude.{◌≤◌};
+ghost use Rattle.saying.specs.Lines.{InRoom};
+
 use crate::host::Host;
 use crate::lock::Owner;
 use saying::{Line, print, say, say_error, say_number, say_quoted};
@@ -47,7 +50,9 @@ impl From<std::io::Error> for FileError {
     }
 }
 
-fn say_number_of(line: Line, n: i32) -> Line {
+fn say_number_of(line: Line, n: i32) -> Line
+    ensures { InRoom line.at result.at }
+{
     match n {
         ENOENT => say(line, b"no such file or folder"),
         EACCES | EPERM => say(line, b"not permitted"),
@@ -61,7 +66,9 @@ fn say_number_of(line: Line, n: i32) -> Line {
     }
 }
 
-fn say_why(line: Line, error: FileError) -> Line {
+fn say_why(line: Line, error: FileError) -> Line
+    ensures { InRoom line.at result.at }
+{
     match error {
         FileError::System(n) => say_number_of(line, n),
         FileError::Unusable => say(line, b"cannot be used"),
@@ -89,7 +96,9 @@ pub fn print_beside(name: &[u8], path: &[u8], ending: &[u8], error: FileError) {
     print(say_why(say_beside(b"error: ", name, path, ending), error));
 }
 
-fn say_beside(head: &[u8], name: &[u8], path: &[u8], ending: &[u8]) -> Line {
+fn say_beside(head: &[u8], name: &[u8], path: &[u8], ending: &[u8]) -> Line
+    ensures { result.at ≤ 240 }
+{
     let l = say(say(say(saying::empty(), head), name), b" ");
     say(say_quoted(l, path, ending), b": ")
 }

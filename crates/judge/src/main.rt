@@ -1,6 +1,9 @@
 // Judges the signal list whose path is its argument, under a profile where one is named, and says in one line what was found.
 #![tactic(auto)]
 
+ghost use Rattle.std.specs.Prelude.{◌≤◌};
+ghost use Rattle.saying.specs.Lines.{InRoom};
+
 use files::Host;
 use gateway::{Counts, LONGEST, Profile};
 use saying::{Line, STDOUT};
@@ -43,15 +46,21 @@ A file that cannot be read gets one line that begins with `error`.
     );
 }
 
-fn say_count(line: Line, name: &[u8], n: usize) -> Line {
+fn say_count(line: Line, name: &[u8], n: usize) -> Line
+    ensures { InRoom line.at result.at }
+{
     saying::say_number(saying::say(line, name), n as u64)
 }
 
-fn accepted() -> Line {
+fn accepted() -> Line
+    ensures { result.at ≤ 240 }
+{
     saying::say(saying::empty(), b"list ok")
 }
 
-fn accepted_under(profile: Profile) -> Line {
+fn accepted_under(profile: Profile) -> Line
+    ensures { result.at ≤ 240 }
+{
     match profile {
         Profile::PlainCoach => saying::say(accepted(), b" profile=plain-coach"),
         Profile::DrivingTrailer => saying::say(accepted(), b" profile=driving-trailer"),

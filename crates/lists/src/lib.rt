@@ -157,8 +157,7 @@ fn common_checks(list: &[u8], checks: usize) -> usize
 // Inner: the offset of the first signal that breaks its rule, or the end of the section. Each is tested by its own rule and then against the checks from
 // the first that may share a bit with it to the first at or past its end: checks rise, and starts do within a type.
 pub fn first_bad_signal(list: &[u8], checks: usize, signals: &Signals) -> usize
-    requires checks_in_bounds { (entry check_size checks ≤ length list.now) × (all (check_rule (check_at list.now)) checks ≡ true) }
-    requires sized { Sized signals.now.size }
+    requires { (entry check_size checks ≤ length list.now) × (all (check_rule (check_at list.now)) checks ≡ true) }
     ensures { result ≡ entry signals.now.size (first_bad (signal_rule checks (check_at list.now) (signals_as signals.now)) signals.now.count) }
 {
     let common = common_checks(list, checks);

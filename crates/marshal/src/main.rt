@@ -1,6 +1,8 @@
 // Marshals routed signals out of a store into a file of vehicle bus data, and shows each route.
 #![tactic(auto)]
 
+ghost use Rattle.std.specs.Prelude.{◌≤◌};
+
 use files::{Host, Rules};
 use gateway::{Counts, LONGEST, Reading, Refusal, Route, STORE, Signal};
 use saying::{Line, Page, STDOUT};
@@ -61,7 +63,9 @@ away.
 }
 
 // A route as a row of the table, and as a line for people, up to what its signal is in its unit.
-fn row_of(order: Order, r: usize, t: Route, s: Signal, serial: usize, x: Reading) -> Line {
+fn row_of(order: Order, r: usize, t: Route, s: Signal, serial: usize, x: Reading) -> Line
+    ensures { result.at ≤ 240 }
+{
     let l = saying::say_tab(
         saying::say_number(saying::empty(), r as u64),
         t.start as u64,
@@ -73,7 +77,9 @@ fn row_of(order: Order, r: usize, t: Route, s: Signal, serial: usize, x: Reading
     words::say_serial_tab(l, order.form, serial)
 }
 
-fn line_of(order: Order, r: usize, t: Route, s: Signal, serial: usize, x: Reading) -> Line {
+fn line_of(order: Order, r: usize, t: Route, s: Signal, serial: usize, x: Reading) -> Line
+    ensures { result.at ≤ 240 }
+{
     let l = saying::say(saying::say_right(saying::empty(), 3, r as u64), b"  ");
     let l = saying::say_right(words::say_field(l, t.start, s.width), 36, t.vehicle as u64);
     let l = words::say_signal(saying::say(l, b"  "), order.form, s, serial);

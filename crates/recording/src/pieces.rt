@@ -1,5 +1,5 @@
 // A recording's file, a piece at a time: its head, then step after step. Where a piece is not to be had, an error line has said why.
-ghost use Rattle.std.specs.Prelude.{◌≡◌, ◌<◌};
+ghost use Rattle.std.specs.Prelude.{◌≡◌, ◌<◌, ◌≤◌};
 ghost use Rattle.paper.specs.Octets.{number};
 
 use files::Host;
@@ -39,7 +39,9 @@ pub fn first(octets: &[u8], n: usize) -> &[u8] {
 }
 
 // The error line on the file, up to what is wrong; on a step of it, counted from 1, where it is not 0.
-fn say_at(rt: &impl Env, step: usize) -> Line {
+fn say_at(rt: &impl Env, step: usize) -> Line
+    ensures { result.at ≤ 240 }
+{
     let l = saying::say_argument(rt, say(saying::empty(), b"error: FILE "), 1, b"");
     if step == 0 {
         return say(l, b": ");

@@ -38,7 +38,9 @@ fn field_of(octets: &[u8], start: usize, width: usize) -> u64
     value
 }
 
-fn say_head(step: usize, clock: u32, w: WrongBit) -> Line {
+fn say_head(step: usize, clock: u32, w: WrongBit) -> Line
+    ensures { result.at ≤ 240 }
+{
     let l = say_number(say(empty(), b"wrong in step "), step as u64);
     let l = say_number(say(l, b" at clock "), clock as u64);
     let octet = w.octet.wrapping_add(1);
@@ -52,7 +54,9 @@ fn behind(octets: &[u8], i: usize) -> &[u8] {
 }
 
 // The two bits where no route puts one: ours is that of the data before.
-fn say_beside(before: &[u8], after: &[u8], w: WrongBit) -> Line {
+fn say_beside(before: &[u8], after: &[u8], w: WrongBit) -> Line
+    ensures { result.at ≤ 240 }
+{
     let ours = bit_at(behind(before, w.octet), w.bit);
     let theirs = bit_at(behind(after, w.octet), w.bit);
     let l = say_number(say(empty(), b"in no route: ours "), ours);
@@ -60,7 +64,9 @@ fn say_beside(before: &[u8], after: &[u8], w: WrongBit) -> Line {
 }
 
 // A route with its field of the data, and with the vehicle and the signal that it takes there.
-fn say_route(list: &[u8], form: u8, route: usize, t: Route, s: Signal) -> Line {
+fn say_route(list: &[u8], form: u8, route: usize, t: Route, s: Signal) -> Line
+    ensures { result.at ≤ 240 }
+{
     let l = say_number(say(empty(), b"route "), route as u64);
     let l = words::say_field(say(l, b" to "), t.start, s.width);
     let l = say_number(say(l, b"  vehicle "), t.vehicle as u64);
@@ -68,12 +74,16 @@ fn say_route(list: &[u8], form: u8, route: usize, t: Route, s: Signal) -> Line {
     words::say_signal(say(l, b"  "), form, s, serial)
 }
 
-fn say_ours(value: u64, reason: Reason) -> Line {
+fn say_ours(value: u64, reason: Reason) -> Line
+    ensures { result.at ≤ 240 }
+{
     let l = say_right(say(empty(), b"ours"), COLUMN, value);
     words::say_reason(say(l, b"  "), reason.number())
 }
 
-fn say_theirs(value: u64) -> Line {
+fn say_theirs(value: u64) -> Line
+    ensures { result.at ≤ 240 }
+{
     say_right(say(empty(), b"theirs"), COLUMN, value)
 }
 

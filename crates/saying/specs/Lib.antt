@@ -1,2 +1,3 @@
 -- What the contracts of `saying` cite.
 pub mod Numbers
+pub mod Lines

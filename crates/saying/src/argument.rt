@@ -1,6 +1,7 @@
 // The words that a program was started with.
 ghost use Rattle.std.specs.Prelude.{◌≡◌, ◌≤◌, cond, None, Some, IfSome};
 ghost use Rattle.io.specs.Counts.{IsPrefixLen};
+ghost use Rattle.saying.specs.Lines.{InRoom};
 ghost use Rattle.saying.specs.Numbers.{goes_on, and_digit, number_in};
 
 use crate::line::{Line, empty, print, put, say, say_number};
@@ -98,7 +99,9 @@ fn shown(octet: u8) -> u8 {
     }
 }
 
-fn say_shown(line: Line, text: &[u8]) -> Line {
+fn say_shown(line: Line, text: &[u8]) -> Line
+    ensures { InRoom line.at result.at }
+{
     let mut l = line;
     for &octet in text {
         l = put(l, shown(octet));
@@ -107,7 +110,9 @@ fn say_shown(line: Line, text: &[u8]) -> Line {
 }
 
 // Argument i as it was given, in quotes, cut where it is long, and with `behind` behind it.
-pub fn say_argument(rt: &impl Env, line: Line, i: usize, behind: &[u8]) -> Line {
+pub fn say_argument(rt: &impl Env, line: Line, i: usize, behind: &[u8]) -> Line
+    ensures { InRoom line.at result.at }
+{
     let mut word = [0u8; 100];
     let l = put(line, b'\'');
     let l = match rt.arg(i, &mut word) {
@@ -119,7 +124,9 @@ pub fn say_argument(rt: &impl Env, line: Line, i: usize, behind: &[u8]) -> Line 
 }
 
 // A path in quotes, cut and ended in the same way.
-pub fn say_quoted(line: Line, text: &[u8], behind: &[u8]) -> Line {
+pub fn say_quoted(line: Line, text: &[u8], behind: &[u8]) -> Line
+    ensures { InRoom line.at result.at }
+{
     let n = text.len().min(100);
     let l = say_shown(put(line, b'\''), &text[..n]);
     let l = if n < text.len() { say(l, b"..") } else { l };
@@ -127,7 +134,9 @@ pub fn say_quoted(line: Line, text: &[u8], behind: &[u8]) -> Line {
 }
 
 // The error line on argument i, up to what is wrong with it.
-pub fn say_error(rt: &impl Env, i: usize, name: &[u8], behind: &[u8]) -> Line {
+pub fn say_error(rt: &impl Env, i: usize, name: &[u8], behind: &[u8]) -> Line
+    ensures { result.at ≤ 240 }
+{
     let l = put(say(say(empty(), b"error: "), name), b' ');
     say(say_argument(rt, l, i, behind), b": ")
 }

@@ -1,23 +1,29 @@
 // A line of output, put together in memory and written at once. What does not fit is left out.
-ghost use Rattle.std.specs.Prelude.{◌≤◌, length};
+ghost use Rattle.std.specs.Prelude.{◌≡◌, ◌≤◌, length};
+ghost use Rattle.saying.specs.Lines.{InRoom};
 
 pub const ROOM: usize = 240;
 
-// One octet more than there is room for: the line's end.
+// One octet more than there is room for: the line's end. No invariant, since who makes one would have to prove it: of a line within its room each
+// function gives one (`InRoom`).
 #[derive(Clone, Copy, Debug, PartialEq, Eq)]
 pub struct Line {
     pub at: usize,
     pub text: [u8; 241],
 }
 
-pub fn empty() -> Line {
+pub fn empty() -> Line
+    ensures { result.at ≡ 0 }
+{
     Line {
         at: 0,
         text: [0u8; 241],
     }
 }
 
-pub fn put(line: Line, octet: u8) -> Line {
+pub fn put(line: Line, octet: u8) -> Line
+    ensures { InRoom line.at result.at }
+{
     let mut l = line;
     let at = l.at;
     if at < ROOM {
@@ -27,7 +33,9 @@ pub fn put(line: Line, octet: u8) -> Line {
     l
 }
 
-pub fn say(line: Line, text: &[u8]) -> Line {
+pub fn say(line: Line, text: &[u8]) -> Line
+    ensures { InRoom line.at result.at }
+{
     let mut l = line;
     for &octet in text {
         l = put(l, octet);
@@ -36,7 +44,9 @@ pub fn say(line: Line, text: &[u8]) -> Line {
 }
 
 // Spaces up to a column, counted from 0.
-pub fn pad(line: Line, column: usize) -> Line {
+pub fn pad(line: Line, column: usize) -> Line
+    ensures { InRoom line.at result.at }
+{
     let mut l = line;
     for _ in line.at..column {
         l = put(l, b' ');
@@ -44,19 +54,25 @@ pub fn pad(line: Line, column: usize) -> Line {
     l
 }
 
-pub fn say_number(line: Line, n: u64) -> Line {
+pub fn say_number(line: Line, n: u64) -> Line
+    ensures { InRoom line.at result.at }
+{
     let mut digits = [0u8; 20];
     let k = io::decimal(n, &mut digits);
     say(line, &digits[..k])
 }
 
 // The number as the next column of a table.
-pub fn say_tab(line: Line, n: u64) -> Line {
+pub fn say_tab(line: Line, n: u64) -> Line
+    ensures { InRoom line.at result.at }
+{
     say_number(put(line, b'\t'), n)
 }
 
 // The number, so that it ends at a column; behind a space where the line has come too far.
-pub fn say_right(line: Line, column: usize, n: u64) -> Line {
+pub fn say_right(line: Line, column: usize, n: u64) -> Line
+    ensures { InRoom line.at result.at }
+{
     let mut digits = [0u8; 20];
     let k = io::decimal(n, &mut digits);
     say(pad(line, begin(line.at, column, k)), &digits[..k])

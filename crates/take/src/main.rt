@@ -1,6 +1,8 @@
 // Takes a telegram of a vehicle into a store file, or makes a new store.
 #![tactic(auto)]
 
+ghost use Rattle.saying.specs.Lines.{InRoom};
+
 use files::{Host, Rules};
 use gateway::{Refusal, STORE, TELEGRAM};
 use saying::{Line, STDOUT};
@@ -55,7 +57,9 @@ fn kind_of(telegram: &[u8]) -> usize {
 }
 
 // A length that is not the type's: how long the telegram is, and how long it has to be.
-fn say_lengths(line: Line, telegram: &[u8]) -> Line {
+fn say_lengths(line: Line, telegram: &[u8]) -> Line
+    ensures { InRoom line.at result.at }
+{
     let kind = kind_of(telegram);
     let n = telegram.len();
     let l = if TELEGRAM < n {

@@ -1,4 +1,7 @@
 // What stands in a store, and what is read out of it, in words.
+ghost use Rattle.std.specs.Prelude.{◌≤◌};
+ghost use Rattle.saying.specs.Lines.{InRoom};
+
 use crate::said::{say_reason, say_telegram};
 use crate::vehicles::{Vehicles, no_vehicles, say_vehicles, with_vehicle};
 use gateway::{Held, VEHICLES};
@@ -14,7 +17,9 @@ fn gap_of(store: &[u8], vehicle: usize) -> u64 {
     gateway::gap(store, vehicle).unwrap_or(0) as u64
 }
 
-fn say_gap(line: Line, store: &[u8], vehicle: usize) -> Line {
+fn say_gap(line: Line, store: &[u8], vehicle: usize) -> Line
+    ensures { InRoom line.at result.at }
+{
     say(
         say_number(say(line, b" gap "), gap_of(store, vehicle)),
         b" ms",
@@ -22,7 +27,9 @@ fn say_gap(line: Line, store: &[u8], vehicle: usize) -> Line {
 }
 
 // An age above half of the counter's range: the stamp is after the clock rather than so long before it.
-fn say_age(line: Line, age: u64) -> Line {
+fn say_age(line: Line, age: u64) -> Line
+    ensures { InRoom line.at result.at }
+{
     let l = say(say_number(say(line, b" age "), age), b" ms");
     if 2147483648 <= age {
         return say(l, b" (stamp after the clock)");
@@ -31,7 +38,9 @@ fn say_age(line: Line, age: u64) -> Line {
 }
 
 // What is held of a vehicle: type, version, age and gap of its telegram.
-fn say_held(line: Line, store: &[u8], clock: u32, vehicle: usize) -> Line {
+fn say_held(line: Line, store: &[u8], clock: u32, vehicle: usize) -> Line
+    ensures { InRoom line.at result.at }
+{
     let Some(h) = held_of(store, clock, vehicle) else {
         return say(line, b"never heard");
     };
@@ -45,7 +54,9 @@ fn say_held(line: Line, store: &[u8], clock: u32, vehicle: usize) -> Line {
     say_gap(l, store, vehicle)
 }
 
-fn say_vehicle(vehicle: usize) -> Line {
+fn say_vehicle(vehicle: usize) -> Line
+    ensures { result.at ≤ 240 }
+{
     say(say_number(say(empty(), b"vehicle "), vehicle as u64), b": ")
 }
 
@@ -71,7 +82,9 @@ pub fn print_heads(
 }
 
 // The same as the next columns of a table: telegram, version and age, or `expired` for the age; a dash each where it was never heard.
-pub fn say_held_tabs(line: Line, store: &[u8], clock: u32, vehicle: usize) -> Line {
+pub fn say_held_tabs(line: Line, store: &[u8], clock: u32, vehicle: usize) -> Line
+    ensures { InRoom line.at result.at }
+{
     let Some(h) = held_of(store, clock, vehicle) else {
         return say(line, b"\t-\t-\t-");
     };
@@ -83,12 +96,16 @@ pub fn say_held_tabs(line: Line, store: &[u8], clock: u32, vehicle: usize) -> Li
 }
 
 // Those columns behind the vehicle's.
-pub fn say_head(line: Line, store: &[u8], clock: u32, vehicle: usize) -> Line {
+pub fn say_head(line: Line, store: &[u8], clock: u32, vehicle: usize) -> Line
+    ensures { InRoom line.at result.at }
+{
     say_held_tabs(say_number(line, vehicle as u64), store, clock, vehicle)
 }
 
 // The gap as the next column of a table, a dash where the vehicle was never heard.
-pub fn say_gap_tab(line: Line, store: &[u8], vehicle: usize) -> Line {
+pub fn say_gap_tab(line: Line, store: &[u8], vehicle: usize) -> Line
+    ensures { InRoom line.at result.at }
+{
     if is_heard(store, vehicle) {
         return say_tab(line, gap_of(store, vehicle));
     }

@@ -1,5 +1,6 @@
 // Which entry of a refused list breaks which rule, in words. The numbers are those of the paper's sentences, in their order; a profile has its own.
 ghost use Rattle.std.specs.Prelude.{◌<◌};
+ghost use Rattle.saying.specs.Lines.{InRoom};
 
 use crate::said::{say_field, say_refused, say_telegram};
 use crate::serial::say_beside;
@@ -11,7 +12,9 @@ const SIGNAL_SIZE: usize = 18;
 
 const SERIAL: usize = 16;
 
-fn say_check_rule(line: Line, rule: usize) -> Line {
+fn say_check_rule(line: Line, rule: usize) -> Line
+    ensures { InRoom line.at result.at }
+{
     match rule {
         1 => say(line, b"its address is odd"),
         2 => say(line, b"its address is below 16"),
@@ -20,7 +23,9 @@ fn say_check_rule(line: Line, rule: usize) -> Line {
     }
 }
 
-fn say_signal_rule(line: Line, rule: usize) -> Line {
+fn say_signal_rule(line: Line, rule: usize) -> Line
+    ensures { InRoom line.at result.at }
+{
     match rule {
         1 => say(line, b"width not 1-64"),
         2 => say(line, b"type not 0-2"),
@@ -41,7 +46,9 @@ fn say_signal_rule(line: Line, rule: usize) -> Line {
     }
 }
 
-fn say_code_rule(line: Line, rule: usize) -> Line {
+fn say_code_rule(line: Line, rule: usize) -> Line
+    ensures { InRoom line.at result.at }
+{
     match rule {
         1 => say(line, b"no such signal"),
         2 => say(line, b"its signal is wider than 16 bits"),
@@ -55,7 +62,9 @@ fn say_code_rule(line: Line, rule: usize) -> Line {
     }
 }
 
-fn say_route_rule(line: Line, rule: usize) -> Line {
+fn say_route_rule(line: Line, rule: usize) -> Line
+    ensures { InRoom line.at result.at }
+{
     match rule {
         1 => say(line, b"no such signal"),
         2 => say(line, b"vehicle not 1-63"),
@@ -65,7 +74,9 @@ fn say_route_rule(line: Line, rule: usize) -> Line {
     }
 }
 
-fn say_rule(line: Line, section: usize, rule: usize) -> Line {
+fn say_rule(line: Line, section: usize, rule: usize) -> Line
+    ensures { InRoom line.at result.at }
+{
     match section {
         1 => say_check_rule(line, rule),
         2 => say_signal_rule(line, rule),
@@ -74,14 +85,18 @@ fn say_rule(line: Line, section: usize, rule: usize) -> Line {
     }
 }
 
-fn say_allowed_types(line: Line, profile: Profile) -> Line {
+fn say_allowed_types(line: Line, profile: Profile) -> Line
+    ensures { InRoom line.at result.at }
+{
     match profile {
         Profile::PlainCoach => say(line, b"type not 0"),
         Profile::DrivingTrailer => say(line, b"type not 0 or 1"),
     }
 }
 
-fn say_profile_signal_rule(line: Line, profile: Profile, rule: usize) -> Line {
+fn say_profile_signal_rule(line: Line, profile: Profile, rule: usize) -> Line
+    ensures { InRoom line.at result.at }
+{
     match rule {
         1 => say_allowed_types(line, profile),
         2 => say(line, b"more than 64 signals"),
@@ -96,7 +111,9 @@ fn say_profile_signal_rule(line: Line, profile: Profile, rule: usize) -> Line {
 }
 
 // No check and no code entry breaks a profile.
-fn say_profile_rule(line: Line, profile: Profile, section: usize, rule: usize) -> Line {
+fn say_profile_rule(line: Line, profile: Profile, section: usize, rule: usize) -> Line
+    ensures { InRoom line.at result.at }
+{
     match section {
         2 => say_profile_signal_rule(line, profile, rule),
         _ => say(line, b"it ends past bit 128"),
@@ -104,7 +121,9 @@ fn say_profile_rule(line: Line, profile: Profile, section: usize, rule: usize) -
 }
 
 // The entry's number: checks count from 1, as a signal names them, all others from 0.
-fn say_entry(line: Line, f: Fault) -> Line {
+fn say_entry(line: Line, f: Fault) -> Line
+    ensures { InRoom line.at result.at }
+{
     let n = f.index as u64;
     match f.section {
         1 => say_number(say(line, b"check "), n.wrapping_add(1)),
@@ -120,7 +139,9 @@ fn say_entry(line: Line, f: Fault) -> Line {
     }
 }
 
-fn say_type(line: Line, kind: usize) -> Line {
+fn say_type(line: Line, kind: usize) -> Line
+    ensures { InRoom line.at result.at }
+{
     if 2 < kind {
         return say_number(say(line, b"type "), kind as u64);
     }
@@ -147,7 +168,9 @@ fn serial_in(list: &[u8], f: Fault) -> usize {
 }
 
 // Where the signal lies: a field of no bits, where it starts; a signal that does not exist, nowhere.
-fn say_where(line: Line, list: &[u8], form: u8, f: Fault) -> Line {
+fn say_where(line: Line, list: &[u8], form: u8, f: Fault) -> Line
+    ensures { InRoom line.at result.at }
+{
     if f.section == 1 {
         return say_field(say(line, b", "), f.start, f.width);
     }
@@ -163,17 +186,23 @@ fn say_where(line: Line, list: &[u8], form: u8, f: Fault) -> Line {
 }
 
 // The entry at fault, up to what its rule says: `rule` tells the paper's numbers from a profile's.
-fn say_broken(line: Line, list: &[u8], form: u8, f: Fault, rule: &[u8]) -> Line {
+fn say_broken(line: Line, list: &[u8], form: u8, f: Fault, rule: &[u8]) -> Line
+    ensures { InRoom line.at result.at }
+{
     let l = say_where(say_entry(say(line, b": "), f), list, form, f);
     say(say_number(say(l, rule), f.rule as u64), b": ")
 }
 
-fn say_fault(line: Line, list: &[u8], form: u8, f: Fault) -> Line {
+fn say_fault(line: Line, list: &[u8], form: u8, f: Fault) -> Line
+    ensures { InRoom line.at result.at }
+{
     let l = say_broken(line, list, form, f, b", rule ");
     say_rule(l, f.section, f.rule)
 }
 
-fn say_breach(line: Line, profile: Profile, list: &[u8], form: u8, f: Fault) -> Line {
+fn say_breach(line: Line, profile: Profile, list: &[u8], form: u8, f: Fault) -> Line
+    ensures { InRoom line.at result.at }
+{
     let l = say_broken(line, list, form, f, b", profile rule ");
     say_profile_rule(l, profile, f.section, f.rule)
 }

@@ -1,4 +1,7 @@
 // Document 01's reasons, refusals and places in words.
+ghost use Rattle.std.specs.Prelude.{◌≤◌};
+ghost use Rattle.saying.specs.Lines.{InRoom};
+
 use gateway::{Refusal, STORE};
 use saying::{Line, empty, print, put, say, say_number};
 
@@ -6,7 +9,9 @@ use saying::{Line, empty, print, put, say, say_number};
 const OLDER_STORE: usize = 8379;
 
 // A reason by its number; nothing is said of any other.
-pub fn say_reason(line: Line, reason: u8) -> Line {
+pub fn say_reason(line: Line, reason: u8) -> Line
+    ensures { InRoom line.at result.at }
+{
     match reason {
         0 => say(line, b"0 live ok"),
         1 => say(line, b"1 live forced"),
@@ -22,7 +27,9 @@ pub fn say_reason(line: Line, reason: u8) -> Line {
 }
 
 // A common signal, type 0, is called R3, as Appendix B lists it.
-pub fn say_telegram(line: Line, kind: usize) -> Line {
+pub fn say_telegram(line: Line, kind: usize) -> Line
+    ensures { InRoom line.at result.at }
+{
     match kind {
         0 | 3 => say(line, b"R3"),
         1 => say(line, b"R1"),
@@ -31,31 +38,43 @@ pub fn say_telegram(line: Line, kind: usize) -> Line {
     }
 }
 
-fn say_octet(line: Line, bit: usize) -> Line {
+fn say_octet(line: Line, bit: usize) -> Line
+    ensures { InRoom line.at result.at }
+{
     say_number(say(line, b"octet "), (bit / 8 + 1) as u64)
 }
 
-fn say_octets(line: Line, first: usize, last: usize) -> Line {
+fn say_octets(line: Line, first: usize, last: usize) -> Line
+    ensures { InRoom line.at result.at }
+{
     let l = say_number(say(line, b"octets "), (first / 8 + 1) as u64);
     say_number(put(l, b'-'), (last / 8 + 1) as u64)
 }
 
-fn say_bits(line: Line, first: usize, last: usize) -> Line {
+fn say_bits(line: Line, first: usize, last: usize) -> Line
+    ensures { InRoom line.at result.at }
+{
     let l = say_number(say(say_octet(line, first), b" bits "), (first % 8) as u64);
     say_number(put(l, b'-'), (last % 8) as u64)
 }
 
-fn say_bit(line: Line, bit: usize) -> Line {
+fn say_bit(line: Line, bit: usize) -> Line
+    ensures { InRoom line.at result.at }
+{
     say_number(say(say_octet(line, bit), b" bit "), (bit % 8) as u64)
 }
 
-fn say_span(line: Line, first: usize, last: usize) -> Line {
+fn say_span(line: Line, first: usize, last: usize) -> Line
+    ensures { InRoom line.at result.at }
+{
     let l = say_number(say(say_bit(line, first), b" to "), (last / 8 + 1) as u64);
     say_number(say(l, b" bit "), (last % 8) as u64)
 }
 
 // A field from its first bit to its last, as a person writes it.
-fn say_run(line: Line, first: usize, last: usize) -> Line {
+fn say_run(line: Line, first: usize, last: usize) -> Line
+    ensures { InRoom line.at result.at }
+{
     if first == last {
         return say_bit(line, first);
     }
@@ -69,19 +88,25 @@ fn say_run(line: Line, first: usize, last: usize) -> Line {
 }
 
 // A field by its start and width. No field of a list lies past bit 2048 or has no bit.
-pub fn say_field(line: Line, start: usize, width: usize) -> Line {
+pub fn say_field(line: Line, start: usize, width: usize) -> Line
+    ensures { InRoom line.at result.at }
+{
     if 65535 < start || 255 < width || width == 0 {
         return say(line, b"nowhere");
     }
     say_run(line, start, start + width - 1)
 }
 
-pub fn say_place(line: Line, kind: usize, start: usize, width: usize) -> Line {
+pub fn say_place(line: Line, kind: usize, start: usize, width: usize) -> Line
+    ensures { InRoom line.at result.at }
+{
     say_field(put(say_telegram(line, kind), b' '), start, width)
 }
 
 // A number below a million, its thousands set off by a comma.
-fn say_grouped(line: Line, n: u64) -> Line {
+fn say_grouped(line: Line, n: u64) -> Line
+    ensures { InRoom line.at result.at }
+{
     if n < 1000 {
         return say_number(line, n);
     }
@@ -91,7 +116,9 @@ fn say_grouped(line: Line, n: u64) -> Line {
 }
 
 // Of a step of a recording. No program here meets the others that are left.
-fn say_step_refusal(line: Line, f: Refusal) -> Line {
+fn say_step_refusal(line: Line, f: Refusal) -> Line
+    ensures { InRoom line.at result.at }
+{
     match f {
         Refusal::DataLengths => say(line, b"data areas differ in length"),
         Refusal::StepBroken => say(line, b"step does not follow on"),
@@ -101,7 +128,9 @@ fn say_step_refusal(line: Line, f: Refusal) -> Line {
 }
 
 // Of a train: its consist, an address in it, the records that describe it, and its doors.
-fn say_train_refusal(line: Line, f: Refusal) -> Line {
+fn say_train_refusal(line: Line, f: Refusal) -> Line
+    ensures { InRoom line.at result.at }
+{
     match f {
         Refusal::ConsistLength => say(line, b"consist empty or above 63"),
         Refusal::ConsistRule => say(line, b"consist rule broken"),
@@ -114,7 +143,9 @@ fn say_train_refusal(line: Line, f: Refusal) -> Line {
 }
 
 // Of telegram 8.8A, with remedy texts.
-fn say_remedy_refusal(line: Line, f: Refusal) -> Line {
+fn say_remedy_refusal(line: Line, f: Refusal) -> Line
+    ensures { InRoom line.at result.at }
+{
     match f {
         Refusal::ELength => say(line, b"E-telegram length"),
         Refusal::BlockPast => say(line, b"block runs past the end, or octets after the last"),
@@ -125,7 +156,9 @@ fn say_remedy_refusal(line: Line, f: Refusal) -> Line {
 }
 
 // Of what is written: data, a telegram, a list in the other form, or a list under a profile.
-fn say_written_refusal(line: Line, f: Refusal) -> Line {
+fn say_written_refusal(line: Line, f: Refusal) -> Line
+    ensures { InRoom line.at result.at }
+{
     match f {
         Refusal::NoSuchSignal => say(line, b"no such signal"),
         Refusal::DataShort => say(line, b"data shorter than a route's end"),
@@ -144,7 +177,9 @@ fn say_written_refusal(line: Line, f: Refusal) -> Line {
 }
 
 // Of a list, or of a telegram that is taken into a store.
-fn say_refusal(line: Line, f: Refusal) -> Line {
+fn say_refusal(line: Line, f: Refusal) -> Line
+    ensures { InRoom line.at result.at }
+{
     match f {
         Refusal::ListEnds(_) => say(line, b"list ends inside a count or a section"),
         Refusal::CountAbove(_) => say(line, b"count above its limit"),
@@ -164,7 +199,9 @@ fn say_refusal(line: Line, f: Refusal) -> Line {
 }
 
 // What a refusal carries: an offset, or a signal.
-fn say_carried(line: Line, f: Refusal) -> Line {
+fn say_carried(line: Line, f: Refusal) -> Line
+    ensures { InRoom line.at result.at }
+{
     match f {
         Refusal::ListEnds(at)
         | Refusal::CountAbove(at)
@@ -177,13 +214,17 @@ fn say_carried(line: Line, f: Refusal) -> Line {
 }
 
 // `of` says which file of several was refused.
-pub fn say_refused(f: Refusal, of: &[u8]) -> Line {
+pub fn say_refused(f: Refusal, of: &[u8]) -> Line
+    ensures { result.at ≤ 240 }
+{
     let l = say_number(say(empty(), b"refused "), f.number() as u64);
     say_refusal(say(say(say_carried(l, f), of), b": "), f)
 }
 
 // The same of a call that is given a store of so many octets, with what can be said of one of the older layout.
-fn say_refused_store_of(f: Refusal, octets: usize, of: &[u8]) -> Line {
+fn say_refused_store_of(f: Refusal, octets: usize, of: &[u8]) -> Line
+    ensures { result.at ≤ 240 }
+{
     let l = say_refused(f, of);
     if f == Refusal::StoreLength && octets == OLDER_STORE {
         return say(
@@ -194,7 +235,9 @@ fn say_refused_store_of(f: Refusal, octets: usize, of: &[u8]) -> Line {
     l
 }
 
-pub fn say_refused_store(f: Refusal, octets: usize) -> Line {
+pub fn say_refused_store(f: Refusal, octets: usize) -> Line
+    ensures { result.at ≤ 240 }
+{
     say_refused_store_of(f, octets, b"")
 }
 

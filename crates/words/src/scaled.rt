@@ -1,5 +1,6 @@
 // A reading in its unit, in exact decimals: each scale is a whole number of 4096ths to a step.
 ghost use Rattle.std.specs.Prelude.{◌<◌};
+ghost use Rattle.saying.specs.Lines.{InRoom};
 
 use crate::kinds::kind_of;
 use gateway::{Kind, Shown, Signal};
@@ -48,6 +49,7 @@ fn parts_of(x: f32) -> u64 {
 // The next decimal of what is left, in 4096ths; none where nothing is.
 fn say_decimal(line: Line, left: u64) -> Line
     requires { left < 4096 }
+    ensures { InRoom line.at result.at }
 {
     if left == 0 {
         return line;
@@ -56,7 +58,9 @@ fn say_decimal(line: Line, left: u64) -> Line
 }
 
 // Twelve are enough, since 4096 is 2^12.
-fn say_decimals(line: Line, parts: u64) -> Line {
+fn say_decimals(line: Line, parts: u64) -> Line
+    ensures { InRoom line.at result.at }
+{
     let mut l = line;
     let mut left = parts % 4096;
     for _ in 0..12 {
@@ -66,7 +70,9 @@ fn say_decimals(line: Line, parts: u64) -> Line {
     l
 }
 
-fn say_parts(line: Line, parts: u64) -> Line {
+fn say_parts(line: Line, parts: u64) -> Line
+    ensures { InRoom line.at result.at }
+{
     let l = say_number(line, parts / 4096);
     if parts % 4096 == 0 {
         return l;
@@ -74,7 +80,9 @@ fn say_parts(line: Line, parts: u64) -> Line {
     say_decimals(put(l, b'.'), parts)
 }
 
-fn say_float(line: Line, x: f32) -> Line {
+fn say_float(line: Line, x: f32) -> Line
+    ensures { InRoom line.at result.at }
+{
     if x < 0.0 {
         return say_parts(put(line, b'-'), parts_of(-x));
     }
@@ -82,14 +90,18 @@ fn say_float(line: Line, x: f32) -> Line {
 }
 
 // The value alone, and the unit alone; a dash for what has none.
-fn say_value(line: Line, shown: Shown) -> Line {
+fn say_value(line: Line, shown: Shown) -> Line
+    ensures { InRoom line.at result.at }
+{
     match shown {
         Shown::Code(_) => put(line, b'-'),
         Shown::Speed(x) | Shown::Percentage(x) | Shown::Current(x) => say_float(line, x),
     }
 }
 
-fn say_unit(line: Line, shown: Shown) -> Line {
+fn say_unit(line: Line, shown: Shown) -> Line
+    ensures { InRoom line.at result.at }
+{
     match shown {
         Shown::Code(_) => put(line, b'-'),
         Shown::Speed(_) => say(line, b"km/h"),
@@ -99,7 +111,9 @@ fn say_unit(line: Line, shown: Shown) -> Line {
 }
 
 // As `160 km/h`.
-fn say_scaled(line: Line, shown: Shown) -> Line {
+fn say_scaled(line: Line, shown: Shown) -> Line
+    ensures { InRoom line.at result.at }
+{
     let l = say_value(line, shown);
     if is_scaled(shown) {
         return say_unit(put(l, b' '), shown);
@@ -108,7 +122,9 @@ fn say_scaled(line: Line, shown: Shown) -> Line {
 }
 
 // Behind a line, in parentheses; nothing where there is no unit.
-pub fn say_shown(line: Line, shown: Shown) -> Line {
+pub fn say_shown(line: Line, shown: Shown) -> Line
+    ensures { InRoom line.at result.at }
+{
     if is_scaled(shown) {
         return put(say_scaled(say(line, b" ("), shown), b')');
     }
@@ -116,7 +132,9 @@ pub fn say_shown(line: Line, shown: Shown) -> Line {
 }
 
 // The same of two lists' readings of a signal, where either has a unit.
-pub fn say_both_shown(line: Line, a: Shown, b: Shown) -> Line {
+pub fn say_both_shown(line: Line, a: Shown, b: Shown) -> Line
+    ensures { InRoom line.at result.at }
+{
     if is_scaled(a) || is_scaled(b) {
         let l = say_scaled(say(line, b" ("), a);
         return put(say_scaled(say(l, b" | "), b), b')');
@@ -124,21 +142,29 @@ pub fn say_both_shown(line: Line, a: Shown, b: Shown) -> Line {
     line
 }
 
-fn say_value_tab(line: Line, shown: Shown) -> Line {
+fn say_value_tab(line: Line, shown: Shown) -> Line
+    ensures { InRoom line.at result.at }
+{
     say_value(put(line, b'\t'), shown)
 }
 
-fn say_unit_tab(line: Line, shown: Shown) -> Line {
+fn say_unit_tab(line: Line, shown: Shown) -> Line
+    ensures { InRoom line.at result.at }
+{
     say_unit(put(line, b'\t'), shown)
 }
 
 // Value and unit as the next columns of a table.
-pub fn say_shown_tabs(line: Line, shown: Shown) -> Line {
+pub fn say_shown_tabs(line: Line, shown: Shown) -> Line
+    ensures { InRoom line.at result.at }
+{
     say_unit_tab(say_value_tab(line, shown), shown)
 }
 
 // Both values, and the unit, which is one.
-pub fn say_both_shown_tabs(line: Line, a: Shown, b: Shown) -> Line {
+pub fn say_both_shown_tabs(line: Line, a: Shown, b: Shown) -> Line
+    ensures { InRoom line.at result.at }
+{
     let l = say_value_tab(say_value_tab(line, a), b);
     say_unit_tab(l, if is_scaled(a) { a } else { b })
 }

@@ -1,4 +1,6 @@
 // The serial numbers of Appendix A that a list in form 2 has beside its signals, in words; packed and printed as `paper/specs/Serials.antt` says.
+ghost use Rattle.saying.specs.Lines.{InRoom};
+
 use crate::said::say_place;
 use gateway::{FORM_1, FORM_2, Signal};
 use saying::{Line, put, say, say_number};
@@ -17,7 +19,9 @@ pub fn serial_at(list: &[u8], form: u8, signal: usize) -> usize {
 }
 
 // Behind the number.
-fn say_letter(line: Line, letters: usize) -> Line {
+fn say_letter(line: Line, letters: usize) -> Line
+    ensures { InRoom line.at result.at }
+{
     match letters {
         1 | 3 | 4 => put(line, b'R'),
         2 => put(line, b'M'),
@@ -27,7 +31,9 @@ fn say_letter(line: Line, letters: usize) -> Line {
     }
 }
 
-fn say_variant(line: Line, letters: usize, variant: usize) -> Line {
+fn say_variant(line: Line, letters: usize, variant: usize) -> Line
+    ensures { InRoom line.at result.at }
+{
     let l = if variant == 0 {
         line
     } else {
@@ -40,18 +46,24 @@ fn say_variant(line: Line, letters: usize, variant: usize) -> Line {
     }
 }
 
-fn put_hex(line: Line, n: usize) -> Line {
+fn put_hex(line: Line, n: usize) -> Line
+    ensures { InRoom line.at result.at }
+{
     let digits = b"0123456789ABCDEF";
     put(line, digits[n % 16])
 }
 
-fn say_hex(line: Line, n: usize) -> Line {
+fn say_hex(line: Line, n: usize) -> Line
+    ensures { InRoom line.at result.at }
+{
     let l = put_hex(put_hex(say(line, b"0x"), n / 4096), n / 256);
     put_hex(put_hex(l, n / 16), n)
 }
 
 // As Appendix A prints it, `4.2R/1e`; 16 bits that are packed for no number, in hexadecimal digits.
-pub fn say_serial(line: Line, serial: usize) -> Line {
+pub fn say_serial(line: Line, serial: usize) -> Line
+    ensures { InRoom line.at result.at }
+{
     if serial == 0 {
         return say(line, b"no serial number");
     }
@@ -66,7 +78,9 @@ pub fn say_serial(line: Line, serial: usize) -> Line {
 }
 
 // Behind the place of a signal: in parentheses in form 2, and nothing in form 1.
-pub fn say_beside(line: Line, form: u8, serial: usize) -> Line {
+pub fn say_beside(line: Line, form: u8, serial: usize) -> Line
+    ensures { InRoom line.at result.at }
+{
     if form != FORM_2 {
         return line;
     }
@@ -74,12 +88,16 @@ pub fn say_beside(line: Line, form: u8, serial: usize) -> Line {
 }
 
 // The place of a signal, with its serial number in form 2.
-pub fn say_signal(line: Line, form: u8, s: Signal, serial: usize) -> Line {
+pub fn say_signal(line: Line, form: u8, s: Signal, serial: usize) -> Line
+    ensures { InRoom line.at result.at }
+{
     say_beside(say_place(line, s.kind, s.start, s.width), form, serial)
 }
 
 // The same of a signal that two lists may have, by the serial numbers of those in form 2; one that both have, once.
-pub fn say_both_beside(line: Line, first: Option<usize>, second: Option<usize>) -> Line {
+pub fn say_both_beside(line: Line, first: Option<usize>, second: Option<usize>) -> Line
+    ensures { InRoom line.at result.at }
+{
     match (first, second) {
         (Some(x), Some(y)) if x != y => {
             let l = say_serial(say(line, b" ("), x);
@@ -91,7 +109,9 @@ pub fn say_both_beside(line: Line, first: Option<usize>, second: Option<usize>) 
 }
 
 // The serial number as the next column of a table in form 2, a dash where there is none.
-pub fn say_serial_tab(line: Line, form: u8, serial: usize) -> Line {
+pub fn say_serial_tab(line: Line, form: u8, serial: usize) -> Line
+    ensures { InRoom line.at result.at }
+{
     if form != FORM_2 {
         return line;
     }
@@ -103,7 +123,9 @@ pub fn say_serial_tab(line: Line, form: u8, serial: usize) -> Line {
 }
 
 // That column's name.
-pub fn say_serial_name(line: Line, form: u8, name: &[u8]) -> Line {
+pub fn say_serial_name(line: Line, form: u8, name: &[u8]) -> Line
+    ensures { InRoom line.at result.at }
+{
     if form != FORM_2 {
         return line;
     }

@@ -1,5 +1,6 @@
 // Some of the vehicles, in a line.
 ghost use Rattle.std.specs.Prelude.{◌<◌, ◌≤◌};
+ghost use Rattle.saying.specs.Lines.{InRoom};
 
 use gateway::VEHICLES;
 use saying::{Line, put, say_number};
@@ -30,6 +31,7 @@ pub fn with_vehicle(vehicles: Vehicles, vehicle: usize) -> Vehicles {
 // One vehicle of a line of ranges: where a range begins, its number, where a longer one ends, the dash and its number.
 fn say_vehicle(line: Line, vehicles: Vehicles, vehicle: usize) -> Line
     requires { (1 ≤ vehicle) × (vehicle < 64) }
+    ensures { InRoom line.at result.at }
 {
     if !vehicles.of[vehicle] {
         return line;
@@ -44,7 +46,9 @@ fn say_vehicle(line: Line, vehicles: Vehicles, vehicle: usize) -> Line
 }
 
 // As ` 1-3 7`.
-pub fn say_vehicles(line: Line, vehicles: Vehicles) -> Line {
+pub fn say_vehicles(line: Line, vehicles: Vehicles) -> Line
+    ensures { InRoom line.at result.at }
+{
     let mut l = line;
     for v in 1..=VEHICLES {
         l = say_vehicle(l, vehicles, v);

@@ -1,4 +1,6 @@
 // The lines of a text file: `head`, `carried`, `language`, `ordered`, and a text behind its key.
+ghost use Rattle.saying.specs.Lines.{InRoom};
+
 use saying::{Line, parted, word, word_count};
 use std::rt::Env;
 
@@ -41,7 +43,9 @@ fn nothing() -> Given {
     }
 }
 
-fn say_fault(line: Line, fault: Fault) -> Line {
+fn say_fault(line: Line, fault: Fault) -> Line
+    ensures { InRoom line.at result.at }
+{
     match fault {
         Fault::Name => saying::say(
             line,

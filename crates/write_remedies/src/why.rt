@@ -1,4 +1,6 @@
 // Which text a telegram is refused for.
+ghost use Rattle.saying.specs.Lines.{InRoom};
+
 use gateway::Refusal;
 use saying::{Line, say};
 
@@ -7,7 +9,9 @@ fn octet(s: &[u8], k: usize) -> u8 {
     s.get(k).copied().unwrap_or(0)
 }
 
-fn say_key(line: Line, keys: &[u8], k: usize) -> Line {
+fn say_key(line: Line, keys: &[u8], k: usize) -> Line
+    ensures { InRoom line.at result.at }
+{
     saying::say_number(say(line, b": F"), octet(keys, k) as u64)
 }
 
@@ -27,7 +31,9 @@ fn first_long(lengths: &[u16]) -> usize {
     lengths.iter().position(|&size| 254 < size).unwrap_or(n)
 }
 
-fn say_field(line: Line, keys: &[u8], lengths: &[u16]) -> Line {
+fn say_field(line: Line, keys: &[u8], lengths: &[u16]) -> Line
+    ensures { InRoom line.at result.at }
+{
     match keys.len() {
         0 => say(line, b": no text"),
         1..=8 => say(
@@ -39,7 +45,9 @@ fn say_field(line: Line, keys: &[u8], lengths: &[u16]) -> Line {
 }
 
 // The first text that is at fault decides the number, so that what is looked for is the first of its kind.
-pub fn say_more(line: Line, f: Refusal, keys: &[u8], lengths: &[u16]) -> Line {
+pub fn say_more(line: Line, f: Refusal, keys: &[u8], lengths: &[u16]) -> Line
+    ensures { InRoom line.at result.at }
+{
     match f {
         Refusal::KeyTwice => say_key(line, keys, first_again(keys)),
         Refusal::RemedyField => say_field(line, keys, lengths),

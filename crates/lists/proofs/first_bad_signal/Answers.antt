@@ -36,7 +36,7 @@ loop-kind-smaller c = omega (arith, below _ _ _ (check_at c.args.list.now) c.che
 pub loop-kind-preserved : goal.loop-kind-preserved
 loop-kind-preserved c =
     behind_more c.loop-kind.invariant (below _ _ _ (check_at c.args.list.now) c.check_before.ensures c.loop-kind-test.true)
-    (rw c.check_at.ensures.is at c.if-s-check_at.false)
+    (omega (arith, c.check_at.ensures.is, c.if-s-check_at.false))
 
 pub loop-k-preserved : goal.loop-k-preserved
 loop-k-preserved c =
@@ -44,7 +44,7 @@ loop-k-preserved c =
     record {
       passed = passed_more i.passed c.loop-k-test.true
           (own_passes _ _ _ _ c.common_checks-common.ensures i.type i.end c.get-s.ensures.is c.signal_own.ensures (ap not c.if-not-signal_own.false)
-          (shares_none _ _ (signal_of c.get-s.result) _ c.requires.checks_in_bounds.1 c.loop-kind.invariant (sym c.check_before.ensures ∙ c.loop-kind-test.false))) refl;
+          (shares_none _ _ (signal_of c.get-s.result) _ c.requires.1 c.loop-kind.invariant (sym c.check_before.ensures ∙ c.loop-kind-test.false))) refl;
       type = before_next _ (ap (λ (x : Signal). x.type) c.get-s.ensures.is);
       end = before_next _ (ap field_end c.get-s.ensures.is);
       behind = behind_later c.loop-kind.invariant _ (omega arith);

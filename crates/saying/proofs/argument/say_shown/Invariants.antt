@@ -1,0 +1,6 @@
+-- `saying::argument::say_shown` meets its contract: the line stays within its room at each turn. Assumes nothing.
+use Rattle.saying.specs.Lines.{InRoom}
+use Rattle.saying.proofs.argument.say_shown.Given as goal
+
+abbrev pub invariant-loop-octet : goal.invariant-loop-octet
+invariant-loop-octet l = InRoom l.fn.line.at l.l.at
